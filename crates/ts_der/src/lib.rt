@@ -1,0 +1,7 @@
+//! Distinguished Encoding Rules (X.690) read and written exactly: no memory, no copy, one spelling for
+//! each value, and of octets that are none the first fault with its offset.
+#![tactic(auto)]
+
+mod fault;
+
+pub use fault::{DerFault, Fault};
