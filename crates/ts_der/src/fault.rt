@@ -1,5 +1,8 @@
 //! What is wrong with octets that are not DER, and where.
 
+ghost use Rattle.std.specs.Prelude.{◌≡◌};
+ghost use Rattle.ts_der.specs.Reading.{located as located_at};
+
 use std::fmt;
 
 /// The rule that octets break. `as u8` gives the code that is sent and stored.
@@ -73,4 +76,14 @@ pub struct Fault {
     /// The offset in the input of the element that breaks the rule, in octets; of `Trailing`, that of the first
     /// octet left over.
     pub at: usize,
+}
+
+/// What a check of an element's value answered, as an answer about the input: a fault gets the element's place.
+pub fn located<T>(value: Result<T, DerFault>, at: usize) -> Result<T, Fault>
+    ensures { result ≡ located_at at value }
+{
+    match value {
+        Ok(x) => Ok(x),
+        Err(kind) => Err(Fault { kind, at }),
+    }
 }

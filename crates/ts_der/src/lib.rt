@@ -3,5 +3,8 @@
 #![tactic(auto)]
 
 mod fault;
+mod header;
+mod reader;
 
-pub use fault::{DerFault, Fault};
+pub use fault::{DerFault, Fault, located};
+pub use reader::{Element, Reader};

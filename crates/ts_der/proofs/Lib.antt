@@ -1,0 +1,6 @@
+pub mod Numbers
+pub mod OctetLists
+pub mod Headers
+pub mod Lengths
+pub mod Elements
+pub mod Laws

@@ -1,0 +1,78 @@
+//! The identifier and length octets of an element (X.690 8.1.2, 8.1.3).
+
+ghost use Rattle.std.specs.Prelude.{◌≡◌, ℕ, ◌+◌, ◌<◌, ◌≤◌, length, IfOk};
+ghost use Rattle.ts_der.specs.Answer.{refusal};
+ghost use Rattle.ts_der.specs.Rules.{first_broken};
+ghost use Rattle.ts_der.specs.Element.{number};
+ghost use Rattle.ts_der.specs.Header.{header_rules, tag_of, header_size, length_of};
+
+use crate::fault::DerFault;
+
+/// The tag, how many octets the header has, and how many the content.
+#[derive(Clone, Copy)]
+pub struct Header {
+    pub tag: u8,
+    pub size: usize,
+    pub length: usize,
+}
+
+/// The number that one to four octets are, the most significant first.
+fn number_of(octets: &[u8]) -> usize
+    requires { length octets.now ≤ 4 }
+    ensures { result ≡ number octets.now }
+{
+    match octets {
+        [] => 0,
+        [a] => *a as usize,
+        [a, b] => *a as usize * 0x100 + *b as usize,
+        [a, b, c] => (*a as usize * 0x100 + *b as usize) * 0x100 + *c as usize,
+        [a, b, c, d, ..] => {
+            ((*a as usize * 0x100 + *b as usize) * 0x100 + *c as usize) * 0x100 + *d as usize
+        }
+    }
+}
+
+/// The header that octets begin with.
+#[tactic(auto, unfolding(crate::specs::Header::header_rules, crate::specs::Header::length_of))]
+pub fn read_header(rest: &[u8]) -> Result<Header, DerFault>
+    ensures fault { refusal result ≡ first_broken header_rules rest.now }
+    ensures tag { IfOk result (λ h. h.tag ≡ tag_of rest.now) }
+    ensures size { IfOk result (λ h. h.size ≡ header_size rest.now) }
+    ensures length { IfOk result (λ h. h.length ≡ length_of rest.now) }
+    ensures whole { IfOk result (λ h. h.size + h.length ≤ length rest.now) }
+{
+    let [tag, after @ ..] = rest else {
+        return Err(DerFault::Truncated);
+    };
+    if *tag & 0x1f == 0x1f {
+        return Err(DerFault::HighTag);
+    }
+    let [form, more @ ..] = after else {
+        return Err(DerFault::Truncated);
+    };
+    if *form < 0x80 {
+        if more.len() < *form as usize {
+            return Err(DerFault::Truncated);
+        }
+        return Ok(Header { tag: *tag, size: 2, length: *form as usize });
+    }
+    if *form == 0x80 {
+        return Err(DerFault::Indefinite);
+    }
+    if *form > 0x84 {
+        return Err(DerFault::TooLarge);
+    }
+    let count = *form as usize - 0x80;
+    if more.len() < count {
+        return Err(DerFault::Truncated);
+    }
+    let (digits, content) = more.split_at(count);
+    let length = number_of(digits);
+    if digits[0] == 0 || length < 0x80 {
+        return Err(DerFault::LongLength);
+    }
+    if content.len() < length {
+        return Err(DerFault::Truncated);
+    }
+    Ok(Header { tag: *tag, size: 2 + count, length })
+}

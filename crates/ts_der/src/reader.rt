@@ -1,0 +1,221 @@
+//! Elements one after another, front to back.
+
+ghost use Rattle.std.specs.Prelude.{◌≡◌, ◌≢◌, ℕ, ◌+◌, ◌<◌, ◌^◌, List, [], ◌++◌, length, ◌==◌, if◌then◌else◌, is_some, option_map, IfOk, IfErr, OnErr, IsOk, IsOkAnd, ◌↔◌, None};
+ghost use Rattle.ts_der.specs.Octets.{AreOctets};
+
+use crate::fault::{DerFault, Fault, located};
+use crate::header::read_header;
+use std::marker::Model;
+
+/// An element of an input: one tag, its content, and where both stand. It lends the input's octets.
+#[derive(Clone, Copy)]
+pub struct Element<'a> {
+    /// The identifier octet (X.690 8.1.2).
+    pub tag: u8,
+    /// The contents octets (X.690 8.1.4).
+    pub content: &'a [u8],
+    /// The whole element: identifier, length and contents octets.
+    pub whole: &'a [u8],
+    /// The offset in the input of the identifier octet.
+    pub at: usize,
+    /// The offset in the input of the first contents octet.
+    pub start: usize,
+    ghost octets: { AreOctets content.now },
+    ghost within: { start + length content.now < 2 ^ 64 },
+}
+
+/// A cursor over octets, which hands out their elements from front to back. Contracts see it as what is left and
+/// the offset of that.
+#[derive(Drop)]
+pub struct Reader<'a> {
+    rest: &'a [u8],
+    at: usize,
+}
+
+impl<'a> Model for Reader<'a> {
+    ghost use Rattle.ts_der.specs.Element.{Place};
+
+    ghost Value = { Place };
+
+    ghost use Rattle.std.specs.Prelude.{◌+◌, ◌<◌, ◌^◌, length};
+    ghost use Rattle.ts_der.specs.Octets.{AreOctets};
+
+    ghost view = { λ r. record { rest = r.rest.now; at = r.at } };
+
+    ghost invariant = { λ r. AreOctets r.rest.now × (r.at + length r.rest.now < 2 ^ 64) };
+}
+
+impl<'a> Reader<'a> {
+    ghost use Rattle.ts_der.specs.Answer.{Answers, refusal};
+    ghost use Rattle.ts_der.specs.Rules.{first_broken};
+    ghost use Rattle.ts_der.specs.Element.{Fits, spell, spelled_at, StandsAt};
+    ghost use Rattle.ts_der.specs.Header.{header_rules, rules_for};
+    ghost use Rattle.ts_der.specs.Reading.{fault_at, begins_with, next_at, element_at, content_at, optional_at, end_at};
+    ghost use Rattle.ts_der.specs.View.{now, Gives, StandsIfAny};
+
+    /// A reader of a whole input, at its first octet.
+    pub fn new(octets: &'a [u8]) -> Reader<'a>
+        ensures { result ≡ record { rest = octets.now; at = 0 } }
+    {
+        Reader {
+            rest: octets,
+            at: 0,
+        }
+    }
+
+    /// Whether no octet is left.
+    pub fn is_at_end(&self) -> bool
+        ensures { result ≡ (length self.now.rest == 0) }
+    {
+        self.rest.is_empty()
+    }
+
+    /// The next element, whatever its tag. At a fault, which is that of the first rule of a header that is broken
+    /// (X.690 8.1.2, 8.1.3, 10.1), the reader has not moved.
+    pub fn next(&mut self) -> Result<Element<'a>, Fault>
+        // What is read stands here, and the reader is behind it.
+        ensures found { IfOk result (λ e. StandsAt self.old (now e) self.new) }
+        // What stands here is read.
+        ensures only { (tag : ℕ) (content more : List ℕ) → Fits tag content → self.old.rest ≡ spell tag content ++ more
+            → IsOkAnd result (λ e. now e ≡ spelled_at self.old.at tag content) }
+        ensures fault { refusal result ≡ option_map (fault_at self.old.at) (first_broken header_rules self.old.rest) }
+        ensures unmoved { OnErr result (self.new ≡ self.old) }
+        ensures exact { Gives now self.old self.new result (next_at self.old) }
+    {
+        self.take()
+    }
+
+    /// The next element, which has this tag. At a fault, which is that of the first rule that is broken, `WrongTag`
+    /// being the last, the reader has not moved.
+    pub fn element(&mut self, tag: u8) -> Result<Element<'a>, Fault>
+        ensures found { IfOk result (λ e. StandsAt self.old (now e) self.new × (e.tag ≡ tag)) }
+        ensures only { (content more : List ℕ) → Fits tag content → self.old.rest ≡ spell tag content ++ more
+            → IsOkAnd result (λ e. now e ≡ spelled_at self.old.at tag content) }
+        ensures fault { refusal result ≡ option_map (fault_at self.old.at) (first_broken (rules_for tag) self.old.rest) }
+        ensures unmoved { OnErr result (self.new ≡ self.old) }
+        ensures exact { Gives now self.old self.new result (element_at tag self.old) }
+    {
+        self.take_tag(tag)
+    }
+
+    /// The content of the next element, which has this tag, as `element` reads it.
+    #[tactic(auto, unfolding(crate::specs::Reading::content_at))]
+    pub fn expect(&mut self, tag: u8) -> Result<&'a [u8], Fault>
+        ensures exact { Gives (λ c. c.now) self.old self.new result (content_at tag self.old) }
+    {
+        Ok(self.take_tag(tag)?.content)
+    }
+
+    /// The next element as `element` reads it, if the next octet is this tag; else nothing, and the reader stays.
+    pub fn optional(&mut self, tag: u8) -> Result<Option<Element<'a>>, Fault>
+        ensures found { IfOk result (λ e. StandsIfAny self.old (option_map now e) tag self.new) }
+        ensures only { IfOk result (λ e. is_some (option_map now e) ≡ begins_with tag self.old.rest) }
+        ensures fault { refusal result ≡ (if begins_with tag self.old.rest
+            then option_map (fault_at self.old.at) (first_broken (rules_for tag) self.old.rest) else None) }
+        ensures unmoved { OnErr result (self.new ≡ self.old) }
+        ensures exact { Gives (option_map now) self.old self.new result (optional_at tag self.old) }
+    {
+        self.take_optional(tag)
+    }
+
+    /// Nothing is left; else `Trailing`, at the first octet that is.
+    #[tactic(auto, unfolding(crate::specs::Reading::end_at))]
+    pub fn end(&self) -> Result<(), Fault>
+        ensures ok { IsOk result ↔ (self.now.rest ≡ []) }
+        ensures fault { IfErr result (λ f. f ≡ fault_at self.now.at DerFault.Trailing) }
+        ensures exact { Answers (λ _. tt) result (end_at self.now) }
+    {
+        if self.rest.is_empty() {
+            Ok(())
+        } else {
+            Err(Fault {
+                kind: DerFault::Trailing,
+                at: self.at,
+            })
+        }
+    }
+
+    /// The element at the front, and a reader of what is behind it.
+    #[tactic(auto, unfolding(crate::specs::Reading::next_at, crate::specs::Reading::element_of, crate::specs::Reading::behind))]
+    fn split(&self) -> Result<(Element<'a>, Reader<'a>), Fault>
+        ensures octets { AreOctets self.now.rest }
+        ensures exact { Answers (λ x. (now x.0, x.1)) result (next_at self.now) }
+    {
+        let header = located(read_header(self.rest), self.at)?;
+        let whole = &self.rest[..header.size + header.length];
+        let (_, body) = self.rest.split_at(header.size);
+        let (content, rest) = body.split_at(header.length);
+        let start = self.at + header.size;
+        let element = Element {
+            tag: header.tag,
+            content,
+            whole,
+            at: self.at,
+            start,
+        };
+        let after = Reader {
+            rest,
+            at: start + header.length,
+        };
+        Ok((element, after))
+    }
+
+    fn take(&mut self) -> Result<Element<'a>, Fault>
+        ensures octets { AreOctets self.old.rest }
+        ensures exact { Gives now self.old self.new result (next_at self.old) }
+    {
+        let (element, after) = self.split()?;
+        *self = after;
+        Ok(element)
+    }
+
+    #[tactic(auto, unfolding(crate::specs::Reading::element_at))]
+    fn take_tag(&mut self, tag: u8) -> Result<Element<'a>, Fault>
+        ensures octets { AreOctets self.old.rest }
+        ensures exact { Gives now self.old self.new result (element_at tag self.old) }
+    {
+        let (element, after) = self.split()?;
+        if element.tag != tag {
+            return Err(Fault {
+                kind: DerFault::WrongTag,
+                at: element.at,
+            });
+        }
+        *self = after;
+        Ok(element)
+    }
+
+    #[tactic(auto, unfolding(crate::specs::Reading::optional_at))]
+    fn take_optional(&mut self, tag: u8) -> Result<Option<Element<'a>>, Fault>
+        ensures octets { AreOctets self.old.rest }
+        ensures exact { Gives (option_map now) self.old self.new result (optional_at tag self.old) }
+    {
+        match self.rest {
+            [first, ..] if *first == tag => Ok(Some(self.take_tag(tag)?)),
+            _ => Ok(None),
+        }
+    }
+}
+
+impl<'a> Element<'a> {
+    ghost use Rattle.ts_der.specs.Element.{inside};
+    ghost use Rattle.ts_der.specs.Reading.{located as located_at};
+    ghost use Rattle.ts_der.specs.View.{now};
+
+    /// A reader of the elements within this one's content. Its offsets are those of the whole input.
+    pub fn reader(self) -> Reader<'a>
+        ensures { result ≡ inside (now self.entry) }
+    {
+        Reader {
+            rest: self.content,
+            at: self.start,
+        }
+    }
+
+    /// What a check of this element's content answered, as an answer about the input: a fault is at this element.
+    pub fn located<T>(self, value: Result<T, DerFault>) -> Result<T, Fault>
+        ensures { result ≡ located_at self.entry.at value }
+    {
+        located(value, self.at)
+    }
+}
