@@ -10,7 +10,7 @@ use Rattle.ts_der.specs.Answer.{◌>>=◌, refusal}
 use Rattle.ts_der.specs.Rules.{Rule, rule, first_broken}
 use Rattle.ts_der.specs.Element.{length_octets, spell, Fits, Place, Tlv, StandsAt, spelled_at}
 use Rattle.ts_der.specs.Header.{tag_of, header_rules, rules_for}
-use Rattle.ts_der.specs.Reading.{unless, fault_at, element_of, behind, begins_with, next_at, element_at, content_at, optional_at}
+use Rattle.ts_der.specs.Reading.{unless, located, fault_at, element_of, behind, begins_with, next_at, element_at, content_at, optional_at}
 use Rattle.ts_der.specs.View.{Gives, StandsIfAny}
 use Rattle.ts_der.proofs.Elements.{next-found, next-again}
 
@@ -39,6 +39,11 @@ IsOkAnd-from_reading {X} {Y} view old new (Ok x) reading y after g e =
     let same : (view x, new) ≡ (y, after) = ok_is {E = Fault} (view x, new) (y, after) (sym g ∙ e) in
     (ap (λ (p : Y × Place). p.0) same, ap (λ (p : Y × Place). p.1) same)
 IsOkAnd-from_reading view old new (Err d) reading y after g e = absurd cc
+
+-- what holds wherever a check succeeds holds of what is located
+pub IfOk-located : {A : Type 0} (at : ℕ) (r : Result A DerFault) (P : A → Type 0) → ((x : A) → r ≡ Ok x → P x) → IfOk (located at r) P
+IfOk-located at (Ok x) P f = f x refl
+IfOk-located at (Err k) P f = tt
 
 pub refusal-reading : {X Y : Type 0} (view : X → Y) (old new : Place) (r : Result X Fault) (reading : Result (Y × Place) Fault) → Gives view old new r reading → refusal r ≡ refusal reading
 refusal-reading view old new (Ok x) reading g = rw g refl

@@ -4,3 +4,4 @@ pub mod Headers
 pub mod Lengths
 pub mod Elements
 pub mod Laws
+pub mod Integers

@@ -4,4 +4,8 @@ pub mod Rules
 pub mod Element
 pub mod Header
 pub mod Reading
+pub mod Boolean
+pub mod Integer
+pub mod BitString
 pub mod View
+pub mod BitsView

@@ -4,7 +4,7 @@ use Rattle.ts_der.specs.declared.fault.DerFault.{DerFault}
 use Rattle.ts_der.specs.declared.fault.DerFault.TheVariants.{WrongTag, Trailing}
 use Rattle.ts_der.specs.declared.fault.Fault.{Fault}
 use Rattle.ts_der.specs.Answer.{◌>>=◌}
-use Rattle.ts_der.specs.Rules.{Rule, first_broken}
+use Rattle.ts_der.specs.Rules.{Rule, first_broken, checked}
 use Rattle.ts_der.specs.Element.{Place, Tlv}
 use Rattle.ts_der.specs.Header.{tag_of, header_size, length_of, header_rules, rules_for}
 
@@ -66,3 +66,11 @@ end_at here = at_end here.rest
     at_end : List ℕ → Result (Unit {0}) Fault
     at_end [] = Ok tt
     at_end (octet ∷ octets) = Err (fault_at here.at Trailing)
+
+-- a value of an element's content by its rules, a fault being at the element
+abbrev pub value_at : {A : Type 0} → List Rule → (List ℕ → A) → Tlv → Result A Fault
+value_at rules value e = located e.at (checked rules value e.content)
+
+-- the first rule that an element's content breaks
+abbrev pub content_fault : List Rule → Tlv → Option Fault
+content_fault rules e = option_map (fault_at e.at) (first_broken rules e.content)

@@ -17,7 +17,7 @@ pub struct Header {
 }
 
 /// The number that one to four octets are, the most significant first.
-fn number_of(octets: &[u8]) -> usize
+pub fn number_of(octets: &[u8]) -> usize
     requires { length octets.now ≤ 4 }
     ensures { result ≡ number octets.now }
 {

@@ -2,9 +2,14 @@
 //! each value, and of octets that are none the first fault with its offset.
 #![tactic(auto)]
 
+mod bits;
+mod boolean;
 mod fault;
 mod header;
+mod integer;
 mod reader;
 
+pub use bits::Bits;
 pub use fault::{DerFault, Fault, located};
+pub use integer::Integer;
 pub use reader::{Element, Reader};
