@@ -6,12 +6,13 @@ use Rattle.ts_der.specs.declared.fault.DerFault.{DerFault}
 use Rattle.ts_der.specs.declared.fault.DerFault.TheVariants.{WrongTag, Trailing}
 use Rattle.ts_der.specs.declared.fault.Fault.{Fault}
 use Rattle.ts_der.specs.Octets.{AreOctets}
-use Rattle.ts_der.specs.Answer.{◌>>=◌, refusal}
+use Rattle.ts_der.specs.Answer.{◌>>=◌, Answers, refusal}
 use Rattle.ts_der.specs.Rules.{Rule, rule, first_broken}
 use Rattle.ts_der.specs.Element.{length_octets, spell, Fits, Place, Tlv, StandsAt, spelled_at}
 use Rattle.ts_der.specs.Header.{tag_of, header_rules, rules_for}
 use Rattle.ts_der.specs.Reading.{unless, located, fault_at, element_of, behind, begins_with, next_at, element_at, content_at, optional_at}
 use Rattle.ts_der.specs.View.{Gives, StandsIfAny}
+use Rattle.ts_der.proofs.RuleLists.{first_broken-kept, first_broken-broken}
 use Rattle.ts_der.proofs.Elements.{next-found, next-again}
 
 -- ---- any reading
@@ -45,6 +46,15 @@ pub IfOk-located : {A : Type 0} (at : ℕ) (r : Result A DerFault) (P : A → Ty
 IfOk-located at (Ok x) P f = f x refl
 IfOk-located at (Err k) P f = tt
 
+-- the same of a check that is seen by view; and where it succeeds, what is located does
+pub IfOk-checked : {X Y : Type 0} (view : X → Y) (at : ℕ) (r : Result X DerFault) (check : Result Y DerFault) (P : Y → Type 0) → Answers view r check → ((y : Y) → check ≡ Ok y → P y) → IfOk (located at r) (λ x. P (view x))
+IfOk-checked view at (Ok x) check P g f = f (view x) g
+IfOk-checked view at (Err k) check P g f = tt
+
+pub IsOkAnd-checked : {X Y : Type 0} (view : X → Y) (at : ℕ) (r : Result X DerFault) (check : Result Y DerFault) (y : Y) (P : Y → Type 0) → Answers view r check → check ≡ Ok y → P y → IsOkAnd (located at r) (λ x. P (view x))
+IsOkAnd-checked view at (Ok x) check y P g e p = subst P (ok_is {E = DerFault} y (view x) (sym e ∙ g)) p
+IsOkAnd-checked view at (Err k) check y P g e p = absurd cc
+
 pub refusal-reading : {X Y : Type 0} (view : X → Y) (old new : Place) (r : Result X Fault) (reading : Result (Y × Place) Fault) → Gives view old new r reading → refusal r ≡ refusal reading
 refusal-reading view old new (Ok x) reading g = rw g refl
 refusal-reading view old new (Err d) reading g = rw g.0 refl
@@ -62,23 +72,6 @@ refusal-unless (Some k) at x = refl
 pub refusal-next : (here : Place) → refusal (next_at here) ≡ option_map (fault_at here.at) (first_broken header_rules here.rest)
 unfolding next_at
 refusal-next here = refusal-unless (first_broken header_rules here.rest) here.at (element_of here, behind here)
-
--- rules at the end count where the others are kept
-first_broken-kept : (rs ss : List Rule) (octets : List ℕ) → first_broken rs octets ≡ None → first_broken (rs ++ ss) octets ≡ first_broken ss octets
-first_broken-kept [] ss octets e = refl
-first_broken-kept (r ∷ rs) ss octets e = on_kept (r.is_broken octets) r.kind _ _ _ (first_broken-kept rs ss octets) e
-  where
-    on_kept : (b : Bool) (k : DerFault) (x y z : Option DerFault) → (x ≡ None → y ≡ z) → cond b (Some k) x ≡ None → cond b (Some k) y ≡ z
-    on_kept true k x y z f e = absurd cc
-    on_kept false k x y z f e = f e
-
-first_broken-broken : (rs ss : List Rule) (octets : List ℕ) (k : DerFault) → first_broken rs octets ≡ Some k → first_broken (rs ++ ss) octets ≡ Some k
-first_broken-broken [] ss octets k e = absurd cc
-first_broken-broken (r ∷ rs) ss octets k e = on_broken (r.is_broken octets) r.kind _ _ _ (first_broken-broken rs ss octets k) e
-  where
-    on_broken : (b : Bool) (j : DerFault) (x y z : Option DerFault) → (x ≡ z → y ≡ z) → cond b (Some j) x ≡ z → cond b (Some j) y ≡ z
-    on_broken true j x y z f e = e
-    on_broken false j x y z f e = f e
 
 -- an element of one tag, whatever its header breaks
 by_header : (tag : ℕ) (here : Place) (o : Option DerFault) → first_broken header_rules here.rest ≡ o

@@ -1,3 +1,4 @@
+pub mod RuleLists
 pub mod Numbers
 pub mod OctetLists
 pub mod Headers
@@ -5,3 +6,5 @@ pub mod Lengths
 pub mod Elements
 pub mod Laws
 pub mod Integers
+pub mod BitStrings
+pub mod Written

@@ -26,6 +26,16 @@ bits_of unused octets = take (8 * length octets - unused) (flat_map octet_bits o
 unfoldable pub last_octet : List ℕ → ℕ
 last_octet content = if nat_lt (length content) 2 then 0 else slice_index content (length content - 1)
 
+-- of a list of named bits the last bit that is kept is 1 (X.690 11.2.2)
+abbrev pub EndsInOne : List Bool → Type 0
+EndsInOne [] = Unit {0}
+EndsInOne (b ∷ []) = b ≡ true
+EndsInOne (b ∷ c ∷ bits) = EndsInOne (c ∷ bits)
+
+-- the number of unused bits and the octets that content has
+abbrev pub bit_parts : List ℕ → ℕ × List ℕ
+bit_parts content = (slice_index content 0, drop 1 content)
+
 -- a number of unused bits below 8, which is 0 where no octet follows; and the unused bits are 0
 unfoldable pub bits_rules : List Rule
 bits_rules =
@@ -35,6 +45,9 @@ bits_rules =
     ∷ rule BitsForm (λ c. not (last_octet c % 2 ^ slice_index c 0 == 0))
     ∷ []
 
--- in a list of named bits the last bit that is kept is 1 (X.690 11.2.2)
+-- and the last bit before the unused ones, if there is any, is 1
+abbrev pub ends_in_zero : ℕ → List ℕ → Bool
+ends_in_zero unused content = nat_lt 1 (length content) && last_octet content / 2 ^ unused % 2 == 0
+
 unfoldable pub named_bits_rules : List Rule
-named_bits_rules = bits_rules ++ rule NamedBits (λ c. nat_lt 1 (length c) && last_octet c / 2 ^ slice_index c 0 % 2 == 0) ∷ []
+named_bits_rules = bits_rules ++ rule NamedBits (λ c. ends_in_zero (slice_index c 0) c) ∷ []

@@ -9,3 +9,4 @@ pub mod Integer
 pub mod BitString
 pub mod View
 pub mod BitsView
+pub mod Written

@@ -2,14 +2,17 @@
 //! each value, and of octets that are none the first fault with its offset.
 #![tactic(auto)]
 
+mod bit_string;
 mod bits;
 mod boolean;
 mod fault;
 mod header;
 mod integer;
 mod reader;
+mod writer;
 
 pub use bits::Bits;
 pub use fault::{DerFault, Fault, located};
 pub use integer::Integer;
 pub use reader::{Element, Reader};
+pub use writer::Writer;
