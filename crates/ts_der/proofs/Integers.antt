@@ -1,8 +1,10 @@
 -- Numbers in two's complement.
-use Rattle.std.proofs.Common.{◌≡◌, ◌≢◌, ℕ, zero, suc, ◌+◌, ◌-◌, ◌*◌, ◌^◌, ◌<◌, ◌≤◌, ◌↔◌, Bool, true, false, not, ◌||◌, ◌&&◌, cond, ltb, eqb, Option, Some, None, Result, Ok, Err, inl, inr, List, [], ◌∷◌, ◌++◌, length, get_or, take, drop, fold, refl, sym, ap, ◌∙◌, arith, ℤ, pos, ◌-ℤ◌}
-use Rattle.std.proofs.lemmas.Bool.{ltb-false, ltb-true, le-ltb, cases_lt}
+use Rattle.std.proofs.Common.{◌≡◌, ◌≢◌, ℕ, zero, suc, ◌+◌, ◌-◌, ◌*◌, ◌^◌, ◌<◌, ◌≤◌, ◌↔◌, Bool, true, false, not, ◌||◌, ◌&&◌, cond, ltb, eqb, Option, Some, None, Result, Ok, Err, inl, inr, ◌⊎◌, List, [], ◌∷◌, ◌++◌, length, get_or, take, drop, fold, refl, sym, ap, ◌∙◌, arith, ℤ, pos, negsuc, ◌-ℤ◌}
+use Rattle.std.proofs.lemmas.Bool.{ltb-false, ltb-true, lt-ltb, le-ltb, eqb-true, cases_lt, or_cases, and_parts}
 use Rattle.std.proofs.lemmas.Int.{ints}
 use Rattle.std.proofs.Math.Nat.{mul-le-mul_left, mul-le-mul_right, pow-succ'}
+use Rattle.std.specs.Prelude.{FitsSigned}
+use Rattle.std.specs.Int.{w64, to_be_bytes, cast_unsigned}
 use Rattle.ts_der.specs.declared.fault.DerFault.TheVariants.{IntegerForm, TooLarge}
 use Rattle.ts_der.specs.Rules.{value_unless, checked}
 use Rattle.ts_der.specs.Octets.{AreOctets}
@@ -116,3 +118,79 @@ small-only content n fits lt i =
     let s = sign-positive content n fits i.value in
     let test : ltb 0xffff_ffff (number content) ≡ false = le-ltb 0xffff_ffff (number content) (omega (arith, s.1)) in
     rw (i.shortest, s.0, test) (ap (λ (x : ℕ). Ok x) s.1)
+
+-- ---- without the octets that repeat the sign
+
+from_split : (n : ℕ) (octets : List ℕ) → from n octets ≡ n * 256 ^ length octets + from 0 octets
+unfolding from
+from_split n [] = omega arith
+from_split n (o ∷ octets) =
+    let p = 256 ^ length octets in
+    let a : from (256 * n + o) octets ≡ (256 * n + o) * p + from 0 octets = from_split (256 * n + o) octets in
+    let b : from (256 * 0 + o) octets ≡ (256 * 0 + o) * p + from 0 octets = from_split (256 * 0 + o) octets in
+    let more : n * 256 ^ suc (length octets) ≡ 256 * (n * p) = ap (λ (q : ℕ). n * q) (pow-succ' 256 (length octets)) ∙ omega arith in
+    omega (arith, a, b, more)
+
+pub number-cons : (o : ℕ) (octets : List ℕ) → number (o ∷ octets) ≡ o * 256 ^ length octets + number octets
+unfolding number from
+number-cons o octets = omega (arith, from_split (256 * 0 + o) octets)
+
+-- an octet that only repeats the sign
+pub record Repeats (octets : List ℕ) : Type 0 where
+  pub first : ℕ
+  pub second : ℕ
+  pub more : List ℕ
+  pub parts : octets ≡ first ∷ second ∷ more
+  pub sign : ((first ≡ 0) × (second < 128)) ⊎ ((first ≡ 255) × (127 < second))
+
+pub repeats : (octets : List ℕ) → 0 < length octets → is_shortest octets ≡ false → Repeats octets
+repeats [] some e = absurd (omega arith)
+repeats (a ∷ []) some e = absurd cc
+repeats (a ∷ b ∷ octets) some e =
+    record {
+      first = a; second = b; more = octets; parts = refl;
+      sign = elim (or_cases (eqb a 0 && ltb b 128) (eqb a 255 && ltb 127 b) (not_false _ e)) [
+        | inl h ↦ let p = and_parts (eqb a 0) (ltb b 128) h in inl (eqb-true a 0 p.0, ltb-true b 128 p.1)
+        | inr h ↦ let p = and_parts (eqb a 255) (ltb 127 b) h in inr (eqb-true a 255 p.0, ltb-true 127 b p.1)
+      ];
+    }
+  where
+    not_false : (t : Bool) → not t ≡ false → t ≡ true
+    not_false true e = refl
+    not_false false e = absurd cc
+
+same_below : (m n p q : ℕ) → m ≡ 255 * p + n → q ≡ 256 * p → pos m -ℤ pos q ≡ pos n -ℤ pos p
+same_below m n p q e f = omega (arith, ints)
+
+pub twos_complement-drop : (octets : List ℕ) → Repeats octets → twos_complement (drop 1 octets) ≡ twos_complement octets
+unfolding twos_complement
+twos_complement-drop octets r = rw r.parts (elim r.sign [ inl h ↦ zeros h | inr h ↦ ones h ])
+  where
+    zeros : (r.first ≡ 0) × (r.second < 128) → cond (ltb 127 r.second) (pos (number (r.second ∷ r.more)) -ℤ pos (256 ^ length (r.second ∷ r.more))) (pos (number (r.second ∷ r.more)))
+        ≡ cond (ltb 127 r.first) (pos (number (r.first ∷ r.second ∷ r.more)) -ℤ pos (256 ^ length (r.first ∷ r.second ∷ r.more))) (pos (number (r.first ∷ r.second ∷ r.more)))
+    zeros h = rw (h.0, le-ltb 127 r.second (omega arith), number-zero (r.second ∷ r.more)) refl
+    ones : (r.first ≡ 255) × (127 < r.second) → cond (ltb 127 r.second) (pos (number (r.second ∷ r.more)) -ℤ pos (256 ^ length (r.second ∷ r.more))) (pos (number (r.second ∷ r.more)))
+        ≡ cond (ltb 127 r.first) (pos (number (r.first ∷ r.second ∷ r.more)) -ℤ pos (256 ^ length (r.first ∷ r.second ∷ r.more))) (pos (number (r.first ∷ r.second ∷ r.more)))
+    ones h =
+        rw (h.0, lt-ltb 127 r.second h.1)
+        (sym (same_below (number (255 ∷ r.second ∷ r.more)) (number (r.second ∷ r.more)) (256 ^ length (r.second ∷ r.more)) (256 ^ suc (length (r.second ∷ r.more)))
+        (number-cons 255 (r.second ∷ r.more)) (pow-succ' 256 (length (r.second ∷ r.more)))))
+
+-- ---- eight octets
+
+pub number-be8 : (n : ℕ) → n < 2 ^ 64 → number (to_be_bytes w64 n) ≡ n
+unfolding number
+number-be8 n lt = omega arith
+
+below_zero : (m n : ℕ) → m ≡ 2 ^ 64 - suc n → n < 2 ^ 63 → pos m -ℤ pos (2 ^ 64) ≡ negsuc n
+below_zero m n e lt = omega (arith, ints)
+
+pub twos_complement-be8 : (z : ℤ) → FitsSigned w64 z → twos_complement (to_be_bytes w64 (cast_unsigned w64 z)) ≡ z
+unfolding twos_complement
+twos_complement-be8 (pos n) fits =
+    let lt : n < 2 ^ 63 = fits.sfits in
+    rw (number-be8 n (omega arith), le-ltb 127 (get_or (to_be_bytes w64 n) 0 0) (omega arith)) refl
+twos_complement-be8 (negsuc n) fits =
+    let lt : suc n ≤ 2 ^ 63 = omega (arith, fits.sfits) in
+    let m = 2 ^ 64 - suc n in
+    rw (number-be8 m (omega arith), lt-ltb 127 (get_or (to_be_bytes w64 m) 0 0) (omega arith)) (below_zero m n refl (omega arith))

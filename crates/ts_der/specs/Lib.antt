@@ -10,3 +10,4 @@ pub mod BitString
 pub mod View
 pub mod BitsView
 pub mod Written
+pub mod WrittenInteger

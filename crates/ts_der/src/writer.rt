@@ -1,9 +1,11 @@
 //! Elements written one behind another.
 
-ghost use Rattle.std.specs.Prelude.{◌≡◌, ◌<◌, ◌^◌, ◌++◌, List, [], length, OnOk, OnErr};
+ghost use Rattle.std.specs.Prelude.{◌≡◌, ◌≢◌, ◌%◌, ◌<◌, ◌^◌, ◌++◌, List, [], length, OnOk, OnErr};
 ghost use Rattle.ts_der.specs.Element.{Fits, spell, length_octets};
 ghost use Rattle.ts_der.specs.Written.{Begins};
+ghost use Rattle.ts_der.specs.WrittenInteger.{AppendsInteger};
 
+use crate::integer::{shortest_form, twos_complement_of};
 use std::alloc::{AllocError, Global};
 use std::marker::Model;
 
@@ -46,6 +48,16 @@ impl Writer {
                 Err(error)
             }
         }
+    }
+
+    /// Writes an INTEGER of this tag, in as few octets as can be (X.690 8.3). The tag has one octet. Where memory
+    /// runs out, nothing is written.
+    pub fn integer(&mut self, tag: u8, value: i64) -> Result<(), AllocError>
+        requires { tag % 32 ≢ 31 }
+        ensures ok { OnOk result (AppendsInteger tag value self.old self.new) }
+        ensures err { OnErr result (self.new ≡ self.old) }
+    {
+        self.tlv(tag, shortest_form(&twos_complement_of(value)))
     }
 
     /// What was written.
