@@ -76,7 +76,7 @@ splits (t ∷ f ∷ more) fits h =
         ]
     ]
 
-unless_ok : {A : Type 0} (o : Option DerFault) (at : ℕ) (x y : A) → unless o at x ≡ Ok y → (o ≡ None) × (x ≡ y)
+pub unless_ok : {A : Type 0} (o : Option DerFault) (at : ℕ) (x y : A) → unless o at x ≡ Ok y → (o ≡ None) × (x ≡ y)
 unless_ok None at x y e = (refl, cc)
 unless_ok (Some k) at x y e = absurd cc
 

@@ -27,6 +27,9 @@ done x = Ok x
 pub ok_is : {A E : Type 0} (x y : A) → done {E = E} x ≡ done y → x ≡ y
 ok_is x y e = cc
 
+pub err_not_ok : {A E : Type 0} {d : E} {x : A} → (let r : Result A E = Err d in r ≡ Ok x) → ⊥
+err_not_ok e = cc
+
 -- what holds wherever reading succeeds holds of what a call found
 pub IfOk-from_reading : {X Y : Type 0} (view : X → Y) (old new : Place) (r : Result X Fault) (reading : Result (Y × Place) Fault) (P : Y → Place → Type 0)
     → Gives view old new r reading → ((y : Y) (after : Place) → reading ≡ Ok (y, after) → P y after) → IfOk r (λ x. P (view x) new)

@@ -1,3 +1,4 @@
+pub mod Ends
 pub mod RuleLists
 pub mod Numbers
 pub mod OctetLists
@@ -8,3 +9,6 @@ pub mod Laws
 pub mod Integers
 pub mod BitStrings
 pub mod Written
+pub mod Texts
+pub mod Many
+pub mod Sets

@@ -16,3 +16,7 @@ AreOctets-take n octets h i =
 
 pub AreOctets-rest : (octet : ℕ) (octets : List ℕ) → AreOctets (octet ∷ octets) → AreOctets octets
 AreOctets-rest octet octets h i = h (suc i)
+
+pub AreOctets-back : (front back : List ℕ) → AreOctets (front ++ back) → AreOctets back
+AreOctets-back [] back h = h
+AreOctets-back (o ∷ front) back h = AreOctets-back front back (λ i. h (suc i))

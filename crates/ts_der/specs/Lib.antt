@@ -11,3 +11,5 @@ pub mod View
 pub mod BitsView
 pub mod Written
 pub mod WrittenInteger
+pub mod Text
+pub mod SetOf

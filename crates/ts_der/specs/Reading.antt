@@ -1,5 +1,5 @@
 -- Reading from front to back, up to the first rule that is broken.
-use Rattle.std.specs.Prelude.{ℕ, ◌+◌, ◌==◌, Bool, false, List, [], ◌∷◌, take, drop, Option, Some, None, option_map, Result, Ok, Err, if◌then◌else◌}
+use Rattle.std.specs.Prelude.{ℕ, zero, suc, ◌+◌, ◌==◌, Bool, true, false, List, [], ◌∷◌, length, take, drop, Option, Some, None, option_map, Result, Ok, Err, if◌then◌else◌}
 use Rattle.ts_der.specs.declared.fault.DerFault.{DerFault}
 use Rattle.ts_der.specs.declared.fault.DerFault.TheVariants.{WrongTag, Trailing}
 use Rattle.ts_der.specs.declared.fault.Fault.{Fault}
@@ -58,6 +58,19 @@ begins_with tag (octet ∷ octets) = octet == tag
 -- an element of this tag, where its tag stands
 unfoldable pub optional_at : ℕ → Place → Result (Option Tlv × Place) Fault
 optional_at tag here = if begins_with tag here.rest then (element_at tag here >>= λ x. Ok (Some x.0, x.1)) else Ok (None, here)
+
+-- whether nothing is left
+abbrev pub is_end : List ℕ → Bool
+is_end [] = true
+is_end (octet ∷ octets) = false
+
+-- items one after another up to the end, of which a place has no more than octets
+abbrev pub many_from : {A : Type 0} → ℕ → (Place → Result (A × Place) Fault) → Place → Result (List A) Fault
+many_from zero item here = Ok []
+many_from (suc n) item here = if is_end here.rest then Ok [] else (item here >>= λ x. many_from n item x.1 >>= λ xs. Ok (x.0 ∷ xs))
+
+unfoldable pub many : {A : Type 0} → (Place → Result (A × Place) Fault) → Place → Result (List A) Fault
+many item here = many_from (length here.rest) item here
 
 -- nothing
 unfoldable pub end_at : Place → Result (Unit {0}) Fault

@@ -9,6 +9,8 @@ mod fault;
 mod header;
 mod integer;
 mod reader;
+mod set_of;
+mod text;
 mod writer;
 
 pub use bits::Bits;

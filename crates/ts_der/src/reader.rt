@@ -50,7 +50,7 @@ impl<'a> Reader<'a> {
     ghost use Rattle.ts_der.specs.Rules.{first_broken};
     ghost use Rattle.ts_der.specs.Element.{Fits, spell, spelled_at, StandsAt};
     ghost use Rattle.ts_der.specs.Header.{header_rules, rules_for};
-    ghost use Rattle.ts_der.specs.Reading.{fault_at, begins_with, next_at, element_at, content_at, optional_at, end_at};
+    ghost use Rattle.ts_der.specs.Reading.{fault_at, is_end, begins_with, next_at, element_at, content_at, optional_at, end_at};
     ghost use Rattle.ts_der.specs.View.{now, Gives, StandsIfAny};
 
     /// A reader of a whole input, at its first octet.
@@ -64,8 +64,9 @@ impl<'a> Reader<'a> {
     }
 
     /// Whether no octet is left.
+    #[tactic(auto, using(crate::proofs::Ends::is_end_is))]
     pub fn is_at_end(&self) -> bool
-        ensures { result ≡ (length self.now.rest == 0) }
+        ensures { result ≡ is_end self.now.rest }
     {
         self.rest.is_empty()
     }
