@@ -12,3 +12,4 @@ pub mod Written
 pub mod Texts
 pub mod Many
 pub mod Sets
+pub mod Oids

@@ -13,3 +13,4 @@ pub mod Written
 pub mod WrittenInteger
 pub mod Text
 pub mod SetOf
+pub mod ObjectIdentifier

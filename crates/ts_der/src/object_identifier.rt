@@ -1,0 +1,64 @@
+//! Reading an OBJECT IDENTIFIER.
+
+ghost use Rattle.std.specs.Prelude.{◌≡◌, List, ℕ, IfOk, IsOkAnd};
+ghost use Rattle.std.specs.List.{list_all};
+ghost use Rattle.ts_der.specs.Answer.{Answers, refusal};
+ghost use Rattle.ts_der.specs.Rules.{checked};
+ghost use Rattle.ts_der.specs.ObjectIdentifier.{series_of, is_subidentifier, is_oid, arcs, IsOid, oid_rules};
+ghost use Rattle.ts_der.specs.Reading.{value_at, content_fault};
+ghost use Rattle.ts_der.specs.View.{now};
+
+use crate::fault::{DerFault, Fault};
+use crate::oid::OidRef;
+use crate::reader::Element;
+
+/// Whether octets are subidentifiers one after another, each below 2^128.
+#[tactic(auto, using(crate::proofs::Oids::passes_all))]
+fn are_subidentifiers(octets: &[u8]) -> bool
+    ensures { result ≡ list_all is_subidentifier (series_of octets.now) }
+{
+    let mut value: u128 = 0;
+    let mut begun = false;
+    for octet in octets {
+        let begins_with_zero = !begun && *octet == 0x80;
+        if begins_with_zero {
+            return false;
+        }
+        if value > u128::MAX >> 7 {
+            return false;
+        }
+        begun = *octet >= 0x80;
+        value = if begun { value << 7 | u128::from(*octet & 0x7f) } else { 0 };
+    }
+    !begun
+}
+
+#[tactic(auto, unfolding(crate::specs::ObjectIdentifier::is_oid))]
+fn is_object_identifier(content: &[u8]) -> bool
+    ensures { result ≡ is_oid content.now }
+{
+    !content.is_empty() && content.len() <= 128 && are_subidentifiers(content)
+}
+
+fn read_oid(content: &[u8]) -> Result<OidRef<'_>, DerFault>
+    ensures { Answers (λ oid. oid.content.now) result (checked oid_rules (λ c. c) content.now) }
+{
+    if is_object_identifier(content) {
+        Ok(OidRef { content })
+    } else {
+        Err(DerFault::OidForm)
+    }
+}
+
+impl<'a> Element<'a> {
+    /// The object identifier of an OBJECT IDENTIFIER's content, else `OidForm` (X.690 8.19). The tag is not looked
+    /// at.
+    pub fn oid(self) -> Result<OidRef<'a>, Fault>
+        ensures found { IfOk result (λ oid. IsOid self.entry.content.now (arcs oid.content.now)) }
+        ensures only { (numbers : List ℕ) → IsOid self.entry.content.now numbers → IsOkAnd result (λ oid. arcs oid.content.now ≡ numbers) }
+        ensures fault { refusal result ≡ content_fault oid_rules (now self.entry) }
+        ensures exact { Answers (λ oid. oid.content.now) result (value_at oid_rules (λ c. c) (now self.entry)) }
+    {
+        self.located(read_oid(self.content))
+    }
+}
