@@ -58,6 +58,11 @@ pub IsOkAnd-checked : {X Y : Type 0} (view : X → Y) (at : ℕ) (r : Result X D
 IsOkAnd-checked view at (Ok x) check y P g e p = subst P (ok_is {E = DerFault} y (view x) (sym e ∙ g)) p
 IsOkAnd-checked view at (Err k) check y P g e p = absurd cc
 
+-- the same of a value that is seen as it is
+pub ok-from_reading : {X : Type 0} (old new : Place) (r : Result X Fault) (reading : Result (X × Place) Fault) (x : X) (after : Place) → Gives (λ y. y) old new r reading → reading ≡ Ok (x, after) → r ≡ Ok x
+ok-from_reading {X} old new (Ok y) reading x after g e = ap (λ (p : X × Place). Ok p.0) (ok_is {E = Fault} (y, new) (x, after) (sym g ∙ e))
+ok-from_reading old new (Err d) reading x after g e = absurd (err_not_ok (sym g.0 ∙ e))
+
 pub refusal-reading : {X Y : Type 0} (view : X → Y) (old new : Place) (r : Result X Fault) (reading : Result (Y × Place) Fault) → Gives view old new r reading → refusal r ≡ refusal reading
 refusal-reading view old new (Ok x) reading g = rw g refl
 refusal-reading view old new (Err d) reading g = rw g.0 refl
@@ -125,6 +130,29 @@ pub element-only : (here : Place) (tag : ℕ) (content more : List ℕ) → Fits
     → element_at tag here ≡ Ok (spelled_at here.at tag content, record { rest = more; at = here.at + length (spell tag content) })
 element-only here tag content more fits e =
     ap (λ (rest : List ℕ). element_at tag (record { rest = rest; at = here.at })) e ∙ element-again tag here.at content more fits
+
+-- ---- the content alone
+
+pub content-found : (tag : ℕ) (here : Place) (content : List ℕ) (after : Place) → AreOctets here.rest → content_at tag here ≡ Ok (content, after) → (e : Tlv) × StandsAt here e after × (e.tag ≡ tag) × (e.content ≡ content)
+unfolding content_at
+content-found tag here content after fits read =
+    let b = bind_ok (element_at tag here) (λ x. Ok (x.0.content, x.1)) (content, after) read in
+    let same : (b.0.0.content, b.0.1) ≡ (content, after) = ok_is {E = Fault} (b.0.0.content, b.0.1) (content, after) b.2 in
+    let found = element-found tag here b.0.0 b.0.1 fits b.1 in
+    (b.0.0, subst (λ (p : Place). StandsAt here b.0.0 p) (ap (λ (x : List ℕ × Place). x.1) same) found.0, found.1, ap (λ (x : List ℕ × Place). x.0) same)
+
+pub content-only : (here : Place) (tag : ℕ) (content more : List ℕ) → Fits tag content → here.rest ≡ spell tag content ++ more
+    → content_at tag here ≡ Ok (content, record { rest = more; at = here.at + length (spell tag content) })
+unfolding content_at
+content-only here tag content more fits e = rw (element-only here tag content more fits e) refl
+
+refusal-mapped : (r : Result (Tlv × Place) Fault) → refusal {A = List ℕ × Place} (r >>= λ x. Ok (x.0.content, x.1)) ≡ refusal r
+refusal-mapped (Ok x) = refl
+refusal-mapped (Err f) = refl
+
+pub refusal-content : (tag : ℕ) (here : Place) → refusal (content_at tag here) ≡ option_map (fault_at here.at) (first_broken (rules_for tag) here.rest)
+unfolding content_at
+refusal-content tag here = refusal-mapped (element_at tag here) ∙ refusal-element tag here
 
 -- ---- an element that may be absent
 

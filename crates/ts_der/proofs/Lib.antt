@@ -13,3 +13,4 @@ pub mod Texts
 pub mod Many
 pub mod Sets
 pub mod Oids
+pub mod Flags

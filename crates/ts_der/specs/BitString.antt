@@ -51,3 +51,11 @@ ends_in_zero unused content = nat_lt 1 (length content) && last_octet content / 
 
 unfoldable pub named_bits_rules : List Rule
 named_bits_rules = bits_rules ++ rule NamedBits (λ c. ends_in_zero (slice_index c 0) c) ∷ []
+
+-- a string of whole octets: no bit is unused
+abbrev pub begins_whole : List ℕ → Bool
+begins_whole [] = false
+begins_whole (unused ∷ octets) = unused == 0
+
+abbrev pub whole_octets_rules : List Rule
+whole_octets_rules = rule BitsForm (λ c. not (begins_whole c)) ∷ []

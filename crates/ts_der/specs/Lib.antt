@@ -14,3 +14,4 @@ pub mod WrittenInteger
 pub mod Text
 pub mod SetOf
 pub mod ObjectIdentifier
+pub mod Default

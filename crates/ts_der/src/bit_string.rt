@@ -1,9 +1,9 @@
 //! Reading a BIT STRING.
 
-ghost use Rattle.std.specs.Prelude.{◌≡◌, ◌<◌, ◌-◌, ◌/◌, ◌%◌, ◌^◌, ◌==◌, if◌then◌else◌, Bool, false, List, length, drop, slice_index, IfOk, IsOkAnd};
+ghost use Rattle.std.specs.Prelude.{◌≡◌, ◌<◌, ◌-◌, ◌/◌, ◌%◌, ◌^◌, ◌==◌, if◌then◌else◌, Bool, false, List, ℕ, ◌∷◌, length, drop, slice_index, IfOk, IsOkAnd};
 ghost use Rattle.ts_der.specs.Answer.{Answers, refusal};
 ghost use Rattle.ts_der.specs.Rules.{checked};
-ghost use Rattle.ts_der.specs.BitString.{bits_of, bit_parts, ends_in_zero, bits_rules, named_bits_rules, IsBitString, EndsInOne};
+ghost use Rattle.ts_der.specs.BitString.{bits_of, bit_parts, ends_in_zero, bits_rules, named_bits_rules, whole_octets_rules, IsBitString, EndsInOne};
 ghost use Rattle.ts_der.specs.Reading.{value_at, content_fault};
 ghost use Rattle.ts_der.specs.View.{now};
 ghost use Rattle.ts_der.specs.BitsView.{parts_of, bits_in};
@@ -61,7 +61,27 @@ fn read_named_bits(content: &[u8]) -> Result<Bits<'_>, DerFault>
     Ok(bits)
 }
 
+fn read_whole_octets(content: &[u8]) -> Result<&[u8], DerFault>
+    ensures { Answers (λ octets. octets.now) result (checked whole_octets_rules (λ c. drop 1 c) content.now) }
+{
+    match content {
+        [0x00, ..] => Ok(content.split_at(1).1),
+        _ => Err(DerFault::BitsForm),
+    }
+}
+
 impl<'a> Element<'a> {
+    /// The octets of a BIT STRING's content that has no unused bits, as a key or a signature is, else `BitsForm`. The
+    /// tag is not looked at.
+    pub fn whole_octets(self) -> Result<&'a [u8], Fault>
+        ensures found { IfOk result (λ octets. self.entry.content.now ≡ 0 ∷ octets.now) }
+        ensures only { (octets : List ℕ) → self.entry.content.now ≡ 0 ∷ octets → IsOkAnd result (λ o. o.now ≡ octets) }
+        ensures fault { refusal result ≡ content_fault whole_octets_rules (now self.entry) }
+        ensures exact { Answers (λ octets. octets.now) result (value_at whole_octets_rules (λ c. drop 1 c) (now self.entry)) }
+    {
+        self.located(read_whole_octets(self.content))
+    }
+
     /// The bits of a BIT STRING's content, else `BitsForm` (X.690 8.6, 11.2.1). The tag is not looked at.
     pub fn bits(self) -> Result<Bits<'a>, Fault>
         ensures found { IfOk result (λ b. IsBitString self.entry.content.now (bits_in b)) }

@@ -1,6 +1,6 @@
 //! Elements one after another, front to back.
 
-ghost use Rattle.std.specs.Prelude.{◌≡◌, ◌≢◌, ℕ, ◌+◌, ◌<◌, ◌^◌, List, [], ◌++◌, length, ◌==◌, if◌then◌else◌, is_some, option_map, IfOk, IfErr, OnErr, IsOk, IsOkAnd, ◌↔◌, None};
+ghost use Rattle.std.specs.Prelude.{◌≡◌, ◌≢◌, ◌%◌, Bool, true, false, Ok, ℕ, ◌+◌, ◌<◌, ◌^◌, List, [], ◌++◌, length, ◌==◌, if◌then◌else◌, is_some, option_map, IfOk, IfErr, OnErr, IsOk, IsOkAnd, ◌↔◌, None};
 ghost use Rattle.ts_der.specs.Octets.{AreOctets};
 
 use crate::fault::{DerFault, Fault, located};
@@ -48,7 +48,9 @@ impl<'a> Model for Reader<'a> {
 impl<'a> Reader<'a> {
     ghost use Rattle.ts_der.specs.Answer.{Answers, refusal};
     ghost use Rattle.ts_der.specs.Rules.{first_broken};
-    ghost use Rattle.ts_der.specs.Element.{Fits, spell, spelled_at, StandsAt};
+    ghost use Rattle.ts_der.specs.Element.{Fits, spell, spelled_at, Tlv, StandsAt};
+    ghost use Rattle.ts_der.specs.Boolean.{boolean_content};
+    ghost use Rattle.ts_der.specs.Default.{flag_at, IsFlag};
     ghost use Rattle.ts_der.specs.Header.{header_rules, rules_for};
     ghost use Rattle.ts_der.specs.Reading.{fault_at, is_end, begins_with, next_at, element_at, content_at, optional_at, end_at};
     ghost use Rattle.ts_der.specs.View.{now, Gives, StandsIfAny};
@@ -100,11 +102,14 @@ impl<'a> Reader<'a> {
     }
 
     /// The content of the next element, which has this tag, as `element` reads it.
-    #[tactic(auto, unfolding(crate::specs::Reading::content_at))]
     pub fn expect(&mut self, tag: u8) -> Result<&'a [u8], Fault>
+        ensures found { IfOk result (λ c. (e : Tlv) × StandsAt self.old e self.new × (e.tag ≡ tag) × (e.content ≡ c.now)) }
+        ensures only { (content more : List ℕ) → Fits tag content → self.old.rest ≡ spell tag content ++ more → IsOkAnd result (λ c. c.now ≡ content) }
+        ensures fault { refusal result ≡ option_map (fault_at self.old.at) (first_broken (rules_for tag) self.old.rest) }
+        ensures unmoved { OnErr result (self.new ≡ self.old) }
         ensures exact { Gives (λ c. c.now) self.old self.new result (content_at tag self.old) }
     {
-        Ok(self.take_tag(tag)?.content)
+        self.take_content(tag)
     }
 
     /// The next element as `element` reads it, if the next octet is this tag; else nothing, and the reader stays.
@@ -117,6 +122,19 @@ impl<'a> Reader<'a> {
         ensures exact { Gives (option_map now) self.old self.new result (optional_at tag self.old) }
     {
         self.take_optional(tag)
+    }
+
+    /// A BOOLEAN DEFAULT FALSE of this tag: true if it is present. One that is present and false is `DefaultEncoded`
+    /// at it, since a value equal to its default is never encoded (X.690 11.5). At a fault the reader has not moved.
+    pub fn flag(&mut self, tag: u8) -> Result<bool, Fault>
+        ensures found { IfOk result (λ value. IsFlag tag self.old value self.new) }
+        ensures absent { begins_with tag self.old.rest ≡ false → result ≡ Ok false }
+        ensures present { (more : List ℕ) → self.old.rest ≡ spell tag (boolean_content true) ++ more → tag % 32 ≢ 31 → result ≡ Ok true }
+        ensures fault { refusal result ≡ refusal (flag_at tag self.old) }
+        ensures unmoved { OnErr result (self.new ≡ self.old) }
+        ensures exact { Gives (λ value. value) self.old self.new result (flag_at tag self.old) }
+    {
+        self.take_flag(tag)
     }
 
     /// Nothing is left; else `Trailing`, at the first octet that is.
@@ -170,10 +188,11 @@ impl<'a> Reader<'a> {
         Ok(element)
     }
 
+    /// The same, where it has this tag.
     #[tactic(auto, unfolding(crate::specs::Reading::element_at))]
-    fn take_tag(&mut self, tag: u8) -> Result<Element<'a>, Fault>
-        ensures octets { AreOctets self.old.rest }
-        ensures exact { Gives now self.old self.new result (element_at tag self.old) }
+    fn split_tag(&self, tag: u8) -> Result<(Element<'a>, Reader<'a>), Fault>
+        ensures octets { AreOctets self.now.rest }
+        ensures exact { Answers (λ x. (now x.0, x.1)) result (element_at tag self.now) }
     {
         let (element, after) = self.split()?;
         if element.tag != tag {
@@ -182,8 +201,45 @@ impl<'a> Reader<'a> {
                 at: element.at,
             });
         }
+        Ok((element, after))
+    }
+
+    fn take_tag(&mut self, tag: u8) -> Result<Element<'a>, Fault>
+        ensures octets { AreOctets self.old.rest }
+        ensures exact { Gives now self.old self.new result (element_at tag self.old) }
+    {
+        let (element, after) = self.split_tag(tag)?;
         *self = after;
         Ok(element)
+    }
+
+    #[tactic(auto, unfolding(crate::specs::Reading::content_at))]
+    fn take_content(&mut self, tag: u8) -> Result<&'a [u8], Fault>
+        ensures octets { AreOctets self.old.rest }
+        ensures exact { Gives (λ c. c.now) self.old self.new result (content_at tag self.old) }
+    {
+        Ok(self.take_tag(tag)?.content)
+    }
+
+    #[tactic(auto, unfolding(crate::specs::Default::flag_at, crate::specs::Reading::optional_at, crate::specs::Reading::element_at))]
+    fn take_flag(&mut self, tag: u8) -> Result<bool, Fault>
+        ensures octets { AreOctets self.old.rest }
+        ensures exact { Gives (λ value. value) self.old self.new result (flag_at tag self.old) }
+    {
+        match self.rest {
+            [first, ..] if *first == tag => {
+                let (element, after) = self.split_tag(tag)?;
+                if !element.boolean()? {
+                    return Err(Fault {
+                        kind: DerFault::DefaultEncoded,
+                        at: element.at,
+                    });
+                }
+                *self = after;
+                Ok(true)
+            }
+            _ => Ok(false),
+        }
     }
 
     #[tactic(auto, unfolding(crate::specs::Reading::optional_at))]
