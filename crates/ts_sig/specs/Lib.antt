@@ -1,0 +1,4 @@
+pub mod Key
+pub mod StandIn
+pub mod Fields
+pub mod Table
