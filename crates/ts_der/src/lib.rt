@@ -15,6 +15,9 @@ mod set_of;
 mod text;
 mod writer;
 
+#[cfg(test)]
+mod tests;
+
 pub use bits::Bits;
 pub use fault::{DerFault, Fault, located};
 pub use integer::Integer;

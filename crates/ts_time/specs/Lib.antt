@@ -1,0 +1,3 @@
+pub mod Calendar
+pub mod Civil
+pub mod Text
