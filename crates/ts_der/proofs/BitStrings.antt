@@ -60,7 +60,7 @@ last_of [] = 0
 last_of (o ∷ []) = o
 last_of (o ∷ p ∷ octets) = last_of (p ∷ octets)
 
-length-bits : (octets : List ℕ) → length (flat_map octet_bits octets) ≡ 8 * length octets
+pub length-bits : (octets : List ℕ) → length (flat_map octet_bits octets) ≡ 8 * length octets
 length-bits [] = refl
 length-bits (o ∷ octets) = omega (arith, length-bits octets)
 

@@ -14,3 +14,4 @@ pub mod Many
 pub mod Sets
 pub mod Oids
 pub mod Flags
+pub mod Unique

@@ -10,6 +10,7 @@ mod header;
 mod integer;
 mod object_identifier;
 mod oid;
+pub mod one_spelling;
 mod reader;
 mod set_of;
 mod text;

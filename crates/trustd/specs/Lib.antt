@@ -1,0 +1,4 @@
+pub mod Script
+pub mod Scanner
+pub mod Lab
+pub mod CommandLine
