@@ -5,7 +5,7 @@ use Rattle.std.specs.List.{flat_map, AllByRecursion}
 use Rattle.std.proofs.lemmas.Bool.{cases_lt, cases_order, ltb-true, ltb-false, or_parts, and_cases, not-true, le-ltb, lt-ltb, eqb-true, eqb-false}
 use Rattle.std.proofs.lemmas.Int.{ints}
 use Rattle.std.proofs.lemmas.List.{append-nil, length-append, length-replicate}
-use Rattle.std.proofs.Math.Nat.{mul-le-mul_left, mul-le-mul_right, pow-succ'}
+use Rattle.std.proofs.Math.Nat.{mul-le-mul_left, mul-le-mul_right, pow-succ', pow-le-pow_right}
 use Rattle.ts_der.specs.declared.fault.Fault.{Fault}
 use Rattle.ts_der.specs.Octets.{AreOctets}
 use Rattle.ts_der.specs.Element.{number, Fits, spell, Place, Tlv, spelled_at}
@@ -170,7 +170,7 @@ positive_range (a ∷ b ∷ octets) f s n =
     record {
       above = elim (cases_lt 0 a) [
         | inl lt ↦ let le : 1 * p ≤ a * p = mul-le-mul_right p lt in omega arith
-        | inr zero ↦ let le : 128 * q ≤ b * q = mul-le-mul_right q (k.0 (omega arith)) in omega (arith, power (length octets))
+        | inr none ↦ let le : 128 * q ≤ b * q = mul-le-mul_right q (k.0 (omega arith)) in omega (arith, power (length octets))
       ];
       below = omega (arith, power (suc (length octets)));
     }
@@ -213,7 +213,7 @@ unfolding low_of
 shorter c [] s t lt = absurd (omega arith)
 shorter [] (a ∷ []) s t lt = absurd cc
 shorter (x ∷ c) (a ∷ []) s t lt = absurd (omega arith)
-shorter c (a ∷ b ∷ d) s t lt = powers (length c) (suc (length d)) (omega arith)
+shorter c (a ∷ b ∷ d) s t lt = pow-le-pow_right {n = 256} (omega arith) {i = length c} {j = suc (length d)} (omega arith)
 
 same_length : (c d : List ℕ) (x k : ℕ) → is_shortest c ≡ true → is_shortest d ≡ true → Range (k + low_of c) (k + 256 ^ length c) x → Range (k + low_of d) (k + 256 ^ length d) x → length c ≡ length d
 same_length c d x k s t r q =
@@ -224,3 +224,45 @@ same_length c d x k s t r q =
         | inr gt ↦ absurd (let le = shorter d c t s gt in let a = q.below in let b = r.above in omega arith)
       ]
     ]
+
+plus : (c x : ℕ) → pos c ≡ pos x → c ≡ x
+plus c x e = cc
+
+same_difference : (m p n q : ℕ) → m < p → n < q → pos m -ℤ pos p ≡ pos n -ℤ pos q → p - m ≡ q - n
+same_difference m p n q f g e = omega (arith, ints)
+
+not_both : (m p n : ℕ) → m < p → pos m -ℤ pos p ≡ pos n → ⊥
+not_both m p n f e = omega (arith, ints)
+
+abbrev signed : Bool → ℕ → ℕ → ℤ
+signed negative n p = cond negative (pos n -ℤ pos p) (pos n)
+
+same_digits : (c d : List ℕ) (s t : Bool) → AreOctets c → AreOctets d → is_shortest c ≡ true → is_shortest d ≡ true → is_negative c ≡ s → is_negative d ≡ t
+    → signed s (number c) (256 ^ length c) ≡ signed t (number d) (256 ^ length d) → c ≡ d
+same_digits c d false false f g u v n m e =
+    let same : number c ≡ number d = plus (number c) (number d) e in
+    let q = positive_range d g v m in
+    let q' : Range (low_of d) (256 ^ length d) (number c) = subst (λ (x : ℕ). Range (low_of d) (256 ^ length d) x) (sym same) q in
+    let len : length c ≡ length d = same_length c d (number c) 0 u v (shift (positive_range c f u n)) (shift q') in
+    digits_of c d f g len same
+  where
+    shift : {low high x : ℕ} → Range low high x → Range (0 + low) (0 + high) x
+    shift r = let a = r.above in let b = r.below in record { above = omega arith; below = omega arith }
+same_digits c d true true f g u v n m e =
+    let a = number-bound c f in
+    let b = number-bound d g in
+    let same : 256 ^ length c - number c ≡ 256 ^ length d - number d = same_difference (number c) (256 ^ length c) (number d) (256 ^ length d) a b e in
+    let q = negative_range d g v m in
+    let q' : Range (suc (low_of d)) (suc (256 ^ length d)) (256 ^ length c - number c) = subst (λ (x : ℕ). Range (suc (low_of d)) (suc (256 ^ length d)) x) (sym same) q in
+    let len : length c ≡ length d = same_length c d (256 ^ length c - number c) 1 u v (shift (negative_range c f u n)) (shift q') in
+    let power-is : 256 ^ length c ≡ 256 ^ length d = ap (λ (k : ℕ). 256 ^ k) len in
+    digits_of c d f g len (omega arith)
+  where
+    shift : {low high x : ℕ} → Range (suc low) (suc high) x → Range (1 + low) (1 + high) x
+    shift r = let a = r.above in let b = r.below in record { above = omega arith; below = omega arith }
+same_digits c d true false f g u v n m e = absurd (not_both (number c) (256 ^ length c) (number d) (number-bound c f) e)
+same_digits c d false true f g u v n m e = absurd (not_both (number d) (256 ^ length d) (number c) (number-bound d g) (sym e))
+
+pub one-number : (c d : List ℕ) (n : ℤ) → AreOctets c → AreOctets d → IsInteger c n → IsInteger d n → c ≡ d
+unfolding twos_complement
+one-number c d n f g a b = same_digits c d (is_negative c) (is_negative d) f g a.shortest b.shortest refl refl (a.value ∙ sym b.value)
