@@ -14,3 +14,5 @@ pub mod Many
 pub mod Sets
 pub mod Oids
 pub mod Flags
+pub mod OidNumbers
+pub mod DottedTexts

@@ -5,6 +5,7 @@
 mod bit_string;
 mod bits;
 mod boolean;
+mod dotted;
 mod fault;
 mod header;
 mod integer;
