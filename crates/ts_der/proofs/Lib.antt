@@ -16,3 +16,5 @@ pub mod Oids
 pub mod Flags
 pub mod OidNumbers
 pub mod DottedTexts
+pub mod OidContents
+pub mod DottedArcs

@@ -16,3 +16,4 @@ pub mod SetOf
 pub mod ObjectIdentifier
 pub mod Default
 pub mod Dotted
+pub mod DottedReading
