@@ -18,3 +18,4 @@ pub mod OidNumbers
 pub mod DottedTexts
 pub mod OidContents
 pub mod DottedArcs
+pub mod OidLaws
