@@ -11,6 +11,8 @@ mod header;
 mod integer;
 mod object_identifier;
 mod oid;
+#[cfg(test)]
+mod oid_tests;
 mod oid_text;
 mod owned_oid;
 mod reader;

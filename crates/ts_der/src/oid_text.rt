@@ -21,8 +21,8 @@ pub enum OidTextError {
 impl fmt::Display for OidTextError {
     fn fmt<W: fmt::Write>(&self, f: &mut fmt::Formatter<W>) -> fmt::Result {
         match self {
-            OidTextError::Memory => write!(f, "memory"),
-            OidTextError::Form => write!(f, "form"),
+            OidTextError::Memory => write!(f, "Memory"),
+            OidTextError::Form => write!(f, "Form"),
         }
     }
 }
