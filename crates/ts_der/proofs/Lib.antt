@@ -15,3 +15,8 @@ pub mod Sets
 pub mod Oids
 pub mod Flags
 pub mod Unique
+pub mod OidNumbers
+pub mod DottedTexts
+pub mod OidContents
+pub mod DottedArcs
+pub mod OidLaws

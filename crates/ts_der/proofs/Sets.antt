@@ -103,20 +103,20 @@ set-found e fits o =
     (f.0, record { each = f.1.each; whole = f.1.whole; ordered = ap ascends (sym f.1.same) ∙ ascending })
 
 -- members that are spelled are read
-again : (members : List Member) (at : ℕ) → AllByRecursion (λ m. Fits m.tag m.content) members
+pub members-again : (members : List Member) (at : ℕ) → AllByRecursion (λ m. Fits m.tag m.content) members
     → (es : List Tlv) × (many next_at (record { rest = flat_map spelled members; at = at }) ≡ Ok es) × (map (λ e. e.whole) es ≡ map spelled members)
-again [] at each = ([], many-end next_at (record { rest = []; at = at }) refl, refl)
-again (m ∷ ms) at each =
+members-again [] at each = ([], many-end next_at (record { rest = []; at = at }) refl, refl)
+members-again (m ∷ ms) at each =
     let here : Place = record { rest = spelled m ++ flat_map spelled ms; at = at } in
     let one = next-again m.tag at m.content (flat_map spelled ms) each.0 in
-    let more = again ms (at + length (spelled m)) each.1 in
+    let more = members-again ms (at + length (spelled m)) each.1 in
     let step : many next_at here ≡ Ok (spelled_at at m.tag m.content ∷ more.0) = many-step next_at next-consumes here refl ∙ rw (one, more.1) refl in
     (spelled_at at m.tag m.content ∷ more.0, step, ap (λ ws. spelled m ∷ ws) more.2)
 
 pub set-again : (e : Tlv) (members : List Member) → IsSetOf e.content members → order_at e ≡ Ok true
 unfolding order_at
 set-again e members s =
-    let a = again members e.start s.each in
+    let a = members-again members e.start s.each in
     let place : many next_at (inside e) ≡ Ok a.0 = ap (λ (rest : List ℕ). many next_at (record { rest = rest; at = e.start })) s.whole ∙ a.1 in
     let order : ascends (map (λ m. m.whole) a.0) ≡ true = ap ascends a.2 ∙ s.ordered in
     rw (place, order) refl

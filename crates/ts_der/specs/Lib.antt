@@ -15,3 +15,5 @@ pub mod Text
 pub mod SetOf
 pub mod ObjectIdentifier
 pub mod Default
+pub mod Dotted
+pub mod DottedReading

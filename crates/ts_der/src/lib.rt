@@ -5,12 +5,17 @@
 mod bit_string;
 mod bits;
 mod boolean;
+mod dotted;
 mod fault;
 mod header;
 mod integer;
 mod object_identifier;
 mod oid;
+#[cfg(test)]
+mod oid_tests;
+mod oid_text;
 pub mod one_spelling;
+mod owned_oid;
 mod reader;
 mod set_of;
 mod text;
@@ -22,6 +27,8 @@ mod tests;
 pub use bits::Bits;
 pub use fault::{DerFault, Fault, located};
 pub use integer::Integer;
-pub use oid::OidRef;
+pub use oid::{OidRef, one_object_identifier};
+pub use oid_text::OidTextError;
+pub use owned_oid::Oid;
 pub use reader::{Element, Reader};
 pub use writer::Writer;
