@@ -27,7 +27,7 @@ mod tests;
 pub use bits::Bits;
 pub use fault::{DerFault, Fault, located};
 pub use integer::Integer;
-pub use oid::{OidRef, one_object_identifier};
+pub use oid::OidRef;
 pub use oid_text::OidTextError;
 pub use owned_oid::Oid;
 pub use reader::{Element, Reader};

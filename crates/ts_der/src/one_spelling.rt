@@ -7,6 +7,7 @@ ghost use Rattle.ts_der.specs.Element.{Fits, spell};
 ghost use Rattle.ts_der.specs.Boolean.{boolean_content};
 ghost use Rattle.ts_der.specs.Integer.{IsInteger};
 ghost use Rattle.ts_der.specs.BitString.{IsBitString};
+ghost use Rattle.ts_der.specs.ObjectIdentifier.{IsOid};
 ghost use Rattle.ts_der.specs.SetOf.{Member, IsSetOf};
 
 /// No octets have two elements at their front, and so none begin another element.
@@ -33,6 +34,13 @@ pub fn one_bit_string()
     ensures bits { (content : List ℕ) (bits others : List Bool) → IsBitString content bits → IsBitString content others → bits ≡ others }
     ensures content { (content other : List ℕ) (bits : List Bool) → AreOctets content → AreOctets other
         → IsBitString content bits → IsBitString other bits → content ≡ other }
+{}
+
+/// No object identifier has two contents. That no content is two follows from the clause itself: the arcs are a
+/// function of the content.
+pub fn one_object_identifier()
+    ensures { (content other numbers : List ℕ) → AreOctets content → AreOctets other
+        → IsOid content numbers → IsOid other numbers → content ≡ other }
 {}
 
 /// No content is two sets.
