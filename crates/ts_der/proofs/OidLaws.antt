@@ -1,5 +1,5 @@
 -- Object identifiers: contents octets, arcs and dotted text give one another.
-use Rattle.std.proofs.Common.{◌≡◌, ◌≢◌, ℕ, zero, suc, ◌+◌, ◌-◌, ◌*◌, ◌/◌, ◌%◌, ◌^◌, ◌<◌, ◌≤◌, Bool, true, false, not, ◌&&◌, ltb, eqb, List, [], ◌∷◌, ◌++◌, length, Some, None, option_and_then, refl, sym, ap, ◌∙◌, append_assoc, append-nil, arith, inl, inr}
+use Rattle.std.proofs.Common.{◌≡◌, ℕ, ◌+◌, ◌-◌, ◌*◌, ◌^◌, ◌<◌, true, false, ◌&&◌, ltb, eqb, List, [], ◌∷◌, length, Some, None, refl, sym, ap, ◌∙◌, arith, inl, inr}
 use Rattle.std.specs.List.{flat_map, list_all}
 use Rattle.std.proofs.lemmas.Bool.{lt-ltb, le-ltb, ltb-true, eqb-true, and_parts, cases_lt, cases_eq, cases_Bool}
 use Rattle.std.proofs.lemmas.Option.{option_and_then_some}
@@ -11,7 +11,6 @@ use Rattle.ts_der.proofs.Oids.{passes, passes_all}
 use Rattle.ts_der.proofs.OidNumbers.{numbers_from, subidentifiers_are}
 use Rattle.ts_der.proofs.DottedArcs.{AreArcs, arcs_of, arcs_read}
 use Rattle.ts_der.proofs.OidContents.{leading_octets_none, spell, again}
-
 
 -- the first subidentifier and the first two arcs
 pub record First (root arc f : ℕ) : Type 0 where
