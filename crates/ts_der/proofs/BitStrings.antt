@@ -1,11 +1,11 @@
 -- Bits and the octets that they are in.
-use Rattle.std.proofs.Common.{◌≡◌, ◌≢◌, ℕ, zero, suc, ◌+◌, ◌-◌, ◌*◌, ◌/◌, ◌%◌, ◌^◌, ◌<◌, ◌≤◌, Bool, true, false, not, ◌&&◌, cond, ltb, eqb, ◌⊎◌, List, [], ◌∷◌, ◌++◌, length, get_or, take, drop, Option, Some, None, Result, Ok, Err, refl, sym, ap, subst, ◌∙◌, arith, inl, inr}
+use Rattle.std.proofs.Common.{◌≡◌, ℕ, zero, suc, ◌+◌, ◌-◌, ◌*◌, ◌/◌, ◌%◌, ◌^◌, ◌<◌, ◌≤◌, Bool, true, false, not, ◌&&◌, cond, ltb, eqb, ◌⊎◌, List, [], ◌∷◌, ◌++◌, length, get_or, take, drop, Option, Some, None, Ok, Err, refl, sym, ap, subst, ◌∙◌, arith, inl, inr}
 use Rattle.std.specs.Prelude.{replicate}
 use Rattle.std.specs.List.{flat_map}
 use Rattle.std.proofs.lemmas.Bool.{lt-ltb, ltb-false, eqb-true, eqb-false, eq-eqb, ne_eqb, le-ltb, cases_lt, and_cases, and_left, and_right}
 use Rattle.std.proofs.lemmas.List.{take-append-drop, length-append, take_at, drop_at, drop_all, take_all, length-replicate}
 use Rattle.ts_der.specs.declared.fault.DerFault.{DerFault}
-use Rattle.ts_der.specs.declared.fault.DerFault.TheVariants.{BitsForm, NamedBits}
+use Rattle.ts_der.specs.declared.fault.DerFault.TheVariants.{NamedBits}
 use Rattle.ts_der.specs.Rules.{Rule, rule, first_broken, value_unless, checked}
 use Rattle.ts_der.specs.BitString.{octet_bits, IsBitString, EndsInOne, bits_of, last_octet, bit_parts, ends_in_zero, bits_rules, named_bits_rules}
 use Rattle.ts_der.proofs.RuleLists.{checked-value, checked-first, checked-kept, checked-broken}
@@ -161,11 +161,13 @@ spelled-padded content bits s =
     let total : length bits + u ≡ 8 * length s.octets = omega (arith, length-append bits (replicate u false), length-replicate u false, ap length s.padded, length-bits s.octets) in
     let n : 8 * length s.octets - u ≡ length bits = omega arith in
     let zeros : drop (8 * length s.octets - u) (all_bits s.octets) ≡ replicate u false = rw (n, ← s.padded) (drop_at bits (replicate u false) (length bits) refl) in
-    let same : take (8 * length s.octets - u) (all_bits s.octets) ≡ bits = rw (n, ← s.padded) (take_at bits (replicate u false) (length bits) refl) in
-    (elim (cases_lt 0 (length s.octets)) [
-      | inl lt ↦ record { few = few; some = inl lt; zeros = unused-multiple u s.octets few lt zeros }
-      | inr le ↦ let none : u ≡ 0 = omega arith in record { few = few; some = inr none; zeros = rw none (omega arith) }
-    ], same)
+    let same : take (8 * length s.octets - u) (all_bits s.octets) ≡ bits = rw (n, ← s.padded) (take_at bits (replicate u false) (length bits) refl) in (
+      elim (cases_lt 0 (length s.octets)) [
+        | inl lt ↦ record { few = few; some = inl lt; zeros = unused-multiple u s.octets few lt zeros }
+        | inr le ↦ let none : u ≡ 0 = omega arith in record { few = few; some = inr none; zeros = rw none (omega arith) }
+      ],
+      same,
+    )
 
 -- ---- the reader
 

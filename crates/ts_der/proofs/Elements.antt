@@ -1,17 +1,14 @@
 -- What is read is an element as it is spelled, and what is spelled so is read.
-use Rattle.std.proofs.Common.{◌≡◌, ◌≢◌, ℕ, zero, suc, ◌+◌, ◌-◌, ◌*◌, ◌/◌, ◌%◌, ◌^◌, ◌<◌, ◌≤◌, Bool, true, false, cond, eqb, ltb, ◌⊎◌, List, [], ◌∷◌, ◌++◌, length, get_or, take, drop, Option, Some, None, Result, Ok, Err, refl, sym, ap, subst, ◌∙◌, append_assoc, take-add, arith, inl, inr}
-use Rattle.std.proofs.lemmas.Bool.{cases_lt, ltb-true, ltb-false, lt-ltb, le-ltb, eqb-true, eqb-false, eq-eqb, ne_eqb}
-use Rattle.std.proofs.lemmas.List.{take_at, drop_at, length-append, length-take, length-drop, get_or-take, get_or-drop, take-append-drop, length-take-le, get_or_append_left}
+use Rattle.std.proofs.Common.{◌≡◌, ◌≢◌, ℕ, suc, ◌+◌, ◌-◌, ◌^◌, ◌<◌, ◌≤◌, true, false, ltb, ◌⊎◌, List, [], ◌∷◌, ◌++◌, length, get_or, take, drop, Option, Some, None, Ok, refl, sym, ap, subst, ◌∙◌, append_assoc, take-add, arith, inl, inr}
+use Rattle.std.proofs.lemmas.Bool.{cases_lt, lt-ltb, le-ltb}
+use Rattle.std.proofs.lemmas.List.{take_at, drop_at, length-append, length-drop, get_or-take, take-append-drop, length-take-le, get_or_append_left}
 use Rattle.ts_der.specs.declared.fault.DerFault.{DerFault}
-use Rattle.ts_der.specs.declared.fault.DerFault.TheVariants.{WrongTag}
-use Rattle.ts_der.specs.declared.fault.Fault.{Fault}
 use Rattle.ts_der.specs.Octets.{AreOctets}
-use Rattle.ts_der.specs.Answer.{◌>>=◌}
 use Rattle.ts_der.specs.Rules.{first_broken}
 use Rattle.ts_der.specs.Element.{number, length_octets, spell, Fits, Place, Tlv, StandsAt, spelled_at}
-use Rattle.ts_der.specs.Header.{tag_of, form_of, more_of, header_size, length_of, header_rules}
-use Rattle.ts_der.specs.Reading.{unless, fault_at, element_of, behind, next_at, element_at}
-use Rattle.ts_der.proofs.OctetLists.{AreOctets-drop, AreOctets-take}
+use Rattle.ts_der.specs.Header.{tag_of, form_of, header_size, length_of, header_rules}
+use Rattle.ts_der.specs.Reading.{unless, element_of, behind, next_at}
+use Rattle.ts_der.proofs.OctetLists.{AreOctets-take}
 use Rattle.ts_der.proofs.Headers.{HasHeader, has_header, no_rule_broken}
 use Rattle.ts_der.proofs.Lengths.{number-below, length_octets-short, length_octets-number, LongForm, long_form}
 
@@ -66,14 +63,14 @@ splits (t ∷ f ∷ more) fits h =
     elim (cases_lt f 128) [
       | inl lt ↦ splits_short t f more lt
       | inr le ↦
-        let definite : f ≢ 128 = h.definite in
-        let few : f ≤ 132 = h.few in
-        let test : ltb f 128 ≡ false = le-ltb f 128 le in
-        let digits : 2 + (f - 128) ≤ suc (suc (length more)) = rw test at h.digits in
-        elim h.shortest [
-          | inl low ↦ absurd (omega arith)
-          | inr long ↦ splits_long t f more (λ i. fits (suc (suc i))) (omega arith) few (omega arith) long.0 (rw test at long.1)
-        ]
+          let definite : f ≢ 128 = h.definite in
+          let few : f ≤ 132 = h.few in
+          let test : ltb f 128 ≡ false = le-ltb f 128 le in
+          let digits : 2 + (f - 128) ≤ suc (suc (length more)) = rw test at h.digits in
+          elim h.shortest [
+            | inl low ↦ absurd (omega arith)
+            | inr long ↦ splits_long t f more (λ i. fits (suc (suc i))) (omega arith) few (omega arith) long.0 (rw test at long.1)
+          ]
     ]
 
 pub unless_ok : {A : Type 0} (o : Option DerFault) (at : ℕ) (x y : A) → unless o at x ≡ Ok y → (o ≡ None) × (x ≡ y)

@@ -1,16 +1,15 @@
 -- A BOOLEAN DEFAULT FALSE.
 use Rattle.std.proofs.Common.{◌≡◌, ◌≢◌, ℕ, ◌%◌, ◌<◌, ◌+◌, Bool, true, false, cond, eqb, not, ◌||◌, List, [], ◌∷◌, ◌++◌, length, Option, Some, None, Result, Ok, Err, refl, sym, ap, subst, ◌∙◌, arith}
 use Rattle.std.proofs.lemmas.Bool.{eq-eqb, eqb-true}
-use Rattle.ts_der.specs.declared.fault.DerFault.{DerFault}
 use Rattle.ts_der.specs.declared.fault.DerFault.TheVariants.{BooleanForm, DefaultEncoded}
 use Rattle.ts_der.specs.declared.fault.Fault.{Fault}
 use Rattle.ts_der.specs.Octets.{AreOctets}
 use Rattle.ts_der.specs.Answer.{◌>>=◌}
 use Rattle.ts_der.specs.Rules.{value_unless}
-use Rattle.ts_der.specs.Element.{Fits, spell, Place, Tlv, StandsAt, spelled_at}
-use Rattle.ts_der.specs.Boolean.{boolean_content, is_boolean, boolean_rules, boolean_value}
-use Rattle.ts_der.specs.Reading.{fault_at, located, value_at, begins_with, element_at, optional_at}
-use Rattle.ts_der.specs.Default.{present_flag, flag_of, flag_at, IsFlag}
+use Rattle.ts_der.specs.Element.{Fits, spell, Place, Tlv, StandsAt}
+use Rattle.ts_der.specs.Boolean.{boolean_content, is_boolean, boolean_value}
+use Rattle.ts_der.specs.Reading.{fault_at, located, begins_with, optional_at}
+use Rattle.ts_der.specs.Default.{flag_of, flag_at, IsFlag}
 use Rattle.ts_der.specs.View.{StandsIfAny}
 use Rattle.ts_der.proofs.Laws.{bind_ok, ok_is, err_not_ok, element-only, optional-found}
 

@@ -1,12 +1,9 @@
 -- A header breaks no rule exactly where an element stands behind it, spelled so.
-use Rattle.std.proofs.Common.{◌≡◌, ◌≢◌, ℕ, zero, suc, ◌+◌, ◌-◌, ◌*◌, ◌/◌, ◌%◌, ◌^◌, ◌<◌, ◌≤◌, Bool, true, false, cond, eqb, ltb, ◌&&◌, ◌||◌, List, [], ◌∷◌, ◌++◌, length, get_or, take, drop, Option, Some, None, refl, sym, ap, ◌∙◌, arith, inl, inr, ◌⊎◌}
-use Rattle.std.proofs.lemmas.Bool.{cases_lt, ltb-true, ltb-false, lt-ltb, le-ltb, eqb-false, ne_eqb, and_cases, and_left, and_right, or_parts, or_from, cases_Bool}
-use Rattle.std.proofs.lemmas.List.{take_at, drop_at, length-append, length-take, get_or-take, take-append-drop}
+use Rattle.std.proofs.Common.{◌≡◌, ◌≢◌, ℕ, ◌+◌, ◌%◌, ◌≤◌, Bool, true, false, cond, eqb, ltb, ◌&&◌, ◌||◌, List, length, get_or, Option, Some, None, refl, arith, inl, inr, ◌⊎◌}
+use Rattle.std.proofs.lemmas.Bool.{ltb-false, le-ltb, eqb-false, ne_eqb, and_cases, and_left, and_right, or_parts, or_from}
 use Rattle.ts_der.specs.declared.fault.DerFault.{DerFault}
-use Rattle.ts_der.specs.Octets.{AreOctets}
 use Rattle.ts_der.specs.Rules.{first_broken}
-use Rattle.ts_der.specs.Element.{number, length_octets}
-use Rattle.ts_der.specs.Header.{tag_of, form_of, more_of, header_size, length_of, header_rules}
+use Rattle.ts_der.specs.Header.{tag_of, form_of, header_size, length_of, header_rules}
 
 -- octets that begin with a header that breaks no rule, and with its content
 pub record HasHeader (octets : List ℕ) : Type 0 where

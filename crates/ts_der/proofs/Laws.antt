@@ -1,14 +1,14 @@
 -- From what reading gives to what the public clauses say.
-use Rattle.std.proofs.Common.{◌≡◌, ◌≢◌, ℕ, ◌+◌, ◌%◌, Bool, true, false, not, cond, eqb, List, [], ◌∷◌, ◌++◌, length, Option, Some, None, Result, Ok, Err, refl, sym, ap, subst, ◌∙◌, arith}
+use Rattle.std.proofs.Common.{◌≡◌, ℕ, ◌+◌, Bool, true, false, not, cond, eqb, List, [], ◌∷◌, ◌++◌, length, Option, Some, None, Result, Ok, Err, refl, sym, ap, subst, ◌∙◌}
 use Rattle.std.specs.Prelude.{IfOk, IsOkAnd, OnErr, option_map, is_some}
 use Rattle.std.proofs.lemmas.Bool.{eqb-true, eq-eqb}
 use Rattle.ts_der.specs.declared.fault.DerFault.{DerFault}
-use Rattle.ts_der.specs.declared.fault.DerFault.TheVariants.{WrongTag, Trailing}
+use Rattle.ts_der.specs.declared.fault.DerFault.TheVariants.{WrongTag}
 use Rattle.ts_der.specs.declared.fault.Fault.{Fault}
 use Rattle.ts_der.specs.Octets.{AreOctets}
 use Rattle.ts_der.specs.Answer.{◌>>=◌, Answers, refusal}
-use Rattle.ts_der.specs.Rules.{Rule, rule, first_broken}
-use Rattle.ts_der.specs.Element.{length_octets, spell, Fits, Place, Tlv, StandsAt, spelled_at}
+use Rattle.ts_der.specs.Rules.{rule, first_broken}
+use Rattle.ts_der.specs.Element.{spell, Fits, Place, Tlv, StandsAt, spelled_at}
 use Rattle.ts_der.specs.Header.{tag_of, header_rules, rules_for}
 use Rattle.ts_der.specs.Reading.{unless, located, fault_at, element_of, behind, begins_with, next_at, element_at, content_at, optional_at}
 use Rattle.ts_der.specs.View.{Gives, StandsIfAny}

@@ -1,5 +1,5 @@
 -- The length octets of a length are read as it, and what is read is written so.
-use Rattle.std.proofs.Common.{◌≡◌, ◌≢◌, ℕ, zero, suc, ◌+◌, ◌-◌, ◌*◌, ◌/◌, ◌%◌, ◌^◌, ◌<◌, ◌≤◌, Bool, true, false, cond, ltb, List, [], ◌∷◌, ◌++◌, length, get_or, take, drop, refl, sym, ap, ◌∙◌, arith, inl, inr}
+use Rattle.std.proofs.Common.{◌≡◌, ◌≢◌, ℕ, ◌+◌, ◌*◌, ◌/◌, ◌%◌, ◌^◌, ◌<◌, ◌≤◌, List, [], ◌∷◌, length, get_or, refl, ap, arith, inl, inr}
 use Rattle.std.proofs.lemmas.Bool.{cases_lt, lt-ltb, le-ltb}
 use Rattle.ts_der.specs.Octets.{AreOctets}
 use Rattle.ts_der.specs.Element.{number, length_octets}
@@ -79,24 +79,36 @@ long_form n low high =
       | inl a ↦ record {
         digits = n ∷ [];
         form = rw (le-ltb n 128 low, lt-ltb n (2 ^ 8) a) refl;
-        some = omega arith; few = omega arith; first = omega arith; value = omega arith;
+        some = omega arith;
+        few = omega arith;
+        first = omega arith;
+        value = omega arith;
       }
       | inr a ↦ elim (cases_lt n (2 ^ 16)) [
         | inl b ↦ record {
           digits = n / 2 ^ 8 ∷ n % 2 ^ 8 ∷ [];
           form = rw (le-ltb n 128 low, le-ltb n (2 ^ 8) a, lt-ltb n (2 ^ 16) b) refl;
-          some = omega arith; few = omega arith; first = omega arith; value = omega arith;
+          some = omega arith;
+          few = omega arith;
+          first = omega arith;
+          value = omega arith;
         }
         | inr b ↦ elim (cases_lt n (2 ^ 24)) [
           | inl c ↦ record {
             digits = n / 2 ^ 16 ∷ n / 2 ^ 8 % 2 ^ 8 ∷ n % 2 ^ 8 ∷ [];
             form = rw (le-ltb n 128 low, le-ltb n (2 ^ 8) a, le-ltb n (2 ^ 16) b, lt-ltb n (2 ^ 24) c) refl;
-            some = omega arith; few = omega arith; first = omega arith; value = omega arith;
+            some = omega arith;
+            few = omega arith;
+            first = omega arith;
+            value = omega arith;
           }
           | inr c ↦ record {
             digits = n / 2 ^ 24 ∷ n / 2 ^ 16 % 2 ^ 8 ∷ n / 2 ^ 8 % 2 ^ 8 ∷ n % 2 ^ 8 ∷ [];
             form = rw (le-ltb n 128 low, le-ltb n (2 ^ 8) a, le-ltb n (2 ^ 16) b, le-ltb n (2 ^ 24) c) refl;
-            some = omega arith; few = omega arith; first = omega arith; value = omega arith;
+            some = omega arith;
+            few = omega arith;
+            first = omega arith;
+            value = omega arith;
           }
         ]
       ]

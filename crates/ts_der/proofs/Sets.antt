@@ -1,8 +1,7 @@
 -- Sets and their order.
-use Rattle.std.proofs.Common.{◌≡◌, ℕ, zero, suc, ◌+◌, ◌<◌, ◌≤◌, Bool, true, false, cond, ltb, eqb, ◌&&◌, ◌||◌, List, [], ◌∷◌, ◌++◌, length, get_or, drop, Result, Ok, Err, refl, sym, ap, subst, ◌∙◌, append_assoc, arith, inl, inr}
+use Rattle.std.proofs.Common.{◌≡◌, ℕ, zero, suc, ◌+◌, ◌<◌, ◌≤◌, Bool, true, false, cond, ◌&&◌, List, [], ◌∷◌, ◌++◌, length, Ok, refl, sym, ap, subst, ◌∙◌, arith}
 use Rattle.std.specs.Prelude.{map}
 use Rattle.std.specs.List.{flat_map, AllByRecursion}
-use Rattle.std.proofs.lemmas.Bool.{cases_lt}
 use Rattle.std.proofs.lemmas.List.{length-drop}
 use Rattle.ts_der.specs.declared.fault.Fault.{Fault}
 use Rattle.ts_der.specs.Octets.{AreOctets}
@@ -84,8 +83,10 @@ found_from (suc n) here es le fits e = by_end (λ x after xs r more. members_of 
   where
     after_fits : (x : Tlv) (after : Place) → next_at here ≡ Ok (x, after) → AreOctets after.rest
     after_fits x after r = let s = next-found here x after fits r in AreOctets-back x.whole after.rest (subst AreOctets s.whole fits)
+
     members_of : (x : Tlv) (after : Place) (xs : List Tlv) → next_at here ≡ Ok (x, after) → (members : List Member) × AreMembers after.rest xs members → (members : List Member) × AreMembers here.rest (x ∷ xs) members
     members_of x after xs r m = (member_of x ∷ m.0, one_more here x after xs m.0 (next-found here x after fits r) m.1)
+
     by_end : ((x : Tlv) (after : Place) (xs : List Tlv) → next_at here ≡ Ok (x, after) → many_from n next_at after ≡ Ok xs → (members : List Member) × AreMembers here.rest (x ∷ xs) members)
         → (b : Bool) → is_end here.rest ≡ b → cond b (Ok []) (next_at here >>= λ x. many_from n next_at x.1 >>= λ xs. Ok (x.0 ∷ xs)) ≡ Ok es → (members : List Member) × AreMembers here.rest es members
     by_end f true t e = no_members here.rest es (omega (arith, is_end-length here.rest t)) (ok_is {E = Fault} [] es e)

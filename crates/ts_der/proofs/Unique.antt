@@ -1,11 +1,11 @@
 -- One spelling for each value, one value for each spelling.
-use Rattle.std.proofs.Common.{◌≡◌, ◌≢◌, ℕ, zero, suc, ◌+◌, ◌-◌, ◌*◌, ◌/◌, ◌%◌, ◌^◌, ◌<◌, ◌≤◌, Bool, true, false, not, ◌&&◌, ◌||◌, cond, ltb, eqb, List, [], ◌∷◌, ◌++◌, length, Option, Some, None, Result, Ok, Err, refl, sym, ap, subst, ◌∙◌, append_assoc, arith, inl, inr, ◌⊎◌, ℤ, pos, ◌-ℤ◌}
-use Rattle.std.specs.Prelude.{map, replicate}
+use Rattle.std.proofs.Common.{◌≡◌, ℕ, suc, ◌+◌, ◌-◌, ◌*◌, ◌/◌, ◌%◌, ◌^◌, ◌<◌, ◌≤◌, Bool, true, false, ◌&&◌, cond, ltb, eqb, List, [], ◌∷◌, ◌++◌, length, Ok, refl, sym, ap, subst, ◌∙◌, arith, inl, inr, ℤ, pos, ◌-ℤ◌}
+use Rattle.std.specs.Prelude.{replicate}
 use Rattle.std.specs.List.{flat_map, AllByRecursion}
-use Rattle.std.proofs.lemmas.Bool.{cases_lt, cases_order, ltb-true, ltb-false, or_parts, and_cases, not-true, le-ltb, lt-ltb, eqb-true, eqb-false}
+use Rattle.std.proofs.lemmas.Bool.{cases_lt, cases_order, ltb-true, ltb-false, or_parts, and_cases, not-true, eqb-true, eqb-false}
 use Rattle.std.proofs.lemmas.Int.{ints}
-use Rattle.std.proofs.lemmas.List.{append-nil, length-append, length-replicate}
-use Rattle.std.proofs.Math.Nat.{mul-le-mul_left, mul-le-mul_right, pow-succ', pow-le-pow_right}
+use Rattle.std.proofs.lemmas.List.{length-append, length-replicate}
+use Rattle.std.proofs.Math.Nat.{mul-le-mul_right, pow-succ', pow-le-pow_right}
 use Rattle.ts_der.specs.declared.fault.Fault.{Fault}
 use Rattle.ts_der.specs.Octets.{AreOctets}
 use Rattle.ts_der.specs.Element.{number, Fits, spell, Place, Tlv, spelled_at}
@@ -24,7 +24,7 @@ one-element t u c d r s f g e =
     let a = next-again t 0 c r f in
     let b = next-again u 0 d s g in
     let both : Ok (spelled_at 0 t c, record { rest = r; at = 0 + length (spell t c) }) ≡ Ok (spelled_at 0 u d, record { rest = s; at = 0 + length (spell u d) })
-        = sym a ∙ (ap (λ (x : List ℕ). next_at (record { rest = x; at = 0 })) e ∙ b) in
+    = sym a ∙ (ap (λ (x : List ℕ). next_at (record { rest = x; at = 0 })) e ∙ b) in
     let same = ok_is {A = Tlv × Place} {E = Fault} _ _ both in
     (ap (λ (x : Tlv × Place). x.0.tag) same, ap (λ (x : Tlv × Place). x.0.content) same, ap (λ (x : Tlv × Place). x.1.rest) same)
 
@@ -129,12 +129,12 @@ digits_of (x ∷ xs) (y ∷ ys) f g l e =
     let first = same_quotient x y p (number xs) (number ys) low high (sym a ∙ (e ∙ b)) in
     ap (λ (z : ℕ). z ∷ xs) first.0 ∙ ap (λ (zs : List ℕ). y ∷ zs) (digits_of xs ys (λ i. f (suc i)) (λ i. g (suc i)) len first.1)
 
-
 kept : (a b : ℕ) (octets : List ℕ) → is_shortest (a ∷ b ∷ octets) ≡ true → (a ≡ 0 → 128 ≤ b) × (a ≡ 255 → b ≤ 127)
 kept a b octets e =
-    let o = or_parts (eqb a 0 && ltb b 128) (eqb a 255 && ltb 127 b) (not-true _ e) in
-    (λ z. elim (and_cases (eqb a 0) (ltb b 128) o.0) [ inl h ↦ absurd (eqb-false a 0 h z) | inr h ↦ ltb-false b 128 h ],
-     λ z. elim (and_cases (eqb a 255) (ltb 127 b) o.1) [ inl h ↦ absurd (eqb-false a 255 h z) | inr h ↦ ltb-false 127 b h ])
+    let o = or_parts (eqb a 0 && ltb b 128) (eqb a 255 && ltb 127 b) (not-true _ e) in (
+      λ z. elim (and_cases (eqb a 0) (ltb b 128) o.0) [ inl h ↦ absurd (eqb-false a 0 h z) | inr h ↦ ltb-false b 128 h ],
+      λ z. elim (and_cases (eqb a 255) (ltb 127 b) o.1) [ inl h ↦ absurd (eqb-false a 255 h z) | inr h ↦ ltb-false 127 b h ],
+    )
 
 power : (n : ℕ) → 256 ^ suc n ≡ 256 * 256 ^ n
 power n = pow-succ' 256 n
@@ -199,10 +199,10 @@ negative_range (a ∷ b ∷ octets) f s n =
       above = elim (cases_lt a 255) [
         | inl lt ↦ let le : suc a * p ≤ 255 * p = mul-le-mul_right p lt in omega (arith, power (suc (length octets)))
         | inr ge ↦
-          let same : a ≡ 255 = omega arith in
-          let le : suc b * q ≤ 128 * q = let small = k.1 same in mul-le-mul_right q (omega arith) in
-          let one : a * p ≡ 255 * p = ap (λ (x : ℕ). x * p) same in
-          omega (arith, power (suc (length octets)), power (length octets))
+            let same : a ≡ 255 = omega arith in
+            let le : suc b * q ≤ 128 * q = let small = k.1 same in mul-le-mul_right q (omega arith) in
+            let one : a * p ≡ 255 * p = ap (λ (x : ℕ). x * p) same in
+            omega (arith, power (suc (length octets)), power (length octets))
       ];
       below = omega (arith, power (suc (length octets)));
     }

@@ -1,5 +1,5 @@
 -- BIT STRING (X.690 8.6, 11.2): the number of unused bits, and octets whose first bit comes first.
-use Rattle.std.specs.Prelude.{◌≡◌, ℕ, ◌<◌, ◌+◌, ◌-◌, ◌*◌, ◌/◌, ◌%◌, ◌^◌, ◌==◌, ◌&&◌, not, nat_lt, Bool, true, false, List, [], ◌∷◌, ◌++◌, length, take, drop, slice_index, replicate, if◌then◌else◌}
+use Rattle.std.specs.Prelude.{◌≡◌, ℕ, ◌<◌, ◌-◌, ◌*◌, ◌/◌, ◌%◌, ◌^◌, ◌==◌, ◌&&◌, not, nat_lt, Bool, true, false, List, [], ◌∷◌, ◌++◌, length, take, drop, slice_index, replicate, if◌then◌else◌}
 use Rattle.std.specs.List.{flat_map}
 use Rattle.ts_der.specs.declared.fault.DerFault.TheVariants.{BitsForm, NamedBits}
 use Rattle.ts_der.specs.Rules.{Rule, rule}

@@ -1,9 +1,5 @@
 -- Elements: tag, length and content (X.690 8.1, 10.1), each with one spelling.
-use Rattle.std.specs.Prelude.{◌≡◌, ◌≢◌, ℕ, ◌+◌, ◌*◌, ◌-◌, ◌/◌, ◌%◌, ◌^◌, ◌<◌, ◌==◌, ◌&&◌, ◌||◌, nat_lt, Bool, List, [], ◌∷◌, ◌++◌, length, take, drop, fold, slice_index, Option, Some, None, Result, Ok, Err, if◌then◌else◌}
-use Rattle.ts_der.specs.declared.fault.DerFault.{DerFault}
-use Rattle.ts_der.specs.declared.fault.DerFault.TheVariants.{Truncated, HighTag, Indefinite, LongLength, TooLarge}
-use Rattle.ts_der.specs.declared.fault.Fault.{Fault}
-use Rattle.ts_der.specs.Rules.{Rule, rule, first_broken}
+use Rattle.std.specs.Prelude.{◌≡◌, ◌≢◌, ℕ, ◌+◌, ◌*◌, ◌/◌, ◌%◌, ◌^◌, ◌<◌, nat_lt, List, [], ◌∷◌, ◌++◌, length, fold, if◌then◌else◌}
 
 -- the number that octets are, the most significant first (X.690 8.1.3.5)
 unfoldable pub number : List ℕ → ℕ
@@ -58,6 +54,9 @@ pub record StandsAt (here : Place) (e : Tlv) (after : Place) : Type 0 where
 abbrev pub spelled_at : ℕ → ℕ → List ℕ → Tlv
 spelled_at at tag content =
     record {
-      tag = tag; content = content; whole = spell tag content;
-      at = at; start = at + 1 + length (length_octets (length content));
+      tag = tag;
+      content = content;
+      whole = spell tag content;
+      at = at;
+      start = at + 1 + length (length_octets (length content));
     }

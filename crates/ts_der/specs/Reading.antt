@@ -6,7 +6,7 @@ use Rattle.ts_der.specs.declared.fault.Fault.{Fault}
 use Rattle.ts_der.specs.Answer.{◌>>=◌}
 use Rattle.ts_der.specs.Rules.{Rule, first_broken, checked}
 use Rattle.ts_der.specs.Element.{Place, Tlv}
-use Rattle.ts_der.specs.Header.{tag_of, header_size, length_of, header_rules, rules_for}
+use Rattle.ts_der.specs.Header.{tag_of, header_size, length_of, header_rules}
 
 -- a rule that is broken, with its place
 abbrev pub fault_at : ℕ → DerFault → Fault
@@ -28,8 +28,11 @@ element_of here =
     let size = header_size here.rest in
     let len = length_of here.rest in
     record {
-      tag = tag_of here.rest; content = take len (drop size here.rest); whole = take (size + len) here.rest;
-      at = here.at; start = here.at + size;
+      tag = tag_of here.rest;
+      content = take len (drop size here.rest);
+      whole = take (size + len) here.rest;
+      at = here.at;
+      start = here.at + size;
     }
 
 -- and the place behind it

@@ -4,7 +4,7 @@ use Rattle.std.specs.List.{flat_map, AllByRecursion}
 use Rattle.ts_der.specs.declared.fault.DerFault.TheVariants.{SetOrder}
 use Rattle.ts_der.specs.declared.fault.Fault.{Fault}
 use Rattle.ts_der.specs.Answer.{◌>>=◌}
-use Rattle.ts_der.specs.Element.{Place, Tlv, Fits, spell, inside}
+use Rattle.ts_der.specs.Element.{Tlv, Fits, spell, inside}
 use Rattle.ts_der.specs.Reading.{fault_at, next_at, many}
 
 -- the first octets are at most the second, zero octets standing where one has come to its end

@@ -1,5 +1,5 @@
 -- What contracts see of the elements that readers lend.
-use Rattle.std.specs.Prelude.{◌≡◌, ℕ, Option, Some, None, option_map, Result, Ok, Err}
+use Rattle.std.specs.Prelude.{◌≡◌, ℕ, Option, Some, None, Result, Ok, Err}
 use Rattle.ts_der.specs.declared.fault.Fault.{Fault}
 use Rattle.ts_der.specs.declared.reader.Element.{Element}
 use Rattle.ts_der.specs.Element.{Place, Tlv, StandsAt}

@@ -54,7 +54,11 @@ pub fn read_header(rest: &[u8]) -> Result<Header, DerFault>
         if more.len() < *form as usize {
             return Err(DerFault::Truncated);
         }
-        return Ok(Header { tag: *tag, size: 2, length: *form as usize });
+        return Ok(Header {
+            tag: *tag,
+            size: 2,
+            length: *form as usize,
+        });
     }
     if *form == 0x80 {
         return Err(DerFault::Indefinite);
@@ -74,5 +78,9 @@ pub fn read_header(rest: &[u8]) -> Result<Header, DerFault>
     if content.len() < length {
         return Err(DerFault::Truncated);
     }
-    Ok(Header { tag: *tag, size: 2 + count, length })
+    Ok(Header {
+        tag: *tag,
+        size: 2 + count,
+        length,
+    })
 }

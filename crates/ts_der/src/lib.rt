@@ -18,11 +18,10 @@ pub mod one_spelling;
 mod owned_oid;
 mod reader;
 mod set_of;
-mod text;
-mod writer;
-
 #[cfg(test)]
 mod tests;
+mod text;
+mod writer;
 
 pub use bits::Bits;
 pub use fault::{DerFault, Fault, located};

@@ -28,7 +28,11 @@ fn are_subidentifiers(octets: &[u8]) -> bool
             return false;
         }
         begun = *octet >= 0x80;
-        value = if begun { value << 7 | u128::from(*octet & 0x7f) } else { 0 };
+        value = if begun {
+            value << 7 | u128::from(*octet & 0x7f)
+        } else {
+            0
+        };
     }
     !begun
 }

@@ -2,8 +2,11 @@ use super::*;
 use std::test::*;
 
 const BOOLEAN: u8 = 0x01;
+
 const INTEGER: u8 = 0x02;
+
 const OCTET_STRING: u8 = 0x04;
+
 const SEQUENCE: u8 = 0x30;
 
 fn fault_of<T: Drop>(answer: Result<T, Fault>) -> Option<Fault> {
@@ -27,7 +30,10 @@ fn header_faults(rt: HostRuntime) {
         (&[0xbf], DerFault::HighTag),
         (&[0x04], DerFault::Truncated),
         (&[0x04, 0x80, 0x00, 0x00], DerFault::Indefinite),
-        (&[0x04, 0x85, 0x00, 0x00, 0x00, 0x00, 0x01], DerFault::TooLarge),
+        (
+            &[0x04, 0x85, 0x00, 0x00, 0x00, 0x00, 0x01],
+            DerFault::TooLarge,
+        ),
         (&[0x30, 0x84, 0xff, 0xff, 0xff, 0xff], DerFault::Truncated),
         (&[0x04, 0x82, 0x01], DerFault::Truncated),
         (&[0x04, 0x81, 0x7f], DerFault::LongLength),
@@ -50,7 +56,10 @@ fn readers_and_places(rt: HostRuntime) -> Result<(), Fail> {
     let outer = input.element(SEQUENCE).map_err(|_| "outer")?;
     assert_eq!(rt; (outer.at, outer.start, outer.whole.len()), (0, 2, 13));
     let mut fields = outer.reader();
-    assert_eq!(rt; fault_of(fields.element(INTEGER)), fault(DerFault::WrongTag, 2));
+    assert_eq!(rt;
+        fault_of(fields.element(INTEGER)),
+        fault(DerFault::WrongTag, 2)
+    );
     assert!(rt; fields.optional(INTEGER).is_ok_and(|e| e.is_none()));
     assert!(rt; fields.flag(BOOLEAN).is_ok_and(|value| value));
     assert!(rt; fields.flag(BOOLEAN).is_ok_and(|value| !value));
@@ -72,10 +81,19 @@ fn readers_and_places(rt: HostRuntime) -> Result<(), Fail> {
 fn a_default_is_absent(rt: HostRuntime) {
     let octets = [0x30, 0x03, 0x01, 0x01, 0x00];
     let mut fields = Reader::new(&octets[2..]);
-    assert_eq!(rt; fault_of(fields.flag(BOOLEAN)), fault(DerFault::DefaultEncoded, 0));
-    assert_eq!(rt; fault_of(fields.flag(BOOLEAN)), fault(DerFault::DefaultEncoded, 0));
+    assert_eq!(rt;
+        fault_of(fields.flag(BOOLEAN)),
+        fault(DerFault::DefaultEncoded, 0)
+    );
+    assert_eq!(rt;
+        fault_of(fields.flag(BOOLEAN)),
+        fault(DerFault::DefaultEncoded, 0)
+    );
     let mut fields = Reader::new(&[0x81, 0x01, 0x01]);
-    assert_eq!(rt; fault_of(fields.flag(0x81)), fault(DerFault::BooleanForm, 0));
+    assert_eq!(rt;
+        fault_of(fields.flag(0x81)),
+        fault(DerFault::BooleanForm, 0)
+    );
 }
 
 #[test]
@@ -104,18 +122,31 @@ fn integers(rt: HostRuntime) {
         &[0x02, 0x03, 0x00, 0x00, 0x80],
     ] {
         let element = first(octets);
-        assert_eq!(rt; fault_of(element.and_then(|e| e.integer())), fault(DerFault::IntegerForm, 0), "{octets:?}");
+        assert_eq!(rt;
+            fault_of(element.and_then(|e| e.integer())),
+            fault(DerFault::IntegerForm, 0),
+            "{octets:?}"
+        );
     }
     for (octets, negative) in [
         ([0x02, 0x01, 0x00].as_slice(), false),
         (&[0x02, 0x02, 0x00, 0x80], false),
         (&[0x02, 0x01, 0x80], true),
         (&[0x02, 0x02, 0xff, 0x7f], true),
-        (&[0x02, 0x09, 0x00, 0xff, 0xff, 0xff, 0xff, 0xff, 0xff, 0xff, 0xff], false),
+        (
+            &[
+                0x02, 0x09, 0x00, 0xff, 0xff, 0xff, 0xff, 0xff, 0xff, 0xff, 0xff,
+            ],
+            false,
+        ),
     ] {
         let read = first(octets).and_then(|e| e.integer());
         assert_eq!(rt; read.map(|i| i.is_negative()), Ok(negative), "{octets:?}");
-        assert_eq!(rt; read.ok().map(|i| i.octets), Some(&octets[2..]), "{octets:?}");
+        assert_eq!(rt;
+            read.ok().map(|i| i.octets),
+            Some(&octets[2..]),
+            "{octets:?}"
+        );
     }
 }
 
@@ -126,13 +157,23 @@ fn small_integers(rt: HostRuntime) {
         (&[0x02, 0x02, 0x00, 0x80], Ok(128)),
         (&[0x02, 0x04, 0x7f, 0xff, 0xff, 0xff], Ok(0x7fff_ffff)),
         (&[0x02, 0x05, 0x00, 0xff, 0xff, 0xff, 0xff], Ok(0xffff_ffff)),
-        (&[0x02, 0x05, 0x01, 0x00, 0x00, 0x00, 0x00], Err(DerFault::TooLarge)),
-        (&[0x02, 0x06, 0x00, 0x80, 0x00, 0x00, 0x00, 0x00], Err(DerFault::TooLarge)),
+        (
+            &[0x02, 0x05, 0x01, 0x00, 0x00, 0x00, 0x00],
+            Err(DerFault::TooLarge),
+        ),
+        (
+            &[0x02, 0x06, 0x00, 0x80, 0x00, 0x00, 0x00, 0x00],
+            Err(DerFault::TooLarge),
+        ),
         (&[0x02, 0x01, 0xff], Err(DerFault::IntegerForm)),
         (&[0x02, 0x02, 0x00, 0x01], Err(DerFault::IntegerForm)),
     ] {
         let read = first(octets).and_then(|e| e.small());
-        assert_eq!(rt; read, value.map_err(|kind| Fault { kind, at: 0 }), "{octets:?}");
+        assert_eq!(rt;
+            read,
+            value.map_err(|kind| Fault { kind, at: 0 }),
+            "{octets:?}"
+        );
     }
 }
 
@@ -160,12 +201,24 @@ fn bit_strings(rt: HostRuntime) {
     ] {
         let bits = first(octets).and_then(|e| e.bits());
         assert_eq!(rt; bits.map(|b| b.unused), Ok(octets[2]), "{octets:?}");
-        assert_eq!(rt; bits.ok().map(|b| b.octets), Some(&octets[3..]), "{octets:?}");
+        assert_eq!(rt;
+            bits.ok().map(|b| b.octets),
+            Some(&octets[3..]),
+            "{octets:?}"
+        );
         let read = first(octets).and_then(|e| e.named_bits());
-        let refused = if named { None } else { fault(DerFault::NamedBits, 0) };
+        let refused = if named {
+            None
+        } else {
+            fault(DerFault::NamedBits, 0)
+        };
         assert_eq!(rt; read.err(), refused, "{octets:?}");
         let read = first(octets).and_then(|e| e.whole_octets());
-        let refused = if whole { None } else { fault(DerFault::BitsForm, 0) };
+        let refused = if whole {
+            None
+        } else {
+            fault(DerFault::BitsForm, 0)
+        };
         assert_eq!(rt; read.err(), refused, "{octets:?}");
     }
 }
@@ -179,8 +232,8 @@ fn object_identifiers(rt: HostRuntime) {
         &[0x06, 0x03, 0x2a, 0x80, 0x01],
         // 2^128
         &[
-            0x06, 0x14, 0x2a, 0x84, 0x80, 0x80, 0x80, 0x80, 0x80, 0x80, 0x80, 0x80, 0x80, 0x80, 0x80, 0x80, 0x80,
-            0x80, 0x80, 0x80, 0x80, 0x00,
+            0x06, 0x14, 0x2a, 0x84, 0x80, 0x80, 0x80, 0x80, 0x80, 0x80, 0x80, 0x80, 0x80, 0x80,
+            0x80, 0x80, 0x80, 0x80, 0x80, 0x80, 0x80, 0x00,
         ],
     ] {
         let read = first(octets).and_then(|e| e.oid());
@@ -191,12 +244,16 @@ fn object_identifiers(rt: HostRuntime) {
         &[0x06, 0x01, 0x00],
         // 2^128 - 1
         &[
-            0x06, 0x14, 0x2a, 0x83, 0xff, 0xff, 0xff, 0xff, 0xff, 0xff, 0xff, 0xff, 0xff, 0xff, 0xff, 0xff, 0xff,
-            0xff, 0xff, 0xff, 0xff, 0x7f,
+            0x06, 0x14, 0x2a, 0x83, 0xff, 0xff, 0xff, 0xff, 0xff, 0xff, 0xff, 0xff, 0xff, 0xff,
+            0xff, 0xff, 0xff, 0xff, 0xff, 0xff, 0xff, 0x7f,
         ],
     ] {
         let read = first(octets).and_then(|e| e.oid());
-        assert_eq!(rt; read.ok().map(|o| o.content), Some(&octets[2..]), "{octets:?}");
+        assert_eq!(rt;
+            read.ok().map(|o| o.content),
+            Some(&octets[2..]),
+            "{octets:?}"
+        );
     }
     // 128 octets are the most
     let mut octets = [0x01; 132];
@@ -205,17 +262,32 @@ fn object_identifiers(rt: HostRuntime) {
     octets[2] = 0x80;
     assert!(rt; first(&octets[..131]).and_then(|e| e.oid()).is_ok());
     octets[2] = 0x81;
-    assert_eq!(rt; fault_of(first(&octets).and_then(|e| e.oid())), fault(DerFault::OidForm, 0));
+    assert_eq!(rt;
+        fault_of(first(&octets).and_then(|e| e.oid())),
+        fault(DerFault::OidForm, 0)
+    );
 }
 
 #[test]
 fn texts(rt: HostRuntime) {
     let e_acute = [0x0c, 0x02, 0xc3, 0xa9];
     assert_eq!(rt; first(&e_acute).and_then(|e| e.utf8()), Ok("é"));
-    assert_eq!(rt; fault_of(first(&e_acute).and_then(|e| e.ascii())), fault(DerFault::TextForm, 0));
-    assert_eq!(rt; fault_of(first(&[0x0c, 0x01, 0xc3]).and_then(|e| e.utf8())), fault(DerFault::TextForm, 0));
-    assert_eq!(rt; first(&[0x13, 0x02, 0x41, 0x7f]).and_then(|e| e.ascii()), Ok([0x41, 0x7f].as_slice()));
-    assert_eq!(rt; fault_of(first(&[0x13, 0x01, 0x80]).and_then(|e| e.ascii())), fault(DerFault::TextForm, 0));
+    assert_eq!(rt;
+        fault_of(first(&e_acute).and_then(|e| e.ascii())),
+        fault(DerFault::TextForm, 0)
+    );
+    assert_eq!(rt;
+        fault_of(first(&[0x0c, 0x01, 0xc3]).and_then(|e| e.utf8())),
+        fault(DerFault::TextForm, 0)
+    );
+    assert_eq!(rt;
+        first(&[0x13, 0x02, 0x41, 0x7f]).and_then(|e| e.ascii()),
+        Ok([0x41, 0x7f].as_slice())
+    );
+    assert_eq!(rt;
+        fault_of(first(&[0x13, 0x01, 0x80]).and_then(|e| e.ascii())),
+        fault(DerFault::TextForm, 0)
+    );
 }
 
 #[test]
@@ -224,10 +296,22 @@ fn sets(rt: HostRuntime) {
         ([0x31, 0x00].as_slice(), None),
         (&[0x31, 0x06, 0x02, 0x01, 0x01, 0x02, 0x01, 0x01], None),
         (&[0x31, 0x06, 0x02, 0x01, 0x01, 0x02, 0x01, 0x02], None),
-        (&[0x31, 0x06, 0x02, 0x01, 0x02, 0x02, 0x01, 0x01], fault(DerFault::SetOrder, 0)),
-        (&[0x31, 0x07, 0x02, 0x02, 0x00, 0x80, 0x02, 0x01, 0x01], fault(DerFault::SetOrder, 0)),
-        (&[0x31, 0x05, 0x04, 0x00, 0x02, 0x01, 0x01], fault(DerFault::SetOrder, 0)),
-        (&[0x31, 0x06, 0x02, 0x01, 0x02, 0x02, 0x02, 0x01], fault(DerFault::Truncated, 5)),
+        (
+            &[0x31, 0x06, 0x02, 0x01, 0x02, 0x02, 0x01, 0x01],
+            fault(DerFault::SetOrder, 0),
+        ),
+        (
+            &[0x31, 0x07, 0x02, 0x02, 0x00, 0x80, 0x02, 0x01, 0x01],
+            fault(DerFault::SetOrder, 0),
+        ),
+        (
+            &[0x31, 0x05, 0x04, 0x00, 0x02, 0x01, 0x01],
+            fault(DerFault::SetOrder, 0),
+        ),
+        (
+            &[0x31, 0x06, 0x02, 0x01, 0x02, 0x02, 0x02, 0x01],
+            fault(DerFault::Truncated, 5),
+        ),
     ] {
         let set = first(octets).and_then(|e| e.set_of());
         assert_eq!(rt; fault_of(set), refused, "{octets:?}");
@@ -255,7 +339,10 @@ fn lengths_written(rt: HostRuntime) -> Result<(), Fail> {
         assert!(rt; octets.len() >= header.len());
         assert_eq!(rt; &octets[..header.len()], header);
         let read = first(&octets);
-        assert_eq!(rt; read.map(|e| (e.start, e.content.len())), Ok((header.len(), length)));
+        assert_eq!(rt;
+            read.map(|e| (e.start, e.content.len())),
+            Ok((header.len(), length))
+        );
     }
     Ok(())
 }
@@ -271,8 +358,14 @@ fn integers_written(rt: HostRuntime) -> Result<(), Fail> {
         (-128, &[0x02, 0x01, 0x80]),
         (-129, &[0x02, 0x02, 0xff, 0x7f]),
         (4_294_967_295, &[0x02, 0x05, 0x00, 0xff, 0xff, 0xff, 0xff]),
-        (i64::MIN, &[0x02, 0x08, 0x80, 0x00, 0x00, 0x00, 0x00, 0x00, 0x00, 0x00]),
-        (i64::MAX, &[0x02, 0x08, 0x7f, 0xff, 0xff, 0xff, 0xff, 0xff, 0xff, 0xff]),
+        (
+            i64::MIN,
+            &[0x02, 0x08, 0x80, 0x00, 0x00, 0x00, 0x00, 0x00, 0x00, 0x00],
+        ),
+        (
+            i64::MAX,
+            &[0x02, 0x08, 0x7f, 0xff, 0xff, 0xff, 0xff, 0xff, 0xff, 0xff],
+        ),
     ] {
         let mut writer = Writer::new(rt.alloc());
         writer.integer(INTEGER, value)?;
