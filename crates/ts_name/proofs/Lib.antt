@@ -1,0 +1,12 @@
+pub mod Words
+pub mod Streams
+pub mod AttributeForms
+pub mod Order
+pub mod Inserts
+pub mod Equal
+pub mod Walks
+pub mod Codecs
+pub mod Shapes
+pub mod Items
+pub mod NameLists
+pub mod Counting

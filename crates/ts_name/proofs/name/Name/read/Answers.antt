@@ -1,0 +1,15 @@
+use Rattle.std.proofs.Common.{◌≡◌, refl}
+use Rattle.ts_der.specs.View.{now}
+use Rattle.ts_name.specs.NameSpelling.{IsName}
+use Rattle.ts_name.specs.NameView.{rdns_in}
+use Rattle.ts_name.proofs.Walks.{IfOk-answers, IsOkAnd-answers}
+use Rattle.ts_name.proofs.Shapes.{name-found, name-again}
+use Rattle.ts_name.proofs.name.Name.read.Goals as goal
+
+pub returns-clause-found : goal.returns-clause-found
+returns-clause-found c =
+    let e = now c.args.element in
+    IfOk-answers rdns_in c.read_name.result _ (λ rdns. IsName e.content rdns) c.read_name.ensures (λ rdns read. name-found e rdns c.args.element.octets read)
+
+pub returns-clause-only : goal.returns-clause-only
+returns-clause-only c = λ rdns is. IsOkAnd-answers rdns_in c.read_name.result _ rdns (λ names. names ≡ rdns) c.read_name.ensures (name-again (now c.args.element) rdns is) refl

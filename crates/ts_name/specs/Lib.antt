@@ -1,0 +1,11 @@
+pub mod Fault
+pub mod Canon
+pub mod Gaps
+pub mod Folding
+pub mod View
+pub mod CanonView
+pub mod Names
+pub mod NameView
+pub mod Steps
+pub mod NameSpelling
+pub mod Sameness

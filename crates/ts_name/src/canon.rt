@@ -1,0 +1,124 @@
+//! Names in canonical form, owned.
+
+ghost use Rattle.std.specs.Prelude.{◌≡◌, ◌++◌, [], ◌∷◌, ◌↔◌, IsTrue, IfOk, OnOk, OnErr};
+ghost use Rattle.ts_name.specs.Canon.{canon_attr, at_most, insert_attr};
+ghost use Rattle.ts_name.specs.CanonView.{attr_in};
+ghost use Rattle.ts_name.specs.View.{attr_of};
+
+use crate::attribute::{Attribute, UTF8_STRING};
+use crate::folded::Folded;
+use std::alloc::{AllocError, Global};
+
+/// An attribute in canonical form.
+#[derive(Debug, Drop, PartialEq, Eq, PartialOrd, Ord)]
+pub struct CanonAttribute {
+    /// The type: the content octets of its OBJECT IDENTIFIER.
+    pub kind: Vec<u8>,
+    /// The tag of the value, that of UTF8String for every text.
+    pub tag: u8,
+    /// The octets of the value: of a text, its words with one space between each two, the letters A to Z as a to z.
+    pub value: Vec<u8>,
+}
+
+/// The attributes of a relative distinguished name in canonical form, in ascending order.
+#[derive(Debug, Drop, PartialEq, Eq, PartialOrd, Ord)]
+pub struct CanonRdn {
+    attributes: Vec<CanonAttribute>,
+}
+
+/// A name in canonical form: the relative distinguished names, in the order of the name.
+#[derive(Debug, Drop, PartialEq, Eq, PartialOrd, Ord)]
+pub struct Canon {
+    rdns: Vec<CanonRdn>,
+}
+
+/// The canonical form of an attribute (RFC 5280 7.1), or `AllocError` where memory runs out.
+pub fn canon_attribute(
+    alloc: Global,
+    attribute: Attribute<'_>,
+) -> Result<CanonAttribute, AllocError>
+    ensures { IfOk result (λ canon. attr_in canon ≡ canon_attr (attr_of attribute.entry)) }
+{
+    let kind = Vec::from_slice(alloc, attribute.kind)?;
+    if attribute.is_text() {
+        let value = Folded::new(attribute.value).collect(alloc)?;
+        Ok(CanonAttribute {
+            kind,
+            tag: UTF8_STRING,
+            value,
+        })
+    } else {
+        let value = Vec::from_slice(alloc, attribute.value)?;
+        Ok(CanonAttribute {
+            kind,
+            tag: attribute.tag,
+            value,
+        })
+    }
+}
+
+/// Whether the first is at most the second, by type, then by tag, then by value.
+#[tactic(auto, unfolding(crate::specs::Canon::compare_attrs))]
+fn is_at_most(a: &CanonAttribute, b: &CanonAttribute) -> bool
+    ensures { result ≡ at_most (attr_in a.now) (attr_in b.now) }
+{
+    a.cmp(b).is_le()
+}
+
+impl CanonRdn {
+    ghost use Rattle.ts_name.specs.CanonView.{attr_in, attrs_in};
+
+    /// A relative distinguished name without attributes.
+    pub fn new(alloc: Global) -> Self
+        ensures { attrs_in result ≡ [] }
+    {
+        CanonRdn {
+            attributes: Vec::new(alloc),
+        }
+    }
+
+    /// Puts an attribute into its place in the order. Where memory runs out, the name stays as it was and the attribute is
+    /// dropped.
+    pub fn insert(&mut self, attribute: CanonAttribute) -> Result<(), AllocError>
+        ensures ok { OnOk result (attrs_in self.new ≡ insert_attr (attr_in attribute) (attrs_in self.old)) }
+        ensures err { OnErr result (attrs_in self.new ≡ attrs_in self.old) }
+    {
+        let place = self
+            .attributes
+            .iter()
+            .position(|other| is_at_most(&attribute, other))
+            .unwrap_or(self.attributes.len());
+        self.attributes.insert(place, attribute)?;
+        Ok(())
+    }
+}
+
+impl Canon {
+    ghost use Rattle.ts_name.specs.CanonView.{attrs_in, rdns_in};
+
+    /// A name without relative distinguished names.
+    pub fn new(alloc: Global) -> Self
+        ensures { rdns_in result ≡ [] }
+    {
+        Canon {
+            rdns: Vec::new(alloc),
+        }
+    }
+
+    /// Adds a relative distinguished name at the end. Where memory runs out, the name stays as it was and the other is
+    /// dropped.
+    pub fn push(&mut self, rdn: CanonRdn) -> Result<(), AllocError>
+        ensures ok { OnOk result (rdns_in self.new ≡ rdns_in self.old ++ attrs_in rdn ∷ []) }
+        ensures err { OnErr result (rdns_in self.new ≡ rdns_in self.old) }
+    {
+        self.rdns.push(rdn)?;
+        Ok(())
+    }
+
+    /// Whether two names are one in canonical form, as `==` says it.
+    pub fn same(&self, other: &Canon) -> bool
+        ensures { IsTrue result ↔ (rdns_in self.now ≡ rdns_in other.now) }
+    {
+        self == other
+    }
+}

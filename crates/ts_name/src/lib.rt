@@ -1,0 +1,26 @@
+//! Distinguished names: their attributes and the canonical form in which two of them are compared (RFC 5280 7.1).
+#![tactic(auto)]
+
+mod attribute;
+mod canon;
+mod canonical;
+mod fault;
+mod folded;
+pub mod laws;
+mod name;
+mod name_items;
+mod name_reading;
+#[cfg(test)]
+mod name_tests;
+mod rdn;
+mod sameness;
+#[cfg(test)]
+mod tests;
+
+pub use attribute::{Attribute, IA5_STRING, PRINTABLE_STRING, UTF8_STRING};
+pub use canon::{Canon, CanonAttribute, CanonRdn, canon_attribute};
+pub use fault::{CertFault, CertRule};
+pub use folded::same_text;
+pub use name::Name;
+pub use name_items::{Attributes, Rdns};
+pub use rdn::Rdn;

@@ -1,0 +1,130 @@
+//! Reading a distinguished name.
+
+ghost use Rattle.std.specs.Prelude.{◌≡◌, List, IfOk, IsOkAnd};
+ghost use Rattle.ts_der.specs.Answer.{Answers, refusal};
+ghost use Rattle.ts_der.specs.Element.{inside};
+ghost use Rattle.ts_der.specs.View.{now};
+ghost use Rattle.ts_der.specs.Reading.{value_at, many};
+ghost use Rattle.ts_name.specs.Names.{attribute_of, attribute_at, rdn_of, rdn_at, name_of, text_rules};
+ghost use Rattle.ts_name.specs.Steps.{Takes, Passes};
+ghost use Rattle.ts_name.specs.Canon.{Attr};
+ghost use Rattle.ts_name.specs.NameSpelling.{IsName};
+ghost use Rattle.ts_name.specs.NameView.{rdns_in};
+ghost use Rattle.ts_name.specs.View.{attr_of};
+
+use crate::attribute::{Attribute, IA5_STRING, PRINTABLE_STRING, UTF8_STRING};
+use crate::name::Name;
+use ts_der::{DerFault, Element, Fault, Reader};
+
+const OBJECT_IDENTIFIER: u8 = 0x06;
+
+pub(crate) const SEQUENCE: u8 = 0x30;
+
+pub(crate) const SET: u8 = 0x31;
+
+/// The content of an attribute's value, whose text obeys its character set.
+fn read_value<'a>(value: Element<'a>) -> Result<&'a [u8], Fault>
+    ensures { Answers (λ c. c.now) result (value_at (text_rules value.entry.tag) (λ c. c) (now value.entry)) }
+{
+    match value.tag {
+        UTF8_STRING => Ok(value.utf8()?.as_bytes()),
+        PRINTABLE_STRING | IA5_STRING => value.ascii(),
+        _ => Ok(value.content),
+    }
+}
+
+/// The attribute that a SEQUENCE's content is.
+#[tactic(auto, unfolding(crate::specs::Names::attribute_of))]
+pub(crate) fn read_attribute<'a>(element: Element<'a>) -> Result<Attribute<'a>, Fault>
+    ensures { Answers attr_of result (attribute_of (now element.entry)) }
+{
+    let mut fields = element.reader();
+    let kind = fields.element(OBJECT_IDENTIFIER)?.oid()?;
+    let value = fields.next()?;
+    let content = read_value(value)?;
+    fields.end()?;
+    Ok(Attribute {
+        kind: kind.content,
+        tag: value.tag,
+        value: content,
+    })
+}
+
+/// The next attribute of a set, which the reader has then passed.
+#[tactic(auto, unfolding(crate::specs::Names::within))]
+fn next_attribute<'a>(rest: &mut Reader<'a>) -> Result<Attribute<'a>, Fault>
+    ensures { Takes attr_of rest.new result (attribute_at rest.old) }
+{
+    let element = rest.element(SEQUENCE)?;
+    read_attribute(element)
+}
+
+/// The attributes of a set, one after another.
+fn check_attributes(set: Element<'_>) -> Result<(), Fault>
+    ensures { refusal result ≡ refusal (many attribute_at (inside (now set.entry))) }
+{
+    let mut rest = set.reader();
+    while !rest.is_at_end() {
+        next_attribute(&mut rest)?;
+    }
+    Ok(())
+}
+
+/// What stands in a set that is a relative distinguished name, and its order.
+#[tactic(auto, unfolding(crate::specs::Names::rdn_of))]
+fn check_rdn(set: Element<'_>) -> Result<(), Fault>
+    ensures { refusal result ≡ refusal (rdn_of (now set.entry)) }
+{
+    check_attributes(set)?;
+    if set.content.is_empty() {
+        return Err(Fault {
+            kind: DerFault::Empty,
+            at: set.at,
+        });
+    }
+    set.set_of()?;
+    Ok(())
+}
+
+/// The next relative distinguished name, which the reader has then passed.
+fn pass_rdn(rest: &mut Reader<'_>) -> Result<(), Fault>
+    ensures { Passes rest.new result (rdn_at rest.old) }
+{
+    let set = rest.element(SET)?;
+    check_rdn(set)
+}
+
+/// The relative distinguished names of a name, one after another.
+fn check_rdns(name: Element<'_>) -> Result<(), Fault>
+    ensures { refusal result ≡ refusal (name_of (now name.entry)) }
+{
+    let mut rest = name.reader();
+    while !rest.is_at_end() {
+        pass_rdn(&mut rest)?;
+    }
+    Ok(())
+}
+
+impl<'a> Name<'a> {
+    /// The name that a SEQUENCE's content is, or the first rule that is broken, at its place. The tag is not looked at.
+    ///
+    /// The rules in their order: of each relative distinguished name, its header (a SET); of each attribute in it, its
+    /// header (a SEQUENCE), its type (`OidForm`), its value's header and, of a UTF8String, PrintableString or
+    /// IA5String, its text (`TextForm`), and `Trailing`; then that the set is not empty (`Empty`) and in order
+    /// (`SetOrder`).
+    pub fn read(element: Element<'a>) -> Result<Name<'a>, Fault>
+        ensures found { IfOk result (λ name. IsName element.entry.content.now (rdns_in name)) }
+        ensures only { (rdns : List (List Attr)) → IsName element.entry.content.now rdns → IsOkAnd result (λ name. rdns_in name ≡ rdns) }
+        ensures fault { refusal result ≡ refusal (name_of (now element.entry)) }
+        ensures exact { Answers rdns_in result (name_of (now element.entry)) }
+    {
+        read_name(element)
+    }
+}
+
+fn read_name<'a>(element: Element<'a>) -> Result<Name<'a>, Fault>
+    ensures { Answers rdns_in result (name_of (now element.entry)) }
+{
+    check_rdns(element)?;
+    Ok(Name { element })
+}
