@@ -1,3 +1,4 @@
 pub mod CalendarLemmas
 pub mod CivilLemmas
+pub mod ReadingLemmas
 pub mod TextLemmas

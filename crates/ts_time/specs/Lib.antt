@@ -1,3 +1,4 @@
 pub mod Calendar
 pub mod Civil
+pub mod Reading
 pub mod Text

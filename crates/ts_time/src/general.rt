@@ -3,6 +3,7 @@
 ghost use Rattle.std.specs.Prelude.{◌≡◌, ◌↔◌, List, ℕ, ℤ, Some, Ok, IsSome, IfSome, IfOk, IfErr};
 ghost use Rattle.ts_der.specs.declared.fault.DerFault.TheVariants.{TimeForm};
 ghost use Rattle.ts_time.specs.Civil.{IsInYears};
+ghost use Rattle.ts_time.specs.Reading.{general_value};
 ghost use Rattle.ts_time.specs.Text.{IsGeneral};
 
 use crate::Moment;
@@ -22,6 +23,7 @@ pub fn read_general(content: &[u8]) -> Result<Moment, DerFault>
     ensures only { (m : ℤ) → IsGeneral content.now m → result ≡ Ok m }
     ensures fault { IfErr result (λ e.
         (e ≡ TimeForm) × ((m : ℤ) → ¬ (IsGeneral content.now m))) }
+    ensures exact { result ≡ general_value content.now }
 {
     find_general(content).ok_or(DerFault::TimeForm)
 }

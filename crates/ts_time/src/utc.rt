@@ -3,6 +3,7 @@
 ghost use Rattle.std.specs.Prelude.{◌≡◌, ◌↔◌, List, ℕ, ℤ, Some, Ok, IsSome, IfSome, IfOk, IfErr};
 ghost use Rattle.ts_der.specs.declared.fault.DerFault.TheVariants.{TimeForm};
 ghost use Rattle.ts_time.specs.Civil.{IsInYears};
+ghost use Rattle.ts_time.specs.Reading.{utc_value};
 ghost use Rattle.ts_time.specs.Text.{year_of_two, IsUtc};
 
 use crate::Moment;
@@ -23,6 +24,7 @@ pub fn read_utc(content: &[u8]) -> Result<Moment, DerFault>
     ensures only { (m : ℤ) → IsUtc content.now m → result ≡ Ok m }
     ensures fault { IfErr result (λ e.
         (e ≡ TimeForm) × ((m : ℤ) → ¬ (IsUtc content.now m))) }
+    ensures exact { result ≡ utc_value content.now }
 {
     find_utc(content).ok_or(DerFault::TimeForm)
 }
