@@ -1,0 +1,33 @@
+-- A certificate up to the subject's public key (RFC 5280 4.1): what its octets say, in the standard's field names.
+use Rattle.std.specs.Prelude.{ℕ, List, Option}
+use Rattle.ts_name.specs.Canon.{Attr}
+use Rattle.ts_cert.specs.declared.version.Version.{Version}
+use Rattle.ts_cert.specs.declared.time.Validity.{Validity}
+
+-- AlgorithmIdentifier (4.1.1.2): the content of the algorithm's OBJECT IDENTIFIER, the parameters as a whole element, and all of it
+pub record Algorithm : Type 0 where
+  pub algorithm : List ℕ
+  pub parameters : Option (List ℕ)
+  pub whole : List ℕ
+
+-- SubjectPublicKeyInfo (4.1.2.7): the octets of the key are those of a BIT STRING of whole octets
+pub record KeyInfo : Type 0 where
+  pub algorithm : Algorithm
+  pub subjectPublicKey : List ℕ
+
+-- TBSCertificate (4.1.2): the serial number is the content of its INTEGER, a name the attributes of its relative distinguished names
+pub record Tbs : Type 0 where
+  pub version : Version
+  pub serialNumber : List ℕ
+  pub signature : Algorithm
+  pub issuer : List (List Attr)
+  pub validity : Validity
+  pub subject : List (List Attr)
+  pub subjectPublicKeyInfo : KeyInfo
+
+-- Certificate (4.1.1): tbs is the octets that are signed, all of tbsCertificate
+pub record Certificate : Type 0 where
+  pub tbs : List ℕ
+  pub tbsCertificate : Tbs
+  pub signatureAlgorithm : Algorithm
+  pub signatureValue : List ℕ

@@ -1,0 +1,9 @@
+pub mod Certificate
+pub mod Fault
+pub mod View
+pub mod Spelling
+pub mod Version
+pub mod Time
+pub mod Steps
+pub mod CertView
+pub mod Reading

@@ -1,0 +1,118 @@
+-- The one spelling of a certificate (RFC 5280 4.1, as restated in Appendix A.1), from its parts up to the whole.
+use Rattle.std.specs.Prelude.{◌≡◌, ℕ, ◌≤◌, true, List, [], ◌∷◌, ◌++◌, length, Option, Some, None, unwrap_or, ℤ}
+use Rattle.ts_der.specs.Element.{Fits, spell}
+use Rattle.ts_der.specs.Integer.{is_shortest}
+use Rattle.ts_der.specs.ObjectIdentifier.{is_oid}
+use Rattle.ts_name.specs.NameSpelling.{IsName}
+use Rattle.ts_time.specs.Text.{IsUtc, IsGeneral}
+use Rattle.ts_cert.specs.declared.version.Version.{Version}
+use Rattle.ts_cert.specs.declared.version.Version.TheVariants.{V1, V2, V3}
+use Rattle.ts_cert.specs.declared.time.TimeForm.{TimeForm}
+use Rattle.ts_cert.specs.declared.time.TimeForm.TheVariants.{Utc, General}
+use Rattle.ts_cert.specs.declared.time.Time.{Time}
+use Rattle.ts_cert.specs.declared.time.Validity.{Validity}
+use Rattle.ts_cert.specs.Certificate.{Algorithm, KeyInfo, Tbs, Certificate}
+
+-- octets that are one element of this tag, whose content spells a value
+pub record Within {A : Type 0} (tag : ℕ) (Spells : List ℕ → A → Type 0) (octets : List ℕ) (x : A) : Type 0 where
+  pub content : List ℕ
+  pub fits : Fits tag content
+  pub spelled : octets ≡ spell tag content
+  pub value : Spells content x
+
+-- octets that are one element of any tag
+pub record IsAny (octets : List ℕ) : Type 0 where
+  pub tag : ℕ
+  pub content : List ℕ
+  pub fits : Fits tag content
+  pub spelled : octets ≡ spell tag content
+
+-- ---- the values of elements that hold no others
+
+-- OBJECT IDENTIFIER, by its content
+abbrev pub IsOid : List ℕ → List ℕ → Type 0
+IsOid content oid = (content ≡ oid) × (is_oid oid ≡ true)
+
+-- INTEGER, by its content
+abbrev pub IsInteger : List ℕ → List ℕ → Type 0
+IsInteger content octets = (content ≡ octets) × (is_shortest octets ≡ true)
+
+-- BIT STRING of whole octets: no bit is unused
+abbrev pub IsBits : List ℕ → List ℕ → Type 0
+IsBits content octets = content ≡ 0 ∷ octets
+
+-- Time ::= CHOICE { utcTime UTCTime, generalTime GeneralizedTime } (4.1.2.5)
+abbrev pub IsTimeIn : TimeForm → List ℕ → ℤ → Type 0
+IsTimeIn Utc octets moment = Within 0x17 IsUtc octets moment
+IsTimeIn General octets moment = Within 0x18 IsGeneral octets moment
+
+abbrev pub IsTime : List ℕ → Time → Type 0
+IsTime octets t = IsTimeIn t.form octets t.moment
+
+-- version [0] EXPLICIT Version DEFAULT v1, Version ::= INTEGER { v1(0), v2(1), v3(2) } (4.1.2.1): the default is absent
+abbrev pub version_octets : Version → List ℕ
+version_octets V1 = []
+version_octets V2 = spell 0xA0 (spell 0x02 (1 ∷ []))
+version_octets V3 = spell 0xA0 (spell 0x02 (2 ∷ []))
+
+-- ---- sequences
+
+-- parameters ANY DEFINED BY algorithm OPTIONAL
+abbrev pub AreParameters : Option (List ℕ) → Type 0
+AreParameters None = Unit {0}
+AreParameters (Some octets) = IsAny octets
+
+-- AlgorithmIdentifier ::= SEQUENCE { algorithm OBJECT IDENTIFIER, parameters } (4.1.1.2)
+pub record IsAlgorithm (content : List ℕ) (a : Algorithm) : Type 0 where
+  pub oid : List ℕ
+  pub algorithm : Within 0x06 IsOid oid a.algorithm
+  pub parameters : AreParameters a.parameters
+  pub fields : content ≡ oid ++ unwrap_or a.parameters []
+  pub whole : a.whole ≡ spell 0x30 content
+
+-- Validity ::= SEQUENCE { notBefore Time, notAfter Time } (4.1.2.5)
+pub record IsValidity (content : List ℕ) (v : Validity) : Type 0 where
+  pub before : List ℕ
+  pub after : List ℕ
+  pub not_before : IsTime before v.not_before
+  pub not_after : IsTime after v.not_after
+  pub fields : content ≡ before ++ after
+
+-- SubjectPublicKeyInfo ::= SEQUENCE { algorithm AlgorithmIdentifier, subjectPublicKey BIT STRING } (4.1.2.7)
+pub record IsKeyInfo (content : List ℕ) (k : KeyInfo) : Type 0 where
+  pub identifier : List ℕ
+  pub key : List ℕ
+  pub algorithm : Within 0x30 IsAlgorithm identifier k.algorithm
+  pub subjectPublicKey : Within 0x03 IsBits key k.subjectPublicKey
+  pub fields : content ≡ identifier ++ key
+
+-- TBSCertificate ::= SEQUENCE { version, serialNumber, signature, issuer, validity, subject, subjectPublicKeyInfo } (4.1.2)
+pub record IsTbs (content : List ℕ) (t : Tbs) : Type 0 where
+  pub serial : List ℕ
+  pub algorithm : List ℕ
+  pub issued_by : List ℕ
+  pub period : List ℕ
+  pub issued_to : List ℕ
+  pub key : List ℕ
+  pub serialNumber : Within 0x02 IsInteger serial t.serialNumber
+  pub signature : Within 0x30 IsAlgorithm algorithm t.signature
+  pub issuer : Within 0x30 IsName issued_by t.issuer
+  pub validity : Within 0x30 IsValidity period t.validity
+  pub subject : Within 0x30 IsName issued_to t.subject
+  pub subjectPublicKeyInfo : Within 0x30 IsKeyInfo key t.subjectPublicKeyInfo
+  pub fields : content ≡ version_octets t.version ++ (serial ++ (algorithm ++ (issued_by ++ (period ++ (issued_to ++ key)))))
+
+-- the fields of Certificate ::= SEQUENCE { tbsCertificate, signatureAlgorithm, signatureValue BIT STRING } (4.1.1)
+pub record IsSigned (content : List ℕ) (c : Certificate) : Type 0 where
+  pub identifier : List ℕ
+  pub bits : List ℕ
+  pub tbsCertificate : Within 0x30 IsTbs c.tbs c.tbsCertificate
+  pub signatureAlgorithm : Within 0x30 IsAlgorithm identifier c.signatureAlgorithm
+  pub signatureValue : Within 0x03 IsBits bits c.signatureValue
+  pub fields : content ≡ c.tbs ++ (identifier ++ bits)
+
+-- the octets are the certificate: at most 65,536, and both algorithm identifiers are one (4.1.1.2)
+pub record IsCertificate (octets : List ℕ) (c : Certificate) : Type 0 where
+  pub size : length octets ≤ 65536
+  pub whole : Within 0x30 IsSigned octets c
+  pub agree : c.tbsCertificate.signature ≡ c.signatureAlgorithm

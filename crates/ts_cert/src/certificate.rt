@@ -1,0 +1,135 @@
+//! Certificates.
+
+ghost use Rattle.std.specs.Prelude.{◌≡◌, IfOk, IsOkAnd};
+ghost use Rattle.std.specs.Option.{option_copied};
+ghost use Rattle.ts_der.specs.Answer.{Answers, refusal};
+ghost use Rattle.ts_name.specs.NameView.{rdns_in};
+ghost use Rattle.ts_cert.specs.Certificate.{Certificate};
+ghost use Rattle.ts_cert.specs.Reading.{certificate_of};
+ghost use Rattle.ts_cert.specs.Spelling.{IsCertificate};
+ghost use Rattle.ts_cert.specs.View.{algorithm_in, key_in};
+ghost use Rattle.ts_cert.specs.CertView.{cert_in};
+
+use crate::algorithm::AlgorithmIdentifier;
+use crate::key::SubjectPublicKeyInfo;
+use crate::shape::read_whole;
+use crate::time::Validity;
+use crate::version::Version;
+use ts_der::{DerFault, Integer};
+use ts_name::{CertFault, CertRule, Name};
+
+/// The greatest number of octets that a certificate may have in this profile.
+pub const MAX_CERTIFICATE: usize = 65_536;
+
+/// A certificate as it lies in the source (RFC 5280 4.1).
+#[derive(Clone, Copy)]
+pub struct Cert<'a> {
+    pub(crate) tbs: &'a [u8],
+    pub(crate) version: Version,
+    pub(crate) serial_number: Integer<'a>,
+    pub(crate) signature: AlgorithmIdentifier<'a>,
+    pub(crate) issuer: Name<'a>,
+    pub(crate) validity: Validity,
+    pub(crate) subject: Name<'a>,
+    pub(crate) subject_public_key_info: SubjectPublicKeyInfo<'a>,
+    pub(crate) signature_algorithm: AlgorithmIdentifier<'a>,
+    pub(crate) signature_value: &'a [u8],
+    /// The offset of the algorithm identifier beside the signature.
+    pub(crate) identifier_at: usize,
+}
+
+impl<'a> Cert<'a> {
+    /// The certificate that octets are.
+    ///
+    /// # Errors
+    ///
+    /// The first rule that is broken, with its place: first more than 65,536 octets (`TooLarge` at 0); then the shape
+    /// from front to back, a version other than 1, 2 and 3 (`Version`) in its place; then `AlgorithmMismatch`, at the
+    /// algorithm identifier beside the signature.
+    pub fn read(octets: &'a [u8]) -> Result<Cert<'a>, CertFault>
+        // What is read is spelled so.
+        ensures found { IfOk result (λ cert. IsCertificate octets.now (cert_in cert)) }
+        // What is spelled so is read.
+        ensures only { (c : Certificate) → IsCertificate octets.now c → IsOkAnd result (λ cert. cert_in cert ≡ c) }
+        ensures fault { refusal result ≡ refusal (certificate_of octets.now) }
+        ensures exact { Answers cert_in result (certificate_of octets.now) }
+    {
+        read_certificate(octets)
+    }
+
+    /// The octets that are signed: all of tbsCertificate, header included, as they were read (RFC 5280 4.1.1.3).
+    pub fn tbs(&self) -> &'a [u8]
+        ensures { result.now ≡ (cert_in self.now).tbs }
+    {
+        self.tbs
+    }
+
+    /// The version (RFC 5280 4.1.2.1).
+    pub fn version(&self) -> Version
+        ensures { result ≡ (cert_in self.now).tbsCertificate.version }
+    {
+        self.version
+    }
+
+    /// The serial number, of any length and sign (RFC 5280 4.1.2.2).
+    pub fn serial_number(&self) -> Integer<'a>
+        ensures { result.octets.now ≡ (cert_in self.now).tbsCertificate.serialNumber }
+    {
+        self.serial_number
+    }
+
+    /// The issuer (RFC 5280 4.1.2.4).
+    pub fn issuer(&self) -> Name<'a>
+        ensures { rdns_in result ≡ (cert_in self.now).tbsCertificate.issuer }
+    {
+        self.issuer
+    }
+
+    /// From when to when the certificate is valid (RFC 5280 4.1.2.5).
+    pub fn validity(&self) -> Validity
+        ensures { result ≡ (cert_in self.now).tbsCertificate.validity }
+    {
+        self.validity
+    }
+
+    /// The subject (RFC 5280 4.1.2.6).
+    pub fn subject(&self) -> Name<'a>
+        ensures { rdns_in result ≡ (cert_in self.now).tbsCertificate.subject }
+    {
+        self.subject
+    }
+
+    /// The subject's public key and its algorithm (RFC 5280 4.1.2.7).
+    pub fn subject_public_key_info(&self) -> SubjectPublicKeyInfo<'a>
+        ensures { key_in result ≡ (cert_in self.now).tbsCertificate.subjectPublicKeyInfo }
+    {
+        self.subject_public_key_info
+    }
+
+    /// The algorithm of the signature; it is the same within what is signed and beside the signature (RFC 5280 4.1.1.2).
+    pub fn signature_algorithm(&self) -> AlgorithmIdentifier<'a>
+        ensures { algorithm_in result ≡ (cert_in self.now).signatureAlgorithm }
+    {
+        self.signature_algorithm
+    }
+
+    /// The octets of the signature (RFC 5280 4.1.1.3).
+    pub fn signature(&self) -> &'a [u8]
+        ensures { result.now ≡ (cert_in self.now).signatureValue }
+    {
+        self.signature_value
+    }
+}
+
+#[tactic(auto, unfolding(crate::specs::Reading::certificate_of))]
+fn read_certificate(octets: &[u8]) -> Result<Cert<'_>, CertFault>
+    ensures { Answers cert_in result (certificate_of octets.now) }
+{
+    if octets.len() > MAX_CERTIFICATE {
+        return Err(CertFault {
+            kind: CertRule::Der(DerFault::TooLarge),
+            at: 0,
+        });
+    }
+    read_whole(octets)
+}

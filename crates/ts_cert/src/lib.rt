@@ -1,0 +1,21 @@
+//! X.509 certificates (RFC 5280 4.1), up to the subject's public key, read where they lie: no memory, no copy, and of
+//! octets that are none the first rule that is broken, with its place.
+#![tactic(auto)]
+
+mod algorithm;
+mod certificate;
+mod fields;
+mod key;
+pub mod laws;
+mod shape;
+mod tbs;
+#[cfg(test)]
+mod tests;
+mod time;
+mod version;
+
+pub use algorithm::AlgorithmIdentifier;
+pub use certificate::{Cert, MAX_CERTIFICATE};
+pub use key::SubjectPublicKeyInfo;
+pub use time::{Time, TimeForm, Validity};
+pub use version::Version;
