@@ -1,5 +1,5 @@
 -- Certificates: what is read is spelled so, and what is spelled so is read.
-use Rattle.std.proofs.Common.{◌≡◌, ℕ, ◌+◌, ◌≤◌, Bool, true, false, cond, ltb, List, [], ◌∷◌, ◌++◌, length, Option, Some, None, Result, Ok, Err, refl, sym, ap, subst, ◌∙◌, arith}
+use Rattle.std.proofs.Common.{◌≡◌, ℕ, ◌+◌, Bool, true, false, cond, ltb, List, [], ◌++◌, length, Result, Ok, Err, refl, sym, ap, subst, ◌∙◌}
 use Rattle.std.specs.Str.{bytes_eq}
 use Rattle.std.proofs.lemmas.Bool.{ltb-false, le-ltb}
 use Rattle.std.proofs.lemmas.Slice.Eq.{bytes_eq-Decides}
@@ -7,8 +7,7 @@ use Rattle.std.proofs.lemmas.List.{append-nil}
 use Rattle.ts_der.specs.declared.fault.DerFault.TheVariants.{TooLarge}
 use Rattle.ts_der.specs.declared.fault.Fault.{Fault}
 use Rattle.ts_der.specs.Octets.{AreOctets}
-use Rattle.ts_der.specs.Answer.{◌>>=◌}
-use Rattle.ts_der.specs.Element.{Place, Tlv, Fits, spell, inside, spelled_at}
+use Rattle.ts_der.specs.Element.{Place, Tlv, spell, inside, spelled_at}
 use Rattle.ts_der.specs.Reading.{begins_with, element_at, end_at}
 use Rattle.ts_der.proofs.OctetLists.{AreOctets-back}
 use Rattle.ts_der.proofs.Laws.{bind_ok, ok_is, element-only}
@@ -20,7 +19,7 @@ use Rattle.ts_cert.specs.Fault.{der, breaks}
 use Rattle.ts_cert.specs.Spelling.{Within, IsAlgorithm, IsTbs, IsSigned, IsCertificate, version_octets}
 use Rattle.ts_cert.specs.Version.{version_at}
 use Rattle.ts_cert.specs.Reading.{integer_at, bits_at, algorithm_of, algorithm_at, name_at, validity_at, key_at, tbs_of, Shape, signed_of, agreed, whole_of, certificate_of}
-use Rattle.ts_cert.proofs.Parts.{Part, took, element-took, der-ok, end-ok, end-again}
+use Rattle.ts_cert.proofs.Parts.{took, element-took, der-ok, end-ok, end-again}
 use Rattle.ts_cert.proofs.FieldParts.{integer-part, bits-part, name-part, algorithm-value, algorithm-part, key-part}
 use Rattle.ts_cert.proofs.Periods.{validity-part, version-found, version-again}
 

@@ -1,5 +1,5 @@
 -- The fields of a certificate that others hold, each as it is read and spelled.
-use Rattle.std.proofs.Common.{◌≡◌, ℕ, ◌+◌, Bool, true, false, cond, not, eqb, List, [], ◌∷◌, ◌++◌, length, Option, Some, None, Result, Ok, Err, refl, sym, ap, subst, ◌∙◌, arith}
+use Rattle.std.proofs.Common.{◌≡◌, ℕ, ◌+◌, Bool, true, false, cond, not, eqb, List, [], ◌∷◌, ◌++◌, length, Option, Some, None, Result, Ok, refl, sym, ap, subst, ◌∙◌, arith}
 use Rattle.std.specs.Prelude.{drop, unwrap_or}
 use Rattle.std.proofs.lemmas.Bool.{eqb-true}
 use Rattle.std.proofs.lemmas.List.{append-nil}
@@ -9,14 +9,13 @@ use Rattle.ts_der.specs.declared.fault.Fault.{Fault}
 use Rattle.ts_der.specs.Octets.{AreOctets}
 use Rattle.ts_der.specs.Answer.{◌>>=◌}
 use Rattle.ts_der.specs.Rules.{first_broken, value_unless}
-use Rattle.ts_der.specs.Element.{Place, Tlv, Fits, spell, inside, spelled_at}
+use Rattle.ts_der.specs.Element.{Place, Tlv, spell, inside}
 use Rattle.ts_der.specs.Integer.{is_shortest, integer_rules}
 use Rattle.ts_der.specs.BitString.{whole_octets_rules}
 use Rattle.ts_der.specs.ObjectIdentifier.{is_oid, oid_rules}
 use Rattle.ts_der.specs.Reading.{is_end, located, value_at, next_at, end_at}
 use Rattle.ts_der.proofs.Elements.{next-found}
 use Rattle.ts_der.proofs.Laws.{bind_ok, ok_is, next-only}
-use Rattle.ts_name.specs.Canon.{Attr}
 use Rattle.ts_name.specs.Names.{name_of}
 use Rattle.ts_name.specs.NameSpelling.{IsName}
 use Rattle.ts_name.proofs.Shapes.{name-found, name-again}

@@ -1,16 +1,13 @@
 -- No two lists of octets are one value.
 use Rattle.std.proofs.Common.{◌≡◌, ℕ, List, ◌++◌, refl, sym, ap, ◌∙◌}
-use Rattle.std.specs.Prelude.{ℤ}
 use Rattle.ts_der.specs.Element.{spell}
-use Rattle.ts_name.specs.Canon.{Attr}
 use Rattle.ts_name.specs.NameSpelling.{IsName}
 use Rattle.ts_time.specs.Text.{IsUtc, IsGeneral}
 use Rattle.ts_time.proofs.TextLemmas.{IsUtc-one_text, IsGeneral-one_text}
 use Rattle.ts_cert.specs.declared.time.TimeForm.{TimeForm}
 use Rattle.ts_cert.specs.declared.time.TimeForm.TheVariants.{Utc, General}
-use Rattle.ts_cert.specs.declared.time.Validity.{Validity}
-use Rattle.ts_cert.specs.Certificate.{Algorithm, KeyInfo, Tbs}
-use Rattle.ts_cert.specs.Spelling.{Within, IsOid, IsInteger, IsBits, IsTimeIn, IsAlgorithm, IsKeyInfo, IsValidity, IsTbs, version_octets}
+use Rattle.ts_cert.specs.Certificate.{Tbs}
+use Rattle.ts_cert.specs.Spelling.{Within, IsInteger, IsBits, IsTimeIn, IsAlgorithm, IsKeyInfo, IsValidity, IsTbs}
 
 -- one content for each value
 abbrev One : {A : Type 0} → (List ℕ → A → Type 0) → Type 0

@@ -1,10 +1,9 @@
 -- Versions and times, as they are read and spelled.
-use Rattle.std.proofs.Common.{◌≡◌, ◌≢◌, ℕ, ◌+◌, Bool, true, false, cond, not, eqb, List, [], ◌∷◌, ◌++◌, length, Option, Some, None, Result, Ok, Err, refl, sym, ap, subst, ◌∙◌, arith}
+use Rattle.std.proofs.Common.{◌≡◌, ℕ, ◌+◌, Bool, true, false, cond, not, eqb, List, [], ◌∷◌, ◌++◌, length, Option, Some, None, Result, Ok, Err, refl, sym, ap, subst, ◌∙◌, arith}
 use Rattle.std.specs.Prelude.{ℤ, ok_or}
 use Rattle.std.proofs.lemmas.Bool.{eqb-true}
 use Rattle.std.proofs.lemmas.List.{append-nil}
-use Rattle.ts_der.specs.declared.fault.DerFault.{DerFault}
-use Rattle.ts_der.specs.declared.fault.DerFault.TheVariants.{TimeForm as TimeRule, IntegerForm, DefaultEncoded, WrongTag}
+use Rattle.ts_der.specs.declared.fault.DerFault.TheVariants.{TimeForm as TimeRule, IntegerForm, WrongTag}
 use Rattle.ts_der.specs.declared.fault.Fault.{Fault}
 use Rattle.ts_der.specs.Octets.{AreOctets}
 use Rattle.ts_der.specs.Answer.{◌>>=◌}
@@ -15,7 +14,7 @@ use Rattle.ts_der.specs.View.{StandsIfAny}
 use Rattle.ts_der.proofs.OctetLists.{AreOctets-part}
 use Rattle.ts_der.proofs.Elements.{next-found}
 use Rattle.ts_der.proofs.Laws.{bind_ok, ok_is, next-only, element-found, element-only, optional-found}
-use Rattle.ts_name.specs.declared.fault.CertRule.TheVariants.{Der, Version as VersionRule}
+use Rattle.ts_name.specs.declared.fault.CertRule.TheVariants.{Version as VersionRule}
 use Rattle.ts_name.specs.declared.fault.CertFault.{CertFault}
 use Rattle.ts_time.specs.Text.{IsUtc, IsGeneral}
 use Rattle.ts_time.specs.Reading.{utc_in, utc_value, general_in, general_value}
@@ -31,7 +30,7 @@ use Rattle.ts_cert.specs.Spelling.{Within, IsTimeIn, IsTime, IsValidity, version
 use Rattle.ts_cert.specs.Time.{time_of, time_at, validity_of}
 use Rattle.ts_cert.specs.Version.{version_named, number_of, not_default, version_of, version_if, version_at}
 use Rattle.ts_cert.specs.Reading.{validity_at}
-use Rattle.ts_cert.proofs.Parts.{Value, Part, within-part, took, der-ok, end-ok, end-again}
+use Rattle.ts_cert.proofs.Parts.{Part, within-part, took, der-ok, end-ok, end-again}
 
 -- ---- times
 
@@ -156,10 +155,10 @@ version_of-found e v fits read =
     let s = element-found 0x02 (inside e) n.0.0 n.0.1 fits (der-ok (element_at 0x02 (inside e)) n.0 n.1) in
     let stands = s.0 in
     let content : e.content ≡ spell 0x02 (version_content k.0) =
-        stands.whole
-        ∙ (ap (λ (r : List ℕ). n.0.0.whole ++ r) (end-ok n.0.1 d.0 (der-ok (end_at n.0.1) d.0 d.1))
-        ∙ (append-nil n.0.0.whole
-        ∙ (stands.spelled ∙ (ap (λ (t : ℕ). spell t n.0.0.content) s.1 ∙ ap (λ (c : List ℕ). spell 0x02 c) (number-found n.0.0 k.0 k.1))))) in
+    stands.whole
+    ∙ (ap (λ (r : List ℕ). n.0.0.whole ++ r) (end-ok n.0.1 d.0 (der-ok (end_at n.0.1) d.0 d.1))
+    ∙ (append-nil n.0.0.whole
+    ∙ (stands.spelled ∙ (ap (λ (t : ℕ). spell t n.0.0.content) s.1 ∙ ap (λ (c : List ℕ). spell 0x02 c) (number-found n.0.0 k.0 k.1))))) in
     ap (λ (c : List ℕ). spell 0xA0 c) content ∙ kept e k.0 v d.2
 
 pub version-found : (here : Place) (v : Version) (after : Place) → AreOctets here.rest → version_at here ≡ Ok (v, after) → here.rest ≡ version_octets v ++ after.rest
