@@ -19,7 +19,8 @@ use Rattle.ts_cert.specs.Fault.{der, breaks}
 use Rattle.ts_cert.specs.Spelling.{Within, IsAlgorithm, IsTbs, IsSigned, IsCertificate, version_octets}
 use Rattle.ts_cert.specs.Version.{version_at}
 use Rattle.ts_cert.specs.Reading.{integer_at, bits_at, algorithm_of, algorithm_at, name_at, validity_at, key_at, tbs_of, Shape, signed_of, agreed, whole_of, certificate_of}
-use Rattle.ts_cert.proofs.Parts.{took, element-took, der-ok, end-ok, end-again}
+use Rattle.ts_name.proofs.Shapes.{end-ok, end-again}
+use Rattle.ts_cert.proofs.Parts.{took, element-took, der-ok}
 use Rattle.ts_cert.proofs.FieldParts.{integer-part, bits-part, name-part, algorithm-value, algorithm-part, key-part}
 use Rattle.ts_cert.proofs.Periods.{validity-part, version-found, version-again}
 
