@@ -7,3 +7,5 @@ pub mod Time
 pub mod Steps
 pub mod CertView
 pub mod Reading
+pub mod Shape
+pub mod Table

@@ -7,6 +7,7 @@ ghost use Rattle.ts_name.specs.NameView.{rdns_in};
 ghost use Rattle.ts_cert.specs.Certificate.{Certificate};
 ghost use Rattle.ts_cert.specs.Reading.{certificate_of};
 ghost use Rattle.ts_cert.specs.Spelling.{IsCertificate};
+ghost use Rattle.ts_cert.specs.Table.{certificate_fault};
 ghost use Rattle.ts_cert.specs.View.{algorithm_in, key_in};
 ghost use Rattle.ts_cert.specs.CertView.{cert_in};
 
@@ -51,7 +52,7 @@ impl<'a> Cert<'a> {
         ensures found { IfOk result (λ cert. IsCertificate octets.now (cert_in cert)) }
         // What is spelled so is read.
         ensures only { (c : Certificate) → IsCertificate octets.now c → IsOkAnd result (λ cert. cert_in cert ≡ c) }
-        ensures fault { refusal result ≡ refusal (certificate_of octets.now) }
+        ensures fault { refusal result ≡ certificate_fault octets.now }
         ensures exact { Answers cert_in result (certificate_of octets.now) }
     {
         read_certificate(octets)
