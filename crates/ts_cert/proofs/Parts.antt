@@ -1,13 +1,12 @@
 -- Fields one after another: what is read is spelled so, and what is spelled so is read.
-use Rattle.std.proofs.Common.{◌≡◌, ℕ, ◌+◌, List, [], ◌∷◌, ◌++◌, length, Result, Ok, Err, refl, sym, ap, subst, ◌∙◌}
-use Rattle.std.specs.Prelude.{IfOk, IsOkAnd}
+use Rattle.std.proofs.Common.{◌≡◌, ℕ, ◌+◌, List, ◌++◌, length, Result, Ok, Err, refl, sym, ap, subst, ◌∙◌}
 use Rattle.ts_der.specs.declared.fault.Fault.{Fault}
 use Rattle.ts_der.specs.Octets.{AreOctets}
-use Rattle.ts_der.specs.Answer.{◌>>=◌, Answers}
+use Rattle.ts_der.specs.Answer.{◌>>=◌}
 use Rattle.ts_der.specs.Element.{Place, Tlv, Fits, spell, spelled_at}
-use Rattle.ts_der.specs.Reading.{element_at, end_at}
+use Rattle.ts_der.specs.Reading.{element_at}
 use Rattle.ts_der.proofs.OctetLists.{AreOctets-part, AreOctets-back}
-use Rattle.ts_der.proofs.Laws.{bind_ok, ok_is, err_not_ok, element-found, element-only}
+use Rattle.ts_der.proofs.Laws.{bind_ok, ok_is, element-found, element-only}
 use Rattle.ts_name.specs.declared.fault.CertFault.{CertFault}
 use Rattle.ts_name.specs.Names.{within}
 use Rattle.ts_cert.specs.Fault.{der}
