@@ -1,0 +1,3 @@
+pub mod TooLong
+pub mod OneTime
+pub mod Fields
