@@ -1,3 +1,6 @@
 pub mod TooLong
 pub mod OneTime
 pub mod Fields
+pub mod StandIns
+pub mod SerialNumbers
+pub mod NameForms

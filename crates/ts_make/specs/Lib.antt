@@ -5,3 +5,4 @@ pub mod TimeView
 pub mod Made
 pub mod Writing
 pub mod Making
+pub mod Sayable

@@ -1,6 +1,6 @@
 //! Certificates.
 
-ghost use Rattle.std.specs.Prelude.{◌≡◌, ℕ, List, Ok, IfOk, IfErr};
+ghost use Rattle.std.specs.Prelude.{◌≡◌, ℕ, List, Ok, IfOk, IfErr, OnOk};
 ghost use Rattle.ts_time.specs.Civil.{IsInYears};
 ghost use Rattle.ts_cert.specs.Certificate.{Certificate};
 ghost use Rattle.ts_cert.specs.Reading.{certificate_of};
@@ -8,6 +8,7 @@ ghost use Rattle.ts_make.specs.Description.{IsDescribed, IsSignedBy};
 ghost use Rattle.ts_make.specs.Times.{IsTimeOf};
 ghost use Rattle.ts_make.specs.TimeView.{time_octets};
 ghost use Rattle.ts_make.specs.Made.{made};
+ghost use Rattle.ts_make.specs.Sayable.{IsSayable, IfWritten};
 ghost use Rattle.ts_make.specs.Writing.{Writes};
 ghost use Rattle.ts_make.specs.Making.{AnswersMade, IsReadable};
 
@@ -28,7 +29,8 @@ fn write_certificate(
     before: &TimeText,
     after: &TimeText,
 ) -> Result<Vec<u8>, MakeFault>
-    ensures { Writes result (made (time_octets before.now) (time_octets after.now) text.now) }
+    ensures exact { Writes result (made (time_octets before.now) (time_octets after.now) text.now) }
+    ensures sayable { OnOk result (IsSayable text.now) }
 {
     let mut fields = write_tbs(alloc, text, before, after)?;
     let signature = digest_signature(text.signer, &fields);
@@ -44,7 +46,8 @@ fn write_readable(
     before: &TimeText,
     after: &TimeText,
 ) -> Result<Vec<u8>, MakeFault>
-    ensures { AnswersMade result (made (time_octets before.now) (time_octets after.now) text.now) }
+    ensures exact { AnswersMade result (made (time_octets before.now) (time_octets after.now) text.now) }
+    ensures sayable { IfWritten result (IsSayable text.now) }
 {
     let octets = write_certificate(alloc, text, before, after)?;
     if octets.len() > MAX_CERTIFICATE {

@@ -1,7 +1,9 @@
 //! What is signed.
 
+ghost use Rattle.std.specs.Prelude.{OnOk};
 ghost use Rattle.ts_make.specs.TimeView.{time_octets};
 ghost use Rattle.ts_make.specs.Made.{tbs_content, tbs_octets};
+ghost use Rattle.ts_make.specs.Sayable.{IsSayable};
 ghost use Rattle.ts_make.specs.Writing.{Writes};
 
 use crate::description::CertText;
@@ -25,7 +27,8 @@ fn write_fields(
     before: &TimeText,
     after: &TimeText,
 ) -> Result<Vec<u8>, MakeFault>
-    ensures { Writes result (tbs_content (time_octets before.now) (time_octets after.now) text.now) }
+    ensures exact { Writes result (tbs_content (time_octets before.now) (time_octets after.now) text.now) }
+    ensures sayable { OnOk result (IsSayable text.now) }
 {
     let mut fields = Vec::new(alloc);
     append(&mut fields, VERSION_3.as_slice())?;
@@ -46,7 +49,8 @@ pub(crate) fn write_tbs(
     before: &TimeText,
     after: &TimeText,
 ) -> Result<Vec<u8>, MakeFault>
-    ensures { Writes result (tbs_octets (time_octets before.now) (time_octets after.now) text.now) }
+    ensures exact { Writes result (tbs_octets (time_octets before.now) (time_octets after.now) text.now) }
+    ensures sayable { OnOk result (IsSayable text.now) }
 {
     let fields = write_fields(alloc, text, before, after)?;
     element(alloc, SEQUENCE, &fields)
