@@ -4,3 +4,5 @@ pub mod Fields
 pub mod StandIns
 pub mod SerialNumbers
 pub mod NameForms
+pub mod Said
+pub mod Spelled

@@ -1,10 +1,13 @@
 -- What a description says of a certificate.
-use Rattle.std.specs.Prelude.{◌≡◌, ℕ, true, List, [], ◌∷◌, map, None, pos}
+use Rattle.std.specs.Prelude.{◌≡◌, ℕ, true, List, [], ◌∷◌, map, None, ℤ, pos}
 use Rattle.ts_der.specs.Integer.{twos_complement}
 use Rattle.ts_name.specs.Canon.{Attr}
+use Rattle.ts_time.specs.Civil.{IsInYears}
 use Rattle.ts_sig.specs.Key.{Key}
 use Rattle.ts_sig.specs.StandIn.{identifier, algorithm_identifier, stand_in_accepts}
 use Rattle.ts_cert.specs.declared.version.Version.TheVariants.{V3}
+use Rattle.ts_cert.specs.declared.time.TimeForm.TheVariants.{Utc, General}
+use Rattle.ts_cert.specs.declared.time.Time.{Time}
 use Rattle.ts_cert.specs.Certificate.{Algorithm, Certificate}
 use Rattle.ts_make.specs.declared.description.AttributeType.{AttributeType}
 use Rattle.ts_make.specs.declared.description.AttributeType.TheVariants.{CommonName, OrganizationName}
@@ -28,14 +31,20 @@ rdns_in rdns = map rdn_in rdns
 abbrev pub stand_in : Algorithm
 stand_in = record { algorithm = identifier; parameters = None; whole = algorithm_identifier }
 
+-- the time is this moment, a UTCTime in the years 1950 to 2049 and a GeneralizedTime in all others (4.1.2.5)
+pub record Says (t : Time) (moment : ℤ) : Type 0 where
+  pub at : t.moment ≡ moment
+  pub utc : IsInYears 1950 2049 moment → t.form ≡ Utc
+  pub general : ¬ (IsInYears 1950 2049 moment) → t.form ≡ General
+
 -- the certificate says what the description does
 pub record IsDescribed (text : CertText) (c : Certificate) : Type 0 where
   pub version : c.tbsCertificate.version ≡ V3
   pub serialNumber : twos_complement c.tbsCertificate.serialNumber ≡ pos text.serial
   pub signature : c.tbsCertificate.signature ≡ stand_in
   pub issuer : c.tbsCertificate.issuer ≡ rdns_in text.issuer.now
-  pub not_before : c.tbsCertificate.validity.not_before.moment ≡ text.from
-  pub not_after : c.tbsCertificate.validity.not_after.moment ≡ text.to
+  pub not_before : Says c.tbsCertificate.validity.not_before text.from
+  pub not_after : Says c.tbsCertificate.validity.not_after text.to
   pub subject : c.tbsCertificate.subject ≡ rdns_in text.subject.now
   pub keyAlgorithm : c.tbsCertificate.subjectPublicKeyInfo.algorithm ≡ stand_in
   pub subjectPublicKey : c.tbsCertificate.subjectPublicKeyInfo.subjectPublicKey ≡ text.key.now
