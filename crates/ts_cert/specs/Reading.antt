@@ -1,6 +1,6 @@
 -- Reading a certificate (RFC 5280 4.1) from front to back, up to the first rule that is broken. Each function reads one
 -- SEQUENCE of the standard, field by field in its order.
-use Rattle.std.specs.Prelude.{ℕ, nat_lt, Bool, List, drop, length, Option, Some, None, Result, Ok, Err, if◌then◌else◌}
+use Rattle.std.specs.Prelude.{ℕ, nat_lt, List, drop, length, Option, Some, None, Result, Ok, Err, if◌then◌else◌}
 use Rattle.std.specs.Str.{bytes_eq}
 use Rattle.ts_der.specs.declared.fault.DerFault.TheVariants.{TooLarge}
 use Rattle.ts_der.specs.declared.fault.Fault.{Fault}

@@ -1,0 +1,149 @@
+-- The fields of a certificate that others hold, each as it is read and spelled.
+use Rattle.std.proofs.Common.{◌≡◌, ℕ, ◌+◌, Bool, true, false, cond, not, eqb, List, [], ◌∷◌, ◌++◌, length, Option, Some, None, Result, Ok, refl, sym, ap, subst, ◌∙◌, arith}
+use Rattle.std.specs.Prelude.{drop, unwrap_or}
+use Rattle.std.proofs.lemmas.Bool.{eqb-true}
+use Rattle.std.proofs.lemmas.List.{append-nil}
+use Rattle.ts_der.specs.declared.fault.DerFault.{DerFault}
+use Rattle.ts_der.specs.declared.fault.DerFault.TheVariants.{IntegerForm, OidForm, BitsForm}
+use Rattle.ts_der.specs.declared.fault.Fault.{Fault}
+use Rattle.ts_der.specs.Octets.{AreOctets}
+use Rattle.ts_der.specs.Answer.{◌>>=◌}
+use Rattle.ts_der.specs.Rules.{first_broken, value_unless}
+use Rattle.ts_der.specs.Element.{Place, Tlv, spell, inside}
+use Rattle.ts_der.specs.Integer.{is_shortest, integer_rules}
+use Rattle.ts_der.specs.BitString.{whole_octets_rules}
+use Rattle.ts_der.specs.ObjectIdentifier.{is_oid, oid_rules}
+use Rattle.ts_der.specs.Reading.{is_end, located, value_at, next_at, end_at}
+use Rattle.ts_der.proofs.Elements.{next-found}
+use Rattle.ts_der.proofs.Laws.{bind_ok, ok_is, next-only}
+use Rattle.ts_name.specs.Names.{name_of}
+use Rattle.ts_name.specs.NameSpelling.{IsName}
+use Rattle.ts_name.proofs.Shapes.{name-found, name-again}
+use Rattle.ts_cert.specs.Certificate.{Algorithm, KeyInfo}
+use Rattle.ts_cert.specs.Spelling.{Within, IsAny, IsOid, IsInteger, IsBits, AreParameters, IsAlgorithm, IsKeyInfo}
+use Rattle.ts_cert.specs.Reading.{oid_at, integer_at, bits_at, parameters_at, algorithm_of, algorithm_at, name_at, key_of, key_at}
+use Rattle.ts_cert.proofs.Parts.{Value, Part, within-part, took, end-ok, end-again}
+
+-- ---- values that are the content itself, where it meets a test
+
+tested : (kind : DerFault) (b : Bool) (at : ℕ) (x y : List ℕ) → located at (value_unless (cond (not b) (Some kind) None) x) ≡ Ok y → (x ≡ y) × (b ≡ true)
+tested kind true at x y e = (ok_is {E = Fault} x y e, refl)
+tested kind false at x y e = absurd cc
+
+oid-found : (e : Tlv) (x : List ℕ) → AreOctets e.content → e.whole ≡ spell 0x06 e.content → value_at oid_rules (λ c. c) e ≡ Ok x → IsOid e.content x
+oid-found e x fits w read = let t = tested OidForm (is_oid e.content) e.at e.content x read in (t.0, ap is_oid (sym t.0) ∙ t.1)
+
+oid-again : (e : Tlv) (x : List ℕ) → e.whole ≡ spell 0x06 e.content → IsOid e.content x → value_at oid_rules (λ c. c) e ≡ Ok x
+oid-again e x w is = rw (is.0, is.1) refl
+
+pub oid-part : Part oid_at (Within 0x06 IsOid)
+unfolding oid_at
+oid-part = within-part 0x06 (value_at oid_rules (λ c. c)) IsOid (record { found = oid-found; again = oid-again })
+
+integer-found : (e : Tlv) (x : List ℕ) → AreOctets e.content → e.whole ≡ spell 0x02 e.content → value_at integer_rules (λ c. c) e ≡ Ok x → IsInteger e.content x
+integer-found e x fits w read = let t = tested IntegerForm (is_shortest e.content) e.at e.content x read in (t.0, ap is_shortest (sym t.0) ∙ t.1)
+
+integer-again : (e : Tlv) (x : List ℕ) → e.whole ≡ spell 0x02 e.content → IsInteger e.content x → value_at integer_rules (λ c. c) e ≡ Ok x
+integer-again e x w is = rw (is.0, is.1) refl
+
+pub integer-part : Part integer_at (Within 0x02 IsInteger)
+unfolding integer_at
+integer-part = within-part 0x02 (value_at integer_rules (λ c. c)) IsInteger (record { found = integer-found; again = integer-again })
+
+bits-ok : (c : List ℕ) (at : ℕ) (x : List ℕ) → located at (value_unless (first_broken whole_octets_rules c) (drop 1 c)) ≡ Ok x → c ≡ 0 ∷ x
+bits-ok [] at x e = absurd cc
+bits-ok (u ∷ octets) at x e = by_test (eqb u 0) refl e
+  where
+    by_test : (b : Bool) → eqb u 0 ≡ b → located at (value_unless (cond (not b) (Some BitsForm) None) octets) ≡ Ok x → u ∷ octets ≡ 0 ∷ x
+    by_test true t e = ap (λ (v : ℕ). v ∷ octets) (eqb-true u 0 t) ∙ ap (λ (os : List ℕ). 0 ∷ os) (ok_is {E = Fault} octets x e)
+    by_test false t e = absurd cc
+
+bits-again : (e : Tlv) (x : List ℕ) → e.whole ≡ spell 0x03 e.content → IsBits e.content x → value_at whole_octets_rules (λ c. drop 1 c) e ≡ Ok x
+bits-again e x w is = rw is refl
+
+pub bits-part : Part bits_at (Within 0x03 IsBits)
+unfolding bits_at
+bits-part = within-part 0x03 (value_at whole_octets_rules (λ c. drop 1 c)) IsBits (record { found = λ e x fits w read. bits-ok e.content e.at x read; again = bits-again })
+
+pub name-part : Part name_at (Within 0x30 IsName)
+unfolding name_at
+name-part = within-part 0x30 name_of IsName (record { found = λ e x fits w read. name-found e x fits read; again = λ e x w is. name-again e x is })
+
+-- ---- algorithm identifiers
+
+parameters-found : (here : Place) (p : Option (List ℕ)) (after : Place) → AreOctets here.rest → parameters_at here ≡ Ok (p, after) → AreParameters p × (here.rest ≡ unwrap_or p [] ++ after.rest)
+unfolding parameters_at
+parameters-found here p after fits read = by_end (is_end here.rest) read
+  where
+    by_end : (b : Bool) → cond {A = Result (Option (List ℕ) × Place) Fault} b (Ok (None, here)) (next_at here >>= λ e. Ok (Some e.0.whole, e.1)) ≡ Ok (p, after) → AreParameters p × (here.rest ≡ unwrap_or p [] ++ after.rest)
+    by_end true e = subst (λ (x : Option (List ℕ) × Place). AreParameters x.0 × (here.rest ≡ unwrap_or x.0 [] ++ x.1.rest)) (ok_is {A = Option (List ℕ) × Place} {E = Fault} (None, here) (p, after) e) (tt, refl)
+    by_end false e =
+        let b = bind_ok (next_at here) (λ e. Ok (Some e.0.whole, e.1)) (p, after) e in
+        let s = next-found here b.0.0 b.0.1 fits b.1 in
+        let is : IsAny b.0.0.whole = record { tag = b.0.0.tag; content = b.0.0.content; fits = s.fits; spelled = s.spelled } in
+        subst (λ (x : Option (List ℕ) × Place). AreParameters x.0 × (here.rest ≡ unwrap_or x.0 [] ++ x.1.rest)) (ok_is {A = Option (List ℕ) × Place} {E = Fault} (Some b.0.0.whole, b.0.1) (p, after) b.2) (is, s.whole)
+
+no_more : (n : ℕ) → n ≡ n + 0
+no_more n = omega arith
+
+parameters-again : (at : ℕ) (p : Option (List ℕ)) → AreParameters p → parameters_at (record { rest = unwrap_or p []; at = at }) ≡ Ok (p, record { rest = []; at = at + length (unwrap_or p []) })
+unfolding parameters_at
+parameters-again at None is = ap (λ (n : ℕ). Ok (None, record { rest = []; at = n })) (no_more at)
+parameters-again at (Some w) is =
+    let here : Place = record { rest = spell is.tag is.content; at = at } in
+    let one = next-only here is.tag is.content [] is.fits (sym (append-nil (spell is.tag is.content))) in
+    subst (λ (o : List ℕ). parameters_at (record { rest = o; at = at }) ≡ Ok (Some o, record { rest = []; at = at + length o })) (sym is.spelled) (rw one refl)
+
+algorithm-found : (e : Tlv) (a : Algorithm) → AreOctets e.content → e.whole ≡ spell 0x30 e.content → algorithm_of e ≡ Ok a → IsAlgorithm e.content a
+unfolding algorithm_of
+algorithm-found e a fits w read =
+    let o = bind_ok (oid_at (inside e)) _ a read in
+    let p = bind_ok (parameters_at o.0.1) _ a o.2 in
+    let d = bind_ok (end_at p.0.1) _ a p.2 in
+    let same : record { algorithm = o.0.0; parameters = p.0.0; whole = e.whole } ≡ a = ok_is {A = Algorithm} {E = Fault} (record { algorithm = o.0.0; parameters = p.0.0; whole = e.whole }) a d.2 in
+    let first = took oid-part (inside e) o.0.0 o.0.1 fits o.1 in
+    let second = parameters-found o.0.1 p.0.0 p.0.1 first.3 p.1 in
+    let last : o.0.1.rest ≡ unwrap_or p.0.0 [] = second.1 ∙ (ap (λ (r : List ℕ). unwrap_or p.0.0 [] ++ r) (end-ok p.0.1 d.0 d.1) ∙ append-nil (unwrap_or p.0.0 [])) in
+    subst (λ (x : Algorithm). IsAlgorithm e.content x) same (record { oid = first.0; algorithm = first.1; parameters = second.0; fields = first.2 ∙ ap (λ (r : List ℕ). first.0 ++ r) last; whole = w })
+
+algorithm-again : (e : Tlv) (a : Algorithm) → e.whole ≡ spell 0x30 e.content → IsAlgorithm e.content a → algorithm_of e ≡ Ok a
+unfolding algorithm_of
+algorithm-again e a w is =
+    let o = oid-part.again (inside e) a.algorithm is.oid (unwrap_or a.parameters []) is.algorithm is.fields in
+    let p = parameters-again (e.start + length is.oid) a.parameters is.parameters in
+    let d = end-again (e.start + length is.oid + length (unwrap_or a.parameters [])) in
+    rw (o, p, d) (ap (λ (x : List ℕ). Ok (record { algorithm = a.algorithm; parameters = a.parameters; whole = x })) (w ∙ sym is.whole))
+
+pub algorithm-value : Value 0x30 algorithm_of IsAlgorithm
+algorithm-value = record { found = algorithm-found; again = algorithm-again }
+
+pub algorithm-part : Part algorithm_at (Within 0x30 IsAlgorithm)
+unfolding algorithm_at
+algorithm-part = within-part 0x30 algorithm_of IsAlgorithm algorithm-value
+
+-- ---- keys
+
+key-found : (e : Tlv) (k : KeyInfo) → AreOctets e.content → e.whole ≡ spell 0x30 e.content → key_of e ≡ Ok k → IsKeyInfo e.content k
+unfolding key_of
+key-found e k fits w read =
+    let a = bind_ok (algorithm_at (inside e)) _ k read in
+    let b = bind_ok (bits_at a.0.1) _ k a.2 in
+    let d = bind_ok (end_at b.0.1) _ k b.2 in
+    let same : record { algorithm = a.0.0; subjectPublicKey = b.0.0 } ≡ k = ok_is {A = KeyInfo} {E = Fault} (record { algorithm = a.0.0; subjectPublicKey = b.0.0 }) k d.2 in
+    let first = took algorithm-part (inside e) a.0.0 a.0.1 fits a.1 in
+    let second = took bits-part a.0.1 b.0.0 b.0.1 first.3 b.1 in
+    let last : a.0.1.rest ≡ second.0 = second.2 ∙ (ap (λ (r : List ℕ). second.0 ++ r) (end-ok b.0.1 d.0 d.1) ∙ append-nil second.0) in
+    subst (λ (x : KeyInfo). IsKeyInfo e.content x) same (record { identifier = first.0; key = second.0; algorithm = first.1; subjectPublicKey = second.1; fields = first.2 ∙ ap (λ (r : List ℕ). first.0 ++ r) last })
+
+key-again : (e : Tlv) (k : KeyInfo) → e.whole ≡ spell 0x30 e.content → IsKeyInfo e.content k → key_of e ≡ Ok k
+unfolding key_of
+key-again e k w is =
+    let a = algorithm-part.again (inside e) k.algorithm is.identifier is.key is.algorithm is.fields in
+    let place : Place = record { rest = is.key; at = e.start + length is.identifier } in
+    let b = bits-part.again place k.subjectPublicKey is.key [] is.subjectPublicKey (sym (append-nil is.key)) in
+    let d = end-again (e.start + length is.identifier + length is.key) in
+    rw (a, b, d) refl
+
+pub key-part : Part key_at (Within 0x30 IsKeyInfo)
+unfolding key_at
+key-part = within-part 0x30 key_of IsKeyInfo (record { found = key-found; again = key-again })

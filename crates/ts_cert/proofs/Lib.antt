@@ -1,0 +1,5 @@
+pub mod Parts
+pub mod FieldParts
+pub mod Periods
+pub mod Certificates
+pub mod OneSpelling

@@ -1,0 +1,49 @@
+-- No two lists of octets are one value.
+use Rattle.std.proofs.Common.{◌≡◌, ℕ, List, ◌++◌, refl, sym, ap, ◌∙◌}
+use Rattle.ts_der.specs.Element.{spell}
+use Rattle.ts_name.specs.NameSpelling.{IsName}
+use Rattle.ts_time.specs.Text.{IsUtc, IsGeneral}
+use Rattle.ts_time.proofs.TextLemmas.{IsUtc-one_text, IsGeneral-one_text}
+use Rattle.ts_cert.specs.declared.time.TimeForm.{TimeForm}
+use Rattle.ts_cert.specs.declared.time.TimeForm.TheVariants.{Utc, General}
+use Rattle.ts_cert.specs.Certificate.{Tbs}
+use Rattle.ts_cert.specs.Spelling.{Within, IsInteger, IsBits, IsTimeIn, IsAlgorithm, IsKeyInfo, IsValidity, IsTbs}
+
+-- one content for each value
+abbrev One : {A : Type 0} → (List ℕ → A → Type 0) → Type 0
+One {A} Spells = (c d : List ℕ) (x : A) → Spells c x → Spells d x → c ≡ d
+
+one-within : {A : Type 0} (tag : ℕ) (Spells : List ℕ → A → Type 0) → One Spells → One (Within tag Spells)
+one-within tag Spells one c d x a b = a.spelled ∙ (ap (λ (o : List ℕ). spell tag o) (one a.content b.content x a.value b.value) ∙ sym b.spelled)
+
+one-algorithm : One (Within 0x30 IsAlgorithm)
+one-algorithm c d x a b = a.spelled ∙ (sym a.value.whole ∙ (b.value.whole ∙ sym b.spelled))
+
+one-name : One IsName
+one-name c d x a b = a.whole ∙ sym b.whole
+
+one-time : (f : TimeForm) → One (IsTimeIn f)
+one-time Utc c d m a b = one-within 0x17 IsUtc (λ v w n is other. IsUtc-one_text v w n is other) c d m a b
+one-time General c d m a b = one-within 0x18 IsGeneral (λ v w n is other. IsGeneral-one_text v w n is other) c d m a b
+
+one-validity : One IsValidity
+one-validity c d v a b =
+    let before = one-time v.not_before.form a.before b.before v.not_before.moment a.not_before b.not_before in
+    let after = one-time v.not_after.form a.after b.after v.not_after.moment a.not_after b.not_after in
+    a.fields ∙ (ap (λ (o : List ℕ). o ++ a.after) before ∙ (ap (λ (o : List ℕ). b.before ++ o) after ∙ sym b.fields))
+
+one-key : One IsKeyInfo
+one-key c d k a b =
+    let first = one-algorithm a.identifier b.identifier k.algorithm a.algorithm b.algorithm in
+    let second = one-within 0x03 IsBits (λ v w n is other. is ∙ sym other) a.key b.key k.subjectPublicKey a.subjectPublicKey b.subjectPublicKey in
+    a.fields ∙ (ap (λ (o : List ℕ). o ++ a.key) first ∙ (ap (λ (o : List ℕ). b.identifier ++ o) second ∙ sym b.fields))
+
+pub one-tbs : (c d : List ℕ) (t : Tbs) → IsTbs c t → IsTbs d t → c ≡ d
+one-tbs c d t a b =
+    let serial = one-within 0x02 IsInteger (λ v w n is other. is.0 ∙ sym other.0) a.serial b.serial t.serialNumber a.serialNumber b.serialNumber in
+    let algorithm = one-algorithm a.algorithm b.algorithm t.signature a.signature b.signature in
+    let issuer = one-within 0x30 IsName one-name a.issued_by b.issued_by t.issuer a.issuer b.issuer in
+    let period = one-within 0x30 IsValidity one-validity a.period b.period t.validity a.validity b.validity in
+    let subject = one-within 0x30 IsName one-name a.issued_to b.issued_to t.subject a.subject b.subject in
+    let key = one-within 0x30 IsKeyInfo one-key a.key b.key t.subjectPublicKeyInfo a.subjectPublicKeyInfo b.subjectPublicKeyInfo in
+    a.fields ∙ (rw (serial, algorithm, issuer, period, subject, key) refl ∙ sym b.fields)
