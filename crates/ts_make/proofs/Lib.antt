@@ -6,3 +6,5 @@ pub mod SerialNumbers
 pub mod NameForms
 pub mod Said
 pub mod Spelled
+pub mod Refused
+pub mod Answered

@@ -21,6 +21,7 @@ pub record FieldsShort (b a : List ℕ) (text : CertText) : Type 0 where
   pub serial : length (spell 0x02 (serial_content text.serial)) ≤ 65536
   pub issuer : length (name_octets text.issuer.now) ≤ 65536
   pub period : length (spell 0x30 (b ++ a)) ≤ 65536
+  pub times : length (b ++ a) ≤ 65536
   pub before : length b ≤ 65536
   pub after : length a ≤ 65536
   pub subject : length (name_octets text.subject.now) ≤ 65536
@@ -49,6 +50,7 @@ fields-short b a text le =
       serial = p.0;
       issuer = p.1;
       period = p.2;
+      times = omega (arith, p.2);
       before = omega (arith, p.2);
       after = omega (arith, p.2);
       subject = p.3;
@@ -60,7 +62,6 @@ tbs-is : (b a : List ℕ) (before after : Time) (text : CertText) → IsSayable 
 unfolding tbs_octets tbs_content
 tbs-is b a before after text sayable from to le =
     let short = fields-short b a text le in
-    let times = content-short 0x30 (b ++ a) in
     record {
       content = tbs_content b a text;
       fits = fits-sequence (tbs_content b a text) short.content;
@@ -77,7 +78,7 @@ tbs-is b a before after text sayable from to le =
         issuer = name-is text.issuer.now sayable.issuer short.issuer;
         validity = record {
           content = b ++ a;
-          fits = fits-sequence (b ++ a) (omega (arith, short.period));
+          fits = fits-sequence (b ++ a) short.times;
           spelled = refl;
           value = record { before = b; after = a; not_before = from; not_after = to; fields = refl };
         };

@@ -10,7 +10,7 @@ ghost use Rattle.ts_make.specs.TimeView.{time_octets};
 ghost use Rattle.ts_make.specs.Made.{made};
 ghost use Rattle.ts_make.specs.Sayable.{IsSayable, IfWritten};
 ghost use Rattle.ts_make.specs.Writing.{Writes};
-ghost use Rattle.ts_make.specs.Making.{AnswersMade, IsReadable};
+ghost use Rattle.ts_make.specs.Making.{AnswersMade, IsRefusal};
 
 use crate::description::CertText;
 use crate::elements::{SEQUENCE, append, append_bits, element};
@@ -73,8 +73,10 @@ pub fn make_cert(alloc: Global, text: &CertText<'_>) -> Result<Vec<u8>, MakeFaul
     ensures described { IfOk result (λ v. (c : Certificate) × (certificate_of v.items ≡ Ok c) × IsDescribed text.now c) }
     // It is signed by the stand-in under the signer's key.
     ensures signed { IfOk result (λ v. (c : Certificate) × (certificate_of v.items ≡ Ok c) × IsSignedBy text.now.signer.now c) }
-    // What was written is refused only for a moment outside the years 0 to 9999.
-    ensures readable { IfErr result (λ e. IsInYears 0 9999 text.now.from → IsInYears 0 9999 text.now.to → IsReadable e) }
+    // What can't be said is not: both moments lie in the years 0 to 9999.
+    ensures years { OnOk result (IsInYears 0 9999 text.now.from × IsInYears 0 9999 text.now.to) }
+    // For no other reason is refused what was written.
+    ensures refused { IfErr result (IsRefusal text.now) }
 {
     write_readable(
         alloc,
