@@ -42,8 +42,7 @@ rdn-is r text le =
     let two = length-append (spell 0x06 kind) (spell 0x0C value) in
     let last = content-short 0x0C value in
     let fits-value : Fits 0x0C value = record { octet = omega arith; low = omega arith; short = omega arith } in
-    let fits-fields : Fits 0x30 fields = fits-sequence fields (omega arith) in
-    (
+    let fits-fields : Fits 0x30 fields = fits-sequence fields (omega arith) in (
       record {
         some = λ none. absurd (cc);
         each = ((record { kind = kind-is r.kind; value = fits-value; text = text-is value text }, fits-fields), tt);

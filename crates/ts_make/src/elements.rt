@@ -58,11 +58,7 @@ pub(crate) fn append_element(
 }
 
 /// Appends a BIT STRING of whole octets (X.690 8.6).
-pub(crate) fn append_bits(
-    alloc: Global,
-    octets: &mut Vec<u8>,
-    bits: &[u8],
-) -> Result<(), MakeFault>
+pub(crate) fn append_bits(alloc: Global, octets: &mut Vec<u8>, bits: &[u8]) -> Result<(), MakeFault>
     ensures { Appends result (spell 0x03 (0 ∷ bits.now)) octets.old.items octets.new.items }
 {
     let mut content = Vec::new(alloc);
