@@ -1,5 +1,5 @@
 -- What the answer of making a certificate says.
-use Rattle.std.proofs.Common.{◌≡◌, ℕ, ◌≤◌, ◌⊎◌, inl, inr, Bool, true, false, List, ◌++◌, length, Result, Ok, Err, refl, sym, ap, ◌∙◌, arith, ℤ}
+use Rattle.std.proofs.Common.{◌≡◌, ℕ, ◌≤◌, ◌⊎◌, inl, inr, true, List, ◌++◌, length, Result, Ok, Err, refl, ap, ◌∙◌}
 use Rattle.std.specs.Prelude.{IfOk, IfErr, OnOk, is_ok}
 use Rattle.std.specs.declared.vec.Vec.{Vec}
 use Rattle.std.specs.declared.alloc.Global.{Global}
@@ -24,7 +24,7 @@ use Rattle.ts_make.specs.Made.{tbs_octets, made}
 use Rattle.ts_make.specs.Making.{AnswersMade, IsRefusal}
 use Rattle.ts_make.proofs.OneTime.{in_years_or_not}
 use Rattle.ts_make.proofs.SerialNumbers.{serial-is}
-use Rattle.ts_make.proofs.Said.{said, IsSaidAt, time-said}
+use Rattle.ts_make.proofs.Said.{said, time-said}
 use Rattle.ts_make.proofs.Spelled.{fields-short, parts-short, certificate-is}
 use Rattle.ts_make.proofs.Refused.{IsOutside, certificate-refused}
 

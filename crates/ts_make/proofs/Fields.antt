@@ -1,5 +1,5 @@
 -- The fields of what is signed, one behind another.
-use Rattle.std.proofs.Common.{◌≡◌, ℕ, ◌≤◌, List, [], ◌∷◌, ◌++◌, length, refl, sym, ap, ◌∙◌, append_assoc, arith, length-append}
+use Rattle.std.proofs.Common.{◌≡◌, ℕ, ◌≤◌, List, [], ◌∷◌, ◌++◌, length, refl, ap, append_assoc, arith, length-append}
 use Rattle.ts_der.specs.Element.{length_octets}
 use Rattle.ts_cert.specs.declared.version.Version.TheVariants.{V3}
 use Rattle.ts_cert.specs.Spelling.{version_octets}

@@ -1,16 +1,13 @@
 -- The names of a description are spelled so.
-use Rattle.std.proofs.Common.{◌≡◌, ◌≢◌, ℕ, ◌≤◌, true, List, [], ◌∷◌, ◌++◌, length, refl, arith, length-append, None}
-use Rattle.std.specs.Prelude.{map}
+use Rattle.std.proofs.Common.{◌≡◌, ℕ, ◌≤◌, true, List, [], ◌∷◌, ◌++◌, length, refl, arith, length-append, None}
 use Rattle.std.specs.List.{flat_map, AllByRecursion}
-use Rattle.std.specs.Str.{is_utf8, IsUtf8}
+use Rattle.std.specs.Str.{IsUtf8}
 use Rattle.std.proofs.lemmas.Str.{is_utf8-from_IsUtf8}
 use Rattle.ts_der.specs.Rules.{first_broken}
-use Rattle.ts_der.specs.Element.{Fits, spell, length_octets}
+use Rattle.ts_der.specs.Element.{Fits, spell}
 use Rattle.ts_der.specs.ObjectIdentifier.{is_oid, series_of, subidentifier}
-use Rattle.ts_der.specs.SetOf.{ascends}
-use Rattle.ts_name.specs.Canon.{Attr}
 use Rattle.ts_name.specs.Names.{text_rules}
-use Rattle.ts_name.specs.NameSpelling.{attribute_content, spelled_attribute, rdn_content, spelled_rdn, IsAttribute, IsRdn, IsName}
+use Rattle.ts_name.specs.NameSpelling.{attribute_content, rdn_content, spelled_rdn, IsRdn, IsName}
 use Rattle.ts_cert.specs.Spelling.{Within}
 use Rattle.ts_make.specs.declared.description.AttributeType.{AttributeType}
 use Rattle.ts_make.specs.declared.description.AttributeType.TheVariants.{CommonName, OrganizationName}

@@ -1,10 +1,9 @@
 -- A moment is written in one way.
-use Rattle.std.proofs.Common.{◌≡◌, ℕ, ◌+◌, ℤ, ◌<ℤ◌, ◌≤ℤ◌, ◌⊎◌, inl, inr, List, sym, ap, ◌∙◌}
+use Rattle.std.proofs.Common.{◌≡◌, ℕ, ◌+◌, ℤ, ◌⊎◌, inl, inr, List, sym, ap, ◌∙◌}
 use Rattle.std.specs.Int.Signed.{clash_ℤ}
 use Rattle.std.proofs.lemmas.Int.{by_lt_z}
 use Rattle.ts_der.specs.Element.{spell}
 use Rattle.ts_time.specs.Civil.{IsInYears, year_start}
-use Rattle.ts_time.specs.Text.{IsUtc, IsGeneral}
 use Rattle.ts_time.proofs.TextLemmas.{IsUtc-one_text, IsGeneral-one_text}
 use Rattle.ts_make.specs.Times.{IsTimeOf}
 

@@ -1,12 +1,11 @@
 -- What is made of a moment outside the years 0 to 9999 is refused at its time.
-use Rattle.std.proofs.Common.{◌≡◌, ℕ, ◌+◌, ◌<◌, ◌≤◌, ◌⊎◌, inl, inr, true, false, ltb, List, [], ◌∷◌, ◌++◌, length, Option, None, Some, Result, Ok, Err, refl, sym, ap, ◌∙◌, arith, ℤ}
+use Rattle.std.proofs.Common.{◌≡◌, ℕ, ◌+◌, ◌≤◌, ◌⊎◌, inl, inr, false, ltb, List, [], ◌++◌, length, Result, Ok, Err, refl, sym, ap, ◌∙◌, arith, ℤ}
 use Rattle.std.proofs.lemmas.Bool.{le-ltb}
 use Rattle.std.proofs.lemmas.List.{append-nil}
 use Rattle.ts_der.specs.declared.fault.DerFault.TheVariants.{TimeForm as TimeRule}
 use Rattle.ts_der.specs.declared.fault.Fault.{Fault}
-use Rattle.ts_der.specs.Answer.{◌>>=◌}
 use Rattle.ts_der.specs.Element.{Place, Tlv, Fits, spell, inside, spelled_at}
-use Rattle.ts_der.specs.Reading.{begins_with, fault_at}
+use Rattle.ts_der.specs.Reading.{fault_at}
 use Rattle.ts_der.proofs.Laws.{element-only, next-only}
 use Rattle.ts_name.specs.declared.fault.CertRule.TheVariants.{Der}
 use Rattle.ts_name.specs.declared.fault.CertFault.{CertFault}
@@ -14,15 +13,15 @@ use Rattle.ts_name.specs.Names.{within}
 use Rattle.sha2.specs.Sha256.{sha256}
 use Rattle.ts_sig.specs.StandIn.{algorithm_identifier}
 use Rattle.ts_time.specs.Civil.{IsInYears}
-use Rattle.ts_time.specs.Reading.{numbers_in, utc_in, general_in}
+use Rattle.ts_time.specs.Reading.{numbers_in, general_in}
 use Rattle.ts_time.proofs.CivilLemmas.{IsInYears-wider}
 use Rattle.ts_time.proofs.ReadingLemmas.{utc_in-only, general_in-only}
 use Rattle.ts_cert.specs.declared.version.Version.TheVariants.{V3}
 use Rattle.ts_cert.specs.declared.time.TimeForm.{TimeForm}
 use Rattle.ts_cert.specs.declared.time.TimeForm.TheVariants.{Utc, General}
 use Rattle.ts_cert.specs.declared.time.Time.{Time}
-use Rattle.ts_cert.specs.Fault.{der, breaks}
-use Rattle.ts_cert.specs.Spelling.{Within, IsTimeIn, IsTime, version_octets}
+use Rattle.ts_cert.specs.Fault.{breaks}
+use Rattle.ts_cert.specs.Spelling.{IsTimeIn, IsTime, version_octets}
 use Rattle.ts_cert.specs.Time.{time_of, time_at, validity_of}
 use Rattle.ts_cert.specs.Reading.{validity_at, tbs_of, signed_of, whole_of, certificate_of}
 use Rattle.ts_cert.proofs.FieldParts.{integer-part, algorithm-part, name-part}
@@ -36,7 +35,7 @@ use Rattle.ts_make.specs.Made.{bit_octets, name_octets, key_octets, tbs_content,
 use Rattle.ts_make.proofs.StandIns.{fits-sequence, algorithm-is}
 use Rattle.ts_make.proofs.SerialNumbers.{serial-spelled}
 use Rattle.ts_make.proofs.NameForms.{name-is}
-use Rattle.ts_make.proofs.Said.{IsSaidAt, time-said}
+use Rattle.ts_make.proofs.Said.{time-said}
 use Rattle.ts_make.proofs.Spelled.{fields-short, parts-short}
 
 -- ---- times

@@ -1,8 +1,8 @@
 -- A serial number is written in as few octets as can be, and is that number.
-use Rattle.std.proofs.Common.{◌≡◌, ℕ, ◌+◌, ◌*◌, ◌/◌, ◌%◌, ◌^◌, ◌<◌, ◌≤◌, true, false, ltb, inl, inr, List, [], ◌∷◌, length, refl, sym, ap, ◌∙◌, arith, ℤ, pos}
+use Rattle.std.proofs.Common.{◌≡◌, ℕ, ◌/◌, ◌%◌, ◌^◌, ◌<◌, ◌≤◌, true, inl, inr, List, [], ◌∷◌, length, refl, ap, arith, pos}
 use Rattle.std.proofs.lemmas.Bool.{cases_lt, cases_eq, lt-ltb, le-ltb, ne_eqb}
-use Rattle.ts_der.specs.Element.{number, spell, Fits}
-use Rattle.ts_der.specs.Integer.{is_shortest, is_negative, twos_complement}
+use Rattle.ts_der.specs.Element.{number, spell}
+use Rattle.ts_der.specs.Integer.{is_shortest, twos_complement}
 use Rattle.ts_cert.specs.Spelling.{Within, IsInteger}
 use Rattle.ts_make.specs.Serial.{serial_content}
 use Rattle.ts_make.proofs.StandIns.{content-short}

@@ -1,11 +1,11 @@
 -- What is made is the spelling of the certificate that the description says.
-use Rattle.std.proofs.Common.{◌≡◌, ℕ, ◌<◌, ◌≤◌, List, ◌++◌, length, refl, arith, length-append}
+use Rattle.std.proofs.Common.{ℕ, ◌≤◌, List, ◌++◌, length, refl, arith, length-append}
 use Rattle.sha2.specs.Sha256.{sha256}
 use Rattle.ts_der.specs.Element.{spell}
 use Rattle.ts_sig.specs.StandIn.{algorithm_identifier}
 use Rattle.ts_cert.specs.declared.version.Version.TheVariants.{V3}
 use Rattle.ts_cert.specs.declared.time.Time.{Time}
-use Rattle.ts_cert.specs.Spelling.{Within, IsTime, IsValidity, IsTbs, IsCertificate, version_octets}
+use Rattle.ts_cert.specs.Spelling.{Within, IsTime, IsTbs, IsCertificate, version_octets}
 use Rattle.ts_make.specs.declared.description.CertText.{CertText}
 use Rattle.ts_make.specs.Serial.{serial_content}
 use Rattle.ts_make.specs.Sayable.{IsSayable}

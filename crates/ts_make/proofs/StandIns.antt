@@ -1,11 +1,10 @@
 -- The stand-in's algorithm, and a key of it, are spelled so.
-use Rattle.std.proofs.Common.{◌≡◌, ℕ, ◌+◌, ◌≤◌, ◌^◌, ◌<◌, true, List, [], ◌∷◌, ◌++◌, length, refl, sym, arith, length-append}
+use Rattle.std.proofs.Common.{◌≡◌, ℕ, ◌≤◌, true, List, ◌∷◌, ◌++◌, length, refl, sym, arith, length-append}
 use Rattle.std.proofs.lemmas.List.{append-nil}
 use Rattle.ts_der.specs.Element.{Fits, spell, length_octets}
 use Rattle.ts_der.specs.ObjectIdentifier.{series_of, subidentifier, is_oid}
 use Rattle.ts_sig.specs.StandIn.{identifier, algorithm_identifier}
-use Rattle.ts_cert.specs.Certificate.{Algorithm, KeyInfo}
-use Rattle.ts_cert.specs.Spelling.{Within, IsOid, IsBits, IsAlgorithm, IsKeyInfo}
+use Rattle.ts_cert.specs.Spelling.{Within, IsBits, IsAlgorithm, IsKeyInfo}
 use Rattle.ts_make.specs.Description.{stand_in}
 use Rattle.ts_make.specs.Made.{bit_octets, key_octets}
 

@@ -1,5 +1,5 @@
 -- The octets of the certificate that a description says (RFC 5280 4.1), given those of its two times.
-use Rattle.std.specs.Prelude.{ℕ, List, [], ◌∷◌, ◌++◌}
+use Rattle.std.specs.Prelude.{ℕ, List, ◌∷◌, ◌++◌}
 use Rattle.std.specs.List.{flat_map}
 use Rattle.sha2.specs.Sha256.{sha256}
 use Rattle.ts_der.specs.Element.{spell}

@@ -1,10 +1,8 @@
-use Rattle.std.proofs.Common.{◌++◌, ◌≤◌, length, arith}
 use Rattle.std.specs.List.{flat_map}
 use Rattle.std.proofs.lemmas.Result.{err_from_is_err_and}
 use Rattle.ts_name.specs.NameSpelling.{spelled_rdn}
 use Rattle.ts_make.specs.Description.{rdns_in}
 use Rattle.ts_make.specs.Made.{name_octets}
-use Rattle.ts_make.specs.Writing.{IsTooLong}
 use Rattle.ts_make.proofs.TooLong.{longer, content-within, names-front}
 use Rattle.ts_make.proofs.names.append_name.Goals as goal
 
