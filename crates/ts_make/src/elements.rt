@@ -1,0 +1,68 @@
+//! Octets that grow by one element after another, up to what a certificate may have.
+
+ghost use Rattle.std.specs.Prelude.{◌≢◌, ◌%◌, ◌∷◌, ◌++◌};
+ghost use Rattle.ts_der.specs.Element.{spell};
+ghost use Rattle.ts_make.specs.Writing.{Appends, Writes};
+
+use crate::fault::MakeFault;
+use std::alloc::Global;
+use ts_cert::MAX_CERTIFICATE;
+use ts_der::Writer;
+
+pub(crate) const INTEGER: u8 = 0x02;
+
+const BIT_STRING: u8 = 0x03;
+
+pub(crate) const OBJECT_IDENTIFIER: u8 = 0x06;
+
+pub(crate) const SEQUENCE: u8 = 0x30;
+
+pub(crate) const SET: u8 = 0x31;
+
+/// Appends octets.
+pub(crate) fn append(octets: &mut Vec<u8>, part: &[u8]) -> Result<(), MakeFault>
+    ensures { Appends result part.now octets.old.items octets.new.items }
+{
+    if part.len() > MAX_CERTIFICATE || octets.len() > MAX_CERTIFICATE {
+        return Err(MakeFault::TooLong);
+    }
+    octets.extend_from_slice(part)?;
+    Ok(())
+}
+
+/// An element.
+pub(crate) fn element(alloc: Global, tag: u8, content: &[u8]) -> Result<Vec<u8>, MakeFault>
+    requires { tag % 32 ≢ 31 }
+    ensures { Writes result (spell tag content.now) }
+{
+    if content.len() > MAX_CERTIFICATE {
+        return Err(MakeFault::TooLong);
+    }
+    let mut writer = Writer::new(alloc);
+    writer.tlv(tag, content)?;
+    Ok(writer.finish())
+}
+
+/// Appends an element.
+pub(crate) fn append_element(
+    alloc: Global,
+    octets: &mut Vec<u8>,
+    tag: u8,
+    content: &[u8],
+) -> Result<(), MakeFault>
+    requires { tag % 32 ≢ 31 }
+    ensures { Appends result (spell tag content.now) octets.old.items octets.new.items }
+{
+    let part = element(alloc, tag, content)?;
+    append(octets, &part)
+}
+
+/// Appends a BIT STRING of whole octets (X.690 8.6).
+pub(crate) fn append_bits(alloc: Global, octets: &mut Vec<u8>, bits: &[u8]) -> Result<(), MakeFault>
+    ensures { Appends result (spell 0x03 (0 ∷ bits.now)) octets.old.items octets.new.items }
+{
+    let mut content = Vec::new(alloc);
+    content.push(0)?;
+    append(&mut content, bits)?;
+    append_element(alloc, octets, BIT_STRING, &content)
+}

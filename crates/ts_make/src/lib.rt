@@ -1,0 +1,20 @@
+//! Certificates made to order (RFC 5280 4.1): the DER of a certificate from a description of it, signed by the stand-in
+//! for a signature, so that whoever wants to try a rule writes one line. Reading what is made gives the description.
+#![tactic(auto)]
+
+mod certificate;
+mod description;
+mod elements;
+mod fault;
+mod key;
+pub mod laws;
+mod names;
+mod serial;
+mod tbs;
+#[cfg(test)]
+mod tests;
+mod times;
+
+pub use certificate::make_cert;
+pub use description::{AttributeType, CertText, Extension, RdnText};
+pub use fault::MakeFault;
