@@ -18,8 +18,9 @@ use Rattle.ts_cert.specs.Certificate.{Algorithm, Tbs, Certificate}
 use Rattle.ts_cert.specs.Fault.{der, breaks}
 use Rattle.ts_cert.specs.Spelling.{Within, IsAlgorithm, IsTbs, IsSigned, IsCertificate, version_octets}
 use Rattle.ts_cert.specs.Version.{version_at}
-use Rattle.ts_cert.specs.Reading.{integer_at, bits_at, algorithm_of, algorithm_at, name_at, validity_at, key_at, tbs_of, Shape, signed_of, agreed, whole_of, certificate_of}
-use Rattle.ts_cert.proofs.Parts.{took, element-took, der-ok, end-ok, end-again}
+use Rattle.ts_cert.specs.Reading.{integer_at, bits_at, algorithm_of, algorithm_at, name_at, validity_at, key_at, tbs_of, Unagreed, signed_of, agreed, whole_of, certificate_of}
+use Rattle.ts_name.proofs.Shapes.{end-ok, end-again}
+use Rattle.ts_cert.proofs.Parts.{took, element-took, der-ok}
 use Rattle.ts_cert.proofs.FieldParts.{integer-part, bits-part, name-part, algorithm-value, algorithm-part, key-part}
 use Rattle.ts_cert.proofs.Periods.{validity-part, version-found, version-again}
 
@@ -95,7 +96,7 @@ tbs-again e t is =
 
 -- ---- what is signed, with its signature
 
-signed-found : (e : Tlv) (s : Shape) → AreOctets e.content → signed_of e ≡ Ok s → IsSigned e.content s.certificate
+signed-found : (e : Tlv) (s : Unagreed) → AreOctets e.content → signed_of e ≡ Ok s → IsSigned e.content s.certificate
 unfolding signed_of
 signed-found e s fits read =
     let t = bind_ok (der (element_at 0x30 (inside e))) _ s read in
@@ -104,15 +105,15 @@ signed-found e s fits read =
     let a = bind_ok (der (algorithm_of i.0.0)) _ s i.2 in
     let b = bind_ok (der (bits_at i.0.1)) _ s a.2 in
     let d = bind_ok (der (end_at b.0.1)) _ s b.2 in
-    let made : Shape = record { certificate = record { tbs = t.0.0.whole; tbsCertificate = f.0; signatureAlgorithm = a.0; signatureValue = b.0.0 }; identifier_at = i.0.0.at } in
-    let same : made ≡ s = ok_is {A = Shape} {E = CertFault} made s d.2 in
+    let made : Unagreed = record { certificate = record { tbs = t.0.0.whole; tbsCertificate = f.0; signatureAlgorithm = a.0; signatureValue = b.0.0 }; identifier_at = i.0.0.at } in
+    let same : made ≡ s = ok_is {A = Unagreed} {E = CertFault} made s d.2 in
     let tbs = element-took 0x30 (inside e) t.0.0 t.0.1 fits (der-ok (element_at 0x30 (inside e)) t.0 t.1) in
     let identifier = element-took 0x30 t.0.1 i.0.0 i.0.1 tbs.outer (der-ok (element_at 0x30 t.0.1) i.0 i.1) in
     let bits = took bits-part i.0.1 b.0.0 b.0.1 identifier.outer (der-ok (bits_at i.0.1) b.0 b.1) in
     let at_bits : i.0.1.rest ≡ bits.0 = bits.2 ∙ (ap (λ (r : List ℕ). bits.0 ++ r) (end-ok b.0.1 d.0 (der-ok (end_at b.0.1) d.0 d.1)) ∙ append-nil bits.0) in
     let at_identifier : t.0.1.rest ≡ i.0.0.whole ++ bits.0 = identifier.whole ∙ ap (λ (r : List ℕ). i.0.0.whole ++ r) at_bits in
     let algorithm = algorithm-value.found i.0.0 a.0 identifier.inner identifier.spelled (der-ok (algorithm_of i.0.0) a.0 a.1) in
-    subst (λ (x : Shape). IsSigned e.content x.certificate) same (record {
+    subst (λ (x : Unagreed). IsSigned e.content x.certificate) same (record {
       identifier = i.0.0.whole;
       bits = bits.0;
       tbsCertificate = record { content = t.0.0.content; fits = tbs.fits; spelled = tbs.spelled; value = tbs-found t.0.0 f.0 tbs.inner f.1 };
@@ -151,7 +152,7 @@ one-algorithm w v a b is other same =
     let second = algorithm-value.again (spelled_at 0 0x30 is.content) b refl (subst (λ (c : List ℕ). IsAlgorithm c b) (sym content.1) other.value) in
     ok_is {A = Algorithm} {E = Fault} a b (sym first ∙ second)
 
-agreed-ok : (s : Shape) (c : Certificate) → agreed s ≡ Ok c → (s.certificate.tbsCertificate.signature.whole ≡ s.certificate.signatureAlgorithm.whole) × (s.certificate ≡ c)
+agreed-ok : (s : Unagreed) (c : Certificate) → agreed s ≡ Ok c → (s.certificate.tbsCertificate.signature.whole ≡ s.certificate.signatureAlgorithm.whole) × (s.certificate ≡ c)
 unfolding agreed
 agreed-ok s c read = by_test (bytes_eq s.certificate.tbsCertificate.signature.whole s.certificate.signatureAlgorithm.whole) refl read
   where

@@ -18,11 +18,11 @@ use Rattle.ts_der.proofs.Elements.{next-found}
 use Rattle.ts_der.proofs.Laws.{bind_ok, ok_is, next-only}
 use Rattle.ts_name.specs.Names.{name_of}
 use Rattle.ts_name.specs.NameSpelling.{IsName}
-use Rattle.ts_name.proofs.Shapes.{name-found, name-again}
+use Rattle.ts_name.proofs.Shapes.{name-found, name-again, end-ok, end-again}
 use Rattle.ts_cert.specs.Certificate.{Algorithm, KeyInfo}
 use Rattle.ts_cert.specs.Spelling.{Within, IsAny, IsOid, IsInteger, IsBits, AreParameters, IsAlgorithm, IsKeyInfo}
 use Rattle.ts_cert.specs.Reading.{oid_at, integer_at, bits_at, parameters_at, algorithm_of, algorithm_at, name_at, key_of, key_at}
-use Rattle.ts_cert.proofs.Parts.{Value, Part, within-part, took, end-ok, end-again}
+use Rattle.ts_cert.proofs.Parts.{Value, Part, within-part, took}
 
 -- ---- values that are the content itself, where it meets a test
 

@@ -3,3 +3,4 @@ pub mod FieldParts
 pub mod Periods
 pub mod Certificates
 pub mod OneSpelling
+pub mod Judging

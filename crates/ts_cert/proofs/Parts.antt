@@ -1,13 +1,12 @@
 -- Fields one after another: what is read is spelled so, and what is spelled so is read.
-use Rattle.std.proofs.Common.{◌≡◌, ℕ, ◌+◌, List, [], ◌∷◌, ◌++◌, length, Result, Ok, Err, refl, sym, ap, subst, ◌∙◌}
-use Rattle.std.specs.Prelude.{IfOk, IsOkAnd}
+use Rattle.std.proofs.Common.{◌≡◌, ℕ, ◌+◌, List, ◌++◌, length, Result, Ok, Err, refl, sym, ap, subst, ◌∙◌}
 use Rattle.ts_der.specs.declared.fault.Fault.{Fault}
 use Rattle.ts_der.specs.Octets.{AreOctets}
-use Rattle.ts_der.specs.Answer.{◌>>=◌, Answers}
+use Rattle.ts_der.specs.Answer.{◌>>=◌}
 use Rattle.ts_der.specs.Element.{Place, Tlv, Fits, spell, spelled_at}
-use Rattle.ts_der.specs.Reading.{element_at, end_at}
+use Rattle.ts_der.specs.Reading.{element_at}
 use Rattle.ts_der.proofs.OctetLists.{AreOctets-part, AreOctets-back}
-use Rattle.ts_der.proofs.Laws.{bind_ok, ok_is, err_not_ok, element-found, element-only}
+use Rattle.ts_der.proofs.Laws.{bind_ok, ok_is, element-found, element-only}
 use Rattle.ts_name.specs.declared.fault.CertFault.{CertFault}
 use Rattle.ts_name.specs.Names.{within}
 use Rattle.ts_cert.specs.Fault.{der}
@@ -73,32 +72,9 @@ pub der-ok : {A : Type 0} (r : Result A Fault) (x : A) → der r ≡ Ok x → r 
 der-ok {A} (Ok y) x e = ap (λ (z : A). Ok z) (ok_is {E = CertFault} y x e)
 der-ok (Err f) x e = absurd cc
 
--- the end of a sequence
-pub end-ok : (here : Place) (u : Unit {0}) → end_at here ≡ Ok u → here.rest ≡ []
-unfolding end_at
-end-ok here u e = by_rest here.rest here.at e
-  where
-    by_rest : (rest : List ℕ) (at : ℕ) → end_at (record { rest = rest; at = at }) ≡ Ok u → rest ≡ []
-    by_rest [] at e = refl
-    by_rest (o ∷ rest) at e = absurd cc
-
-pub end-again : (at : ℕ) → end_at (record { rest = []; at = at }) ≡ Ok tt
-unfolding end_at
-end-again at = refl
-
 -- a field that was read, and the octets behind it
 pub took : {A : Type 0} {E : Type 0} {read : Place → Result (A × Place) E} {Spells : List ℕ → A → Type 0} → Part read Spells
     → (here : Place) (x : A) (after : Place) → AreOctets here.rest → read here ≡ Ok (x, after) → (w : List ℕ) × Spells w x × (here.rest ≡ w ++ after.rest) × AreOctets after.rest
 took part here x after fits read =
     let f = part.found here x after fits read in
     (f.0, f.1, f.2, AreOctets-back f.0 after.rest (subst AreOctets f.2 fits))
-
--- ---- a call that is seen by view
-
-pub IfOk-answers : {X Y E : Type 0} (view : X → Y) (r : Result X E) (reading : Result Y E) (P : Y → Type 0) → Answers view r reading → ((y : Y) → reading ≡ Ok y → P y) → IfOk r (λ x. P (view x))
-IfOk-answers view (Ok x) reading P g f = f (view x) g
-IfOk-answers view (Err e) reading P g f = tt
-
-pub IsOkAnd-answers : {X Y E : Type 0} (view : X → Y) (r : Result X E) (reading : Result Y E) (y : Y) → Answers view r reading → reading ≡ Ok y → IsOkAnd r (λ x. view x ≡ y)
-IsOkAnd-answers {X} {Y} {E} view (Ok x) reading y g e = ok_is {E = E} (view x) y (sym g ∙ e)
-IsOkAnd-answers {X} {Y} {E} view (Err f) reading y g e = absurd (err_not_ok {E = E} (sym g ∙ e))

@@ -30,7 +30,8 @@ use Rattle.ts_cert.specs.Spelling.{Within, IsTimeIn, IsTime, IsValidity, version
 use Rattle.ts_cert.specs.Time.{time_of, time_at, validity_of}
 use Rattle.ts_cert.specs.Version.{version_named, number_of, not_default, version_of, version_if, version_at}
 use Rattle.ts_cert.specs.Reading.{validity_at}
-use Rattle.ts_cert.proofs.Parts.{Part, within-part, took, der-ok, end-ok, end-again}
+use Rattle.ts_name.proofs.Shapes.{end-ok, end-again}
+use Rattle.ts_cert.proofs.Parts.{Part, within-part, took, der-ok}
 
 -- ---- times
 

@@ -1,8 +1,9 @@
 -- What contracts see of a certificate.
 use Rattle.ts_name.specs.NameView.{rdns_in}
 use Rattle.ts_cert.specs.declared.certificate.Cert.{Cert}
+use Rattle.ts_cert.specs.Period.{validity_in}
 use Rattle.ts_cert.specs.Certificate.{Certificate}
-use Rattle.ts_cert.specs.Reading.{Shape}
+use Rattle.ts_cert.specs.Reading.{Unagreed}
 use Rattle.ts_cert.specs.View.{algorithm_in, key_in}
 
 abbrev pub cert_in : Cert → Certificate
@@ -14,7 +15,7 @@ cert_in c =
         serialNumber = c.serial_number.octets.now;
         signature = algorithm_in c.signature;
         issuer = rdns_in c.issuer;
-        validity = c.validity;
+        validity = validity_in c.period;
         subject = rdns_in c.subject;
         subjectPublicKeyInfo = key_in c.subject_public_key_info;
       };
@@ -23,5 +24,5 @@ cert_in c =
     }
 
 -- the same while it is read, with the place of the algorithm identifier beside the signature
-abbrev pub shape_in : Cert → Shape
-shape_in c = record { certificate = cert_in c; identifier_at = c.identifier_at }
+abbrev pub unagreed_in : Cert → Unagreed
+unagreed_in c = record { certificate = cert_in c; identifier_at = c.identifier_at }

@@ -1,5 +1,6 @@
 pub mod Certificate
 pub mod Fault
+pub mod Period
 pub mod View
 pub mod Spelling
 pub mod Version
@@ -7,3 +8,5 @@ pub mod Time
 pub mod Steps
 pub mod CertView
 pub mod Reading
+pub mod Shape
+pub mod Table

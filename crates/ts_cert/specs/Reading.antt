@@ -84,12 +84,12 @@ tbs_of e = do
   })
 
 -- a certificate whose algorithm identifiers have not been compared, with the place of the outer one
-pub record Shape : Type 0 where
+pub record Unagreed : Type 0 where
   pub certificate : Certificate
   pub identifier_at : ℕ
 
 -- Certificate ::= SEQUENCE { tbsCertificate, signatureAlgorithm, signatureValue BIT STRING }
-unfoldable pub signed_of : Tlv → Result Shape CertFault
+unfoldable pub signed_of : Tlv → Result Unagreed CertFault
 signed_of e = do
   tbs ← der (element_at 0x30 (inside e))
   fields ← tbs_of tbs.0
@@ -103,16 +103,16 @@ signed_of e = do
   })
 
 -- both algorithm identifiers are one (4.1.1.2)
-unfoldable pub agreed : Shape → Result Certificate CertFault
+unfoldable pub agreed : Unagreed → Result Certificate CertFault
 agreed s = if bytes_eq s.certificate.tbsCertificate.signature.whole s.certificate.signatureAlgorithm.whole then Ok s.certificate else Err (breaks s.identifier_at AlgorithmMismatch)
 
 -- the certificate that octets are, and nothing behind it
 unfoldable pub whole_of : List ℕ → Result Certificate CertFault
 whole_of octets = do
   e ← der (element_at 0x30 (record { rest = octets; at = 0 }))
-  shape ← signed_of e.0
+  signed ← signed_of e.0
   done ← der (end_at e.1)
-  agreed shape
+  agreed signed
 
 -- octets that are at most 65,536, the limit of this profile
 unfoldable pub certificate_of : List ℕ → Result Certificate CertFault

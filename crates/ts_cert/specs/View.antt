@@ -4,6 +4,7 @@ use Rattle.ts_name.specs.NameView.{rdns_in}
 use Rattle.ts_cert.specs.declared.algorithm.AlgorithmIdentifier.{AlgorithmIdentifier}
 use Rattle.ts_cert.specs.declared.key.SubjectPublicKeyInfo.{SubjectPublicKeyInfo}
 use Rattle.ts_cert.specs.declared.tbs.TbsCertificate.{TbsCertificate}
+use Rattle.ts_cert.specs.Period.{validity_in}
 use Rattle.ts_cert.specs.Certificate.{Algorithm, KeyInfo, Tbs}
 
 abbrev pub algorithm_in : AlgorithmIdentifier → Algorithm
@@ -19,7 +20,7 @@ tbs_in t =
       serialNumber = t.serial_number.octets.now;
       signature = algorithm_in t.signature;
       issuer = rdns_in t.issuer;
-      validity = t.validity;
+      validity = validity_in t.period;
       subject = rdns_in t.subject;
       subjectPublicKeyInfo = key_in t.subject_public_key_info;
     }

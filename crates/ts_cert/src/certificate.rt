@@ -7,13 +7,14 @@ ghost use Rattle.ts_name.specs.NameView.{rdns_in};
 ghost use Rattle.ts_cert.specs.Certificate.{Certificate};
 ghost use Rattle.ts_cert.specs.Reading.{certificate_of};
 ghost use Rattle.ts_cert.specs.Spelling.{IsCertificate};
+ghost use Rattle.ts_cert.specs.Table.{certificate_fault};
 ghost use Rattle.ts_cert.specs.View.{algorithm_in, key_in};
 ghost use Rattle.ts_cert.specs.CertView.{cert_in};
 
 use crate::algorithm::AlgorithmIdentifier;
 use crate::key::SubjectPublicKeyInfo;
 use crate::shape::read_whole;
-use crate::time::Validity;
+use crate::time::{Period, Validity};
 use crate::version::Version;
 use ts_der::{DerFault, Integer};
 use ts_name::{CertFault, CertRule, Name};
@@ -29,7 +30,7 @@ pub struct Cert<'a> {
     pub(crate) serial_number: Integer<'a>,
     pub(crate) signature: AlgorithmIdentifier<'a>,
     pub(crate) issuer: Name<'a>,
-    pub(crate) validity: Validity,
+    pub(crate) period: Period,
     pub(crate) subject: Name<'a>,
     pub(crate) subject_public_key_info: SubjectPublicKeyInfo<'a>,
     pub(crate) signature_algorithm: AlgorithmIdentifier<'a>,
@@ -51,71 +52,71 @@ impl<'a> Cert<'a> {
         ensures found { IfOk result (λ cert. IsCertificate octets.now (cert_in cert)) }
         // What is spelled so is read.
         ensures only { (c : Certificate) → IsCertificate octets.now c → IsOkAnd result (λ cert. cert_in cert ≡ c) }
-        ensures fault { refusal result ≡ refusal (certificate_of octets.now) }
+        ensures fault { refusal result ≡ certificate_fault octets.now }
         ensures exact { Answers cert_in result (certificate_of octets.now) }
     {
         read_certificate(octets)
     }
 
     /// The octets that are signed: all of tbsCertificate, header included, as they were read (RFC 5280 4.1.1.3).
-    pub fn tbs(&self) -> &'a [u8]
-        ensures { result.now ≡ (cert_in self.now).tbs }
+    pub fn tbs(self) -> &'a [u8]
+        ensures { result.now ≡ (cert_in self.entry).tbs }
     {
         self.tbs
     }
 
     /// The version (RFC 5280 4.1.2.1).
-    pub fn version(&self) -> Version
-        ensures { result ≡ (cert_in self.now).tbsCertificate.version }
+    pub fn version(self) -> Version
+        ensures { result ≡ (cert_in self.entry).tbsCertificate.version }
     {
         self.version
     }
 
     /// The serial number, of any length and sign (RFC 5280 4.1.2.2).
-    pub fn serial_number(&self) -> Integer<'a>
-        ensures { result.octets.now ≡ (cert_in self.now).tbsCertificate.serialNumber }
+    pub fn serial_number(self) -> Integer<'a>
+        ensures { result.octets.now ≡ (cert_in self.entry).tbsCertificate.serialNumber }
     {
         self.serial_number
     }
 
     /// The issuer (RFC 5280 4.1.2.4).
-    pub fn issuer(&self) -> Name<'a>
-        ensures { rdns_in result ≡ (cert_in self.now).tbsCertificate.issuer }
+    pub fn issuer(self) -> Name<'a>
+        ensures { rdns_in result ≡ (cert_in self.entry).tbsCertificate.issuer }
     {
         self.issuer
     }
 
     /// From when to when the certificate is valid (RFC 5280 4.1.2.5).
-    pub fn validity(&self) -> Validity
-        ensures { result ≡ (cert_in self.now).tbsCertificate.validity }
+    pub fn validity(self) -> Validity
+        ensures { result ≡ (cert_in self.entry).tbsCertificate.validity }
     {
-        self.validity
+        self.period.validity()
     }
 
     /// The subject (RFC 5280 4.1.2.6).
-    pub fn subject(&self) -> Name<'a>
-        ensures { rdns_in result ≡ (cert_in self.now).tbsCertificate.subject }
+    pub fn subject(self) -> Name<'a>
+        ensures { rdns_in result ≡ (cert_in self.entry).tbsCertificate.subject }
     {
         self.subject
     }
 
     /// The subject's public key and its algorithm (RFC 5280 4.1.2.7).
-    pub fn subject_public_key_info(&self) -> SubjectPublicKeyInfo<'a>
-        ensures { key_in result ≡ (cert_in self.now).tbsCertificate.subjectPublicKeyInfo }
+    pub fn subject_public_key_info(self) -> SubjectPublicKeyInfo<'a>
+        ensures { key_in result ≡ (cert_in self.entry).tbsCertificate.subjectPublicKeyInfo }
     {
         self.subject_public_key_info
     }
 
     /// The algorithm of the signature; it is the same within what is signed and beside the signature (RFC 5280 4.1.1.2).
-    pub fn signature_algorithm(&self) -> AlgorithmIdentifier<'a>
-        ensures { algorithm_in result ≡ (cert_in self.now).signatureAlgorithm }
+    pub fn signature_algorithm(self) -> AlgorithmIdentifier<'a>
+        ensures { algorithm_in result ≡ (cert_in self.entry).signatureAlgorithm }
     {
         self.signature_algorithm
     }
 
     /// The octets of the signature (RFC 5280 4.1.1.3).
-    pub fn signature(&self) -> &'a [u8]
-        ensures { result.now ≡ (cert_in self.now).signatureValue }
+    pub fn signature(self) -> &'a [u8]
+        ensures { result.now ≡ (cert_in self.entry).signatureValue }
     {
         self.signature_value
     }

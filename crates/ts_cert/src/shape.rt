@@ -4,7 +4,7 @@ ghost use Rattle.std.specs.Prelude.{◌≡◌};
 ghost use Rattle.ts_der.specs.Answer.{Answers, refusal};
 ghost use Rattle.ts_der.specs.View.{now};
 ghost use Rattle.ts_cert.specs.Reading.{signed_of, agreed, whole_of};
-ghost use Rattle.ts_cert.specs.CertView.{shape_in, cert_in};
+ghost use Rattle.ts_cert.specs.CertView.{unagreed_in, cert_in};
 
 use crate::algorithm::read_algorithm;
 use crate::certificate::Cert;
@@ -16,14 +16,11 @@ use ts_name::{CertFault, CertRule};
 /// The parts that a SEQUENCE holds, of which the two algorithm identifiers have not been compared.
 #[tactic(auto, unfolding(crate::specs::Reading::signed_of))]
 fn read_signed<'a>(element: Element<'a>) -> Result<Cert<'a>, CertFault>
-    ensures { Answers shape_in result (signed_of (now element.entry)) }
+    ensures { Answers unagreed_in result (signed_of (now element.entry)) }
 {
     let mut fields = element.reader();
     let tbs = fields.element(SEQUENCE)?;
-    let signed = match read_tbs(tbs) {
-        Ok(signed) => signed,
-        Err(fault) => return Err(fault),
-    };
+    let signed = read_tbs(tbs)?;
     let identifier = fields.element(SEQUENCE)?;
     let signature_algorithm = read_algorithm(identifier)?;
     let signature_value = next_bits(&mut fields)?;
@@ -34,7 +31,7 @@ fn read_signed<'a>(element: Element<'a>) -> Result<Cert<'a>, CertFault>
         serial_number: signed.serial_number,
         signature: signed.signature,
         issuer: signed.issuer,
-        validity: signed.validity,
+        period: signed.period,
         subject: signed.subject,
         subject_public_key_info: signed.subject_public_key_info,
         signature_algorithm,
@@ -46,7 +43,7 @@ fn read_signed<'a>(element: Element<'a>) -> Result<Cert<'a>, CertFault>
 /// Nothing, where a certificate's two algorithm identifiers are one (RFC 5280 4.1.1.2).
 #[tactic(auto, unfolding(crate::specs::Reading::agreed))]
 fn agrees(cert: &Cert<'_>) -> Result<(), CertFault>
-    ensures { refusal result ≡ refusal (agreed (shape_in cert.now)) }
+    ensures { refusal result ≡ refusal (agreed (unagreed_in cert.now)) }
 {
     if cert.signature.whole != cert.signature_algorithm.whole {
         return Err(CertFault {
@@ -64,10 +61,7 @@ pub(crate) fn read_whole(octets: &[u8]) -> Result<Cert<'_>, CertFault>
 {
     let mut reader = Reader::new(octets);
     let element = reader.element(SEQUENCE)?;
-    let cert = match read_signed(element) {
-        Ok(cert) => cert,
-        Err(fault) => return Err(fault),
-    };
+    let cert = read_signed(element)?;
     reader.end()?;
     agrees(&cert)?;
     Ok(cert)

@@ -8,7 +8,7 @@ ghost use Rattle.ts_cert.specs.View.{tbs_in};
 use crate::algorithm::{AlgorithmIdentifier, next_algorithm};
 use crate::fields::{next_integer, next_name};
 use crate::key::{SubjectPublicKeyInfo, next_key};
-use crate::time::{Validity, next_validity};
+use crate::time::{Period, next_validity};
 use crate::version::{Version, next_version};
 use ts_der::{Element, Integer};
 use ts_name::{CertFault, Name};
@@ -20,7 +20,7 @@ pub(crate) struct TbsCertificate<'a> {
     pub serial_number: Integer<'a>,
     pub signature: AlgorithmIdentifier<'a>,
     pub issuer: Name<'a>,
-    pub validity: Validity,
+    pub period: Period,
     pub subject: Name<'a>,
     pub subject_public_key_info: SubjectPublicKeyInfo<'a>,
 }
@@ -44,7 +44,7 @@ pub(crate) fn read_tbs<'a>(element: Element<'a>) -> Result<TbsCertificate<'a>, C
         serial_number,
         signature,
         issuer,
-        validity,
+        period: Period::of(validity),
         subject,
         subject_public_key_info,
     })

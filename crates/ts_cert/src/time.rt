@@ -37,6 +37,68 @@ pub struct Validity {
     pub not_after: Time,
 }
 
+/// A time as a certificate keeps it. The language's borrow checker can't hand on a struct that holds a `Moment`, which
+/// contracts see as a number, beside a name, which has a proved invariant.
+#[derive(Clone, Copy)]
+pub(crate) struct Stamp {
+    pub form: TimeForm,
+    /// The seconds of the moment.
+    pub seconds: i64,
+}
+
+/// A validity as a certificate keeps it.
+#[derive(Clone, Copy)]
+pub(crate) struct Period {
+    pub not_before: Stamp,
+    pub not_after: Stamp,
+}
+
+impl Stamp {
+    ghost use Rattle.std.specs.Prelude.{◌≡◌};
+    ghost use Rattle.ts_cert.specs.Period.{time_in};
+
+    fn of(time: Time) -> Stamp
+        ensures { time_in result ≡ time }
+    {
+        Stamp {
+            form: time.form,
+            seconds: time.moment.0,
+        }
+    }
+
+    fn time(self) -> Time
+        ensures { result ≡ time_in self }
+    {
+        Time {
+            form: self.form,
+            moment: Moment(self.seconds),
+        }
+    }
+}
+
+impl Period {
+    ghost use Rattle.std.specs.Prelude.{◌≡◌};
+    ghost use Rattle.ts_cert.specs.Period.{validity_in};
+
+    pub(crate) fn of(validity: Validity) -> Period
+        ensures { validity_in result ≡ validity }
+    {
+        Period {
+            not_before: Stamp::of(validity.not_before),
+            not_after: Stamp::of(validity.not_after),
+        }
+    }
+
+    pub(crate) fn validity(self) -> Validity
+        ensures { result ≡ validity_in self }
+    {
+        Validity {
+            not_before: self.not_before.time(),
+            not_after: self.not_after.time(),
+        }
+    }
+}
+
 /// The time that an element is, by its tag.
 #[tactic(auto, unfolding(crate::specs::Time::time_of))]
 fn read_time(element: Element<'_>) -> Result<Time, Fault>

@@ -1,6 +1,7 @@
 //! The identifier and length octets of an element (X.690 8.1.2, 8.1.3).
 
-ghost use Rattle.std.specs.Prelude.{◌≡◌, ℕ, ◌+◌, ◌<◌, ◌≤◌, length, IfOk};
+ghost use Rattle.std.specs.Prelude.{◌≡◌, ℕ, ◌+◌, ◌<◌, ◌≤◌, length, nat_lt, if◌then◌else◌, Ok, Err, IfOk};
+ghost use Rattle.ts_der.specs.declared.fault.DerFault.TheVariants.{Truncated};
 ghost use Rattle.ts_der.specs.Answer.{refusal};
 ghost use Rattle.ts_der.specs.Rules.{first_broken};
 ghost use Rattle.ts_der.specs.Element.{number};
@@ -14,6 +15,23 @@ pub struct Header {
     pub tag: u8,
     pub size: usize,
     pub length: usize,
+}
+
+impl Header {
+    /// A header of these parts, if as much content follows it as it announces.
+    fn before(content: &[u8], tag: u8, size: usize, announced: usize) -> Result<Header, DerFault>
+        ensures { result ≡ (if nat_lt (length content.now) announced then Err Truncated
+            else Ok (record { tag = tag; size = size; length = announced })) }
+    {
+        if content.len() < announced {
+            return Err(DerFault::Truncated);
+        }
+        Ok(Header {
+            tag,
+            size,
+            length: announced,
+        })
+    }
 }
 
 /// The number that one to four octets are, the most significant first.
@@ -51,14 +69,7 @@ pub fn read_header(rest: &[u8]) -> Result<Header, DerFault>
         return Err(DerFault::Truncated);
     };
     if *form < 0x80 {
-        if more.len() < *form as usize {
-            return Err(DerFault::Truncated);
-        }
-        return Ok(Header {
-            tag: *tag,
-            size: 2,
-            length: *form as usize,
-        });
+        return Header::before(more, *tag, 2, *form as usize);
     }
     if *form == 0x80 {
         return Err(DerFault::Indefinite);
@@ -75,12 +86,5 @@ pub fn read_header(rest: &[u8]) -> Result<Header, DerFault>
     if digits[0] == 0 || length < 0x80 {
         return Err(DerFault::LongLength);
     }
-    if content.len() < length {
-        return Err(DerFault::Truncated);
-    }
-    Ok(Header {
-        tag: *tag,
-        size: 2 + count,
-        length,
-    })
+    Header::before(content, *tag, 2 + count, length)
 }

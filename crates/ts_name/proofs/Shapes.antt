@@ -28,7 +28,7 @@ value-ok : {A : Type 0} (o : Option DerFault) (at : ℕ) (x y : A) → located a
 value-ok None at x y e = (refl, ok_is {E = Fault} x y e)
 value-ok (Some k) at x y e = absurd cc
 
-end-ok : (here : Place) (u : Unit {0}) → end_at here ≡ Ok u → here.rest ≡ []
+pub end-ok : (here : Place) (u : Unit {0}) → end_at here ≡ Ok u → here.rest ≡ []
 unfolding end_at
 end-ok here u e = by_rest here.rest here.at e
   where
@@ -36,7 +36,7 @@ end-ok here u e = by_rest here.rest here.at e
     by_rest [] at e = refl
     by_rest (o ∷ rest) at e = absurd cc
 
-end-again : (at : ℕ) → end_at (record { rest = []; at = at }) ≡ Ok tt
+pub end-again : (at : ℕ) → end_at (record { rest = []; at = at }) ≡ Ok tt
 unfolding end_at
 end-again at = refl
 

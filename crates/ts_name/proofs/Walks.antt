@@ -55,13 +55,13 @@ unfolding within
 fails tag value here f read = rw read refl
 
 -- a call that is seen by view
-pub IfOk-answers : {X Y : Type 0} (view : X → Y) (r : Result X Fault) (reading : Result Y Fault) (P : Y → Type 0) → Answers view r reading → ((y : Y) → reading ≡ Ok y → P y) → IfOk r (λ x. P (view x))
+pub IfOk-answers : {X Y E : Type 0} (view : X → Y) (r : Result X E) (reading : Result Y E) (P : Y → Type 0) → Answers view r reading → ((y : Y) → reading ≡ Ok y → P y) → IfOk r (λ x. P (view x))
 IfOk-answers view (Ok x) reading P g f = f (view x) g
 IfOk-answers view (Err e) reading P g f = tt
 
-pub IsOkAnd-answers : {X Y : Type 0} (view : X → Y) (r : Result X Fault) (reading : Result Y Fault) (y : Y) (P : Y → Type 0) → Answers view r reading → reading ≡ Ok y → P y → IsOkAnd r (λ x. P (view x))
-IsOkAnd-answers view (Ok x) reading y P g e p = subst P (ok_is {E = Fault} y (view x) (sym e ∙ g)) p
-IsOkAnd-answers view (Err f) reading y P g e p = absurd (err_not_ok {E = Fault} (sym g ∙ e))
+pub IsOkAnd-answers : {X Y E : Type 0} (view : X → Y) (r : Result X E) (reading : Result Y E) (y : Y) (P : Y → Type 0) → Answers view r reading → reading ≡ Ok y → P y → IsOkAnd r (λ x. P (view x))
+IsOkAnd-answers {X} {Y} {E} view (Ok x) reading y P g e p = subst P (ok_is {E = E} y (view x) (sym e ∙ g)) p
+IsOkAnd-answers {X} {Y} {E} view (Err f) reading y P g e p = absurd (err_not_ok {E = E} (sym g ∙ e))
 
 -- ---- a list that was read, item by item
 
