@@ -52,4 +52,17 @@ one_number : (k m : Condition) → number_of k ≡ number_of m → k ≡ m
 one_number k m e = sym (numbered k) ∙ (ap condition_numbered e ∙ numbered m)
 
 pub one_least : (q : Question) (i j : ℕ) (k m : Condition) → IsLeast q i k → IsLeast q j m → (i ≡ j) × (k ≡ m)
-one_least q i j k m a b = ?
+one_least q i j k m a b =
+    elim (cases_order i j) [
+      | inl same ↦ elim (cases_order (number_of k) (number_of m)) [
+        | inl number ↦ (same, one_number k m number)
+        | inr other ↦ elim other [
+          | inl lt ↦ absurd (a.fails (b.first i k (inr (same, lt))))
+          | inr gt ↦ absurd (b.fails (a.first j m (inr (sym same, gt))))
+        ]
+      ]
+      | inr other ↦ elim other [
+        | inl lt ↦ absurd (a.fails (b.first i k (inl lt)))
+        | inr gt ↦ absurd (b.fails (a.first j m (inl gt)))
+      ]
+    ]

@@ -1,6 +1,6 @@
 -- From the conditions on the first certificate to the verdict on a chain of one.
 use Rattle.std.proofs.Common.{◌≡◌, ℕ, zero, suc, ◌+◌, ◌-◌, ◌<◌, ◌≤◌, List, [], ◌∷◌, length, Option, Some, None, refl, sym, ap, subst, ◌∙◌, arith, ◌⊎◌, inl, inr}
-use Rattle.std.specs.Prelude.{slice_get, map, Bool, true, ℤ, ◌≤ℤ◌}
+use Rattle.std.specs.Prelude.{slice_get, map, get_or, Bool, true, ℤ, ◌≤ℤ◌}
 use Rattle.ts_name.specs.Sameness.{canon_name}
 use Rattle.ts_sig.specs.Key.{Key}
 use Rattle.ts_cert.specs.Certificate.{Certificate}
@@ -22,13 +22,19 @@ record AtOne (c d : Certificate) (i : ℕ) : Type 0 where
   position : i ≡ 1
   same : c ≡ d
 
+some_is : {A : Type 0} (x y : A) → Some x ≡ Some y → x ≡ y
+some_is x y e = cc
+
+nothing_is : {A : Type 0} (x : A) → (let nothing : Option A = None in nothing ≡ Some x) → ⊥
+nothing_is x e = absurd cc
+
 at_one : (issuer : Issuer) (c : Certificate) (moment : ℤ) (good : List ℕ → Key → List ℕ → List ℕ → Bool) (i : ℕ) (d : Certificate) → Stands (one issuer c moment good) i d → AtOne c d i
-at_one issuer c moment good zero d s = absurd (let low = s.0 in omega arith)
-at_one issuer c moment good (suc zero) d s = record { position = refl; same = let e = s.1 in cc }
-at_one issuer c moment good (suc (suc i)) d s = absurd (let e = s.1 in cc)
+at_one issuer c moment good zero d s = absurd (nothing_is d s)
+at_one issuer c moment good (suc zero) d s = record { position = refl; same = some_is c d s }
+at_one issuer c moment good (suc (suc i)) d s = absurd (nothing_is d s)
 
 issuer_is : (issuer other : Issuer) (c : Certificate) (moment : ℤ) (good : List ℕ → Key → List ℕ → List ℕ → Bool) → IsBefore (one issuer c moment good) 1 other → issuer ≡ other
-issuer_is issuer other c moment good before = cc
+issuer_is issuer other c moment good before = some_is issuer other before
 
 -- ---- each condition at each position
 
@@ -61,19 +67,19 @@ issued-all issuer c moment good i is d other stands before =
 
 not_signed : (issuer : Issuer) (c : Certificate) (moment : ℤ) (good : List ℕ → Key → List ℕ → List ℕ → Bool) → ¬ (IsGood issuer c good) → ¬ (IsSigned (one issuer c moment good) 1)
 unfolding IsSigned
-not_signed issuer c moment good bad is = bad (is c issuer (omega arith, refl) refl)
+not_signed issuer c moment good bad is = bad (is c issuer refl refl)
 
 not_begun : (issuer : Issuer) (c : Certificate) (moment : ℤ) (good : List ℕ → Key → List ℕ → List ℕ → Bool) → ¬ (c.tbsCertificate.validity.not_before.moment ≤ℤ moment) → ¬ (HasBegun (one issuer c moment good) 1)
 unfolding HasBegun
-not_begun issuer c moment good bad is = bad (is c (omega arith, refl))
+not_begun issuer c moment good bad is = bad (is c refl)
 
 has_ended : (issuer : Issuer) (c : Certificate) (moment : ℤ) (good : List ℕ → Key → List ℕ → List ℕ → Bool) → ¬ (moment ≤ℤ c.tbsCertificate.validity.not_after.moment) → ¬ (HasNotEnded (one issuer c moment good) 1)
 unfolding HasNotEnded
-has_ended issuer c moment good bad is = bad (is c (omega arith, refl))
+has_ended issuer c moment good bad is = bad (is c refl)
 
 not_issued : (issuer : Issuer) (c : Certificate) (moment : ℤ) (good : List ℕ → Key → List ℕ → List ℕ → Bool) → ¬ (canon_name c.tbsCertificate.issuer ≡ canon_name issuer.name) → ¬ (IsIssued (one issuer c moment good) 1)
 unfolding IsIssued
-not_issued issuer c moment good bad is = bad (is c issuer (omega arith, refl) refl)
+not_issued issuer c moment good bad is = bad (is c issuer refl refl)
 
 -- ---- all conditions
 
@@ -100,10 +106,9 @@ by_condition q i purpose a b c d = tt
 -- no certificate stands before position 1
 before_all : (q : Question) (i : ℕ) (k : Condition) → i < 1 → Holds k q i
 unfolding IsSigned HasBegun HasNotEnded IsIssued
-before_all q i k low = by_condition q i k (λ n c issuer stands before. absurd (none c stands)) (λ n c stands. absurd (none c stands)) (λ n c stands. absurd (none c stands)) (λ n c issuer stands before. absurd (none c stands))
-  where
-    none : (c : Certificate) → Stands q i c → ⊥
-    none c stands = let high = stands.0 in omega arith
+before_all q zero k low =
+    by_condition q zero k (λ n c issuer stands before. absurd (nothing_is c stands)) (λ n c stands. absurd (nothing_is c stands)) (λ n c stands. absurd (nothing_is c stands)) (λ n c issuer stands before. absurd (nothing_is c stands))
+before_all q (suc i) k low = absurd (omega arith)
 
 -- where those of lesser numbers hold at position 1, none comes before the condition
 first_at_one : (q : Question) (k : Condition) → ((m : Condition) → number_of m < number_of k → Holds m q 1) → (j : ℕ) (m : Condition) → Precedes j m 1 k → Holds m q j
@@ -141,3 +146,10 @@ least issuer c moment good KeyUsage f = absurd f
 least issuer c moment good (CriticalExtension oid) f = absurd f
 least issuer c moment good FinalPolicy f = absurd f
 least issuer c moment good Purpose f = absurd f
+
+-- ---- a chain of one
+
+pub chain_of_one : {A B : Type 0} (f : A → B) (xs : List A) (d : A) → length xs ≡ 1 → map f xs ≡ f (get_or xs 0 d) ∷ []
+chain_of_one f [] d e = absurd (omega arith)
+chain_of_one f (x ∷ []) d e = refl
+chain_of_one f (x ∷ y ∷ xs) d e = absurd (omega arith)

@@ -1,5 +1,5 @@
 -- What is asked of a chain (RFC 5280 6.1.1), and its certificates by position: 1 is the one that the anchor issued.
-use Rattle.std.specs.Prelude.{◌≡◌, ℕ, zero, suc, ◌-◌, ◌≤◌, Bool, ℤ, List, [], ◌∷◌, map, Option, Some, slice_get}
+use Rattle.std.specs.Prelude.{◌≡◌, ℕ, zero, suc, Bool, ℤ, List, ◌∷◌, map, Option, Some, None, slice_get}
 use Rattle.ts_name.specs.Canon.{Attr}
 use Rattle.ts_sig.specs.Key.{Key}
 use Rattle.ts_cert.specs.Certificate.{KeyInfo, Certificate}
@@ -25,10 +25,19 @@ issuer_of c = record { name = c.tbsCertificate.subject; key = c.tbsCertificate.s
 abbrev pub issuers : Question → List Issuer
 issuers q = q.anchor ∷ map issuer_of q.chain
 
--- the certificate at a position
-abbrev pub Stands : Question → ℕ → Certificate → Type 0
-Stands q i c = (1 ≤ i) × (slice_get q.chain (i - 1) ≡ Some c)
+-- the certificate at a position, from 1
+abbrev pub certificate_at : Question → ℕ → Option Certificate
+certificate_at q zero = None
+certificate_at q (suc i) = slice_get q.chain i
 
 -- the issuer before a position: for the first certificate the anchor
+abbrev pub issuer_before : Question → ℕ → Option Issuer
+issuer_before q zero = None
+issuer_before q (suc i) = slice_get (issuers q) i
+
+-- both stand there
+abbrev pub Stands : Question → ℕ → Certificate → Type 0
+Stands q i c = certificate_at q i ≡ Some c
+
 abbrev pub IsBefore : Question → ℕ → Issuer → Type 0
-IsBefore q i issuer = slice_get (issuers q) (i - 1) ≡ Some issuer
+IsBefore q i issuer = issuer_before q i ≡ Some issuer

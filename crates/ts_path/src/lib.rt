@@ -15,6 +15,6 @@ mod working_key;
 
 pub use anchor::Anchor;
 pub use inputs::Inputs;
-pub use reason::Reason;
 pub use path::validate;
+pub use reason::Reason;
 pub use verdict::Verdict;
