@@ -1,0 +1,13 @@
+//! Laws about the definitions that the clauses of this crate cite. Each stands on a function that does nothing.
+
+ghost use Rattle.std.specs.Prelude.{◌≡◌, ℕ};
+ghost use Rattle.ts_path.specs.Question.{Question};
+ghost use Rattle.ts_path.specs.Conditions.{Condition, Holds};
+ghost use Rattle.ts_path.specs.Verdict.{IsLeast};
+
+/// A question has one verdict: where a condition fails the chain is not valid, and of the conditions that fail one is the
+/// least.
+pub fn one_verdict()
+    ensures least { (q : Question) (i j : ℕ) (k m : Condition) → IsLeast q i k → IsLeast q j m → (i ≡ j) × (k ≡ m) }
+    ensures invalid { (q : Question) (i : ℕ) (k : Condition) → IsLeast q i k → ¬ ((j : ℕ) (m : Condition) → Holds m q j) }
+{}

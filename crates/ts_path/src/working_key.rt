@@ -1,0 +1,35 @@
+//! The key under which a signature is checked.
+
+ghost use Rattle.std.specs.Prelude.{◌≡◌, [], ◌∷◌};
+ghost use Rattle.std.specs.Option.{option_copied};
+ghost use Rattle.ts_sig.specs.Key.{key_of};
+ghost use Rattle.ts_cert.specs.View.{key_in};
+ghost use Rattle.ts_path.specs.WorkingKey.{stated, parameters_of};
+
+use ts_cert::SubjectPublicKeyInfo;
+use ts_sig::WorkingKey;
+
+/// NULL as a whole element (X.690 8.8).
+const NULL: [u8; 2] = [0x05, 0x00];
+
+/// Parameters that are not NULL.
+fn stated_parameters(parameters: Option<&[u8]>) -> Option<&[u8]>
+    ensures { option_copied result ≡ stated (option_copied parameters.entry) }
+{
+    match parameters {
+        Some(element) if element != NULL.as_slice() => Some(element),
+        _ => None,
+    }
+}
+
+/// The key of an anchor, which has no issuer whose parameters it could inherit (RFC 5280 6.1.2 (g) to (i)).
+#[tactic(auto, unfolding(crate::specs::WorkingKey::parameters_of))]
+pub(crate) fn key_of_anchor<'a>(key: &SubjectPublicKeyInfo<'a>) -> WorkingKey<'a>
+    ensures { key_of result ≡ record { algorithm = (key_in key.now).algorithm.algorithm; parameters = parameters_of (key_in key.now ∷ []); octets = (key_in key.now).subjectPublicKey } }
+{
+    WorkingKey {
+        algorithm: key.algorithm.algorithm,
+        parameters: stated_parameters(key.algorithm.parameters),
+        octets: key.subject_public_key,
+    }
+}
