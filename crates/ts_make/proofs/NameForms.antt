@@ -5,14 +5,14 @@ use Rattle.std.specs.Str.{IsUtf8}
 use Rattle.std.proofs.lemmas.Str.{is_utf8-from_IsUtf8}
 use Rattle.ts_der.specs.Rules.{first_broken}
 use Rattle.ts_der.specs.Element.{Fits, spell}
-use Rattle.ts_der.specs.ObjectIdentifier.{is_oid, series_of, subidentifier}
+use Rattle.ts_der.specs.ObjectIdentifier.{is_oid, series_of, subidentifier, arcs, IsOid}
 use Rattle.ts_name.specs.Names.{text_rules}
 use Rattle.ts_name.specs.NameSpelling.{attribute_content, rdn_content, spelled_rdn, IsRdn, IsName}
 use Rattle.ts_cert.specs.Spelling.{Within}
 use Rattle.ts_make.specs.declared.description.AttributeType.{AttributeType}
 use Rattle.ts_make.specs.declared.description.AttributeType.TheVariants.{CommonName, OrganizationName}
 use Rattle.ts_make.specs.declared.description.RdnText.{RdnText}
-use Rattle.ts_make.specs.Description.{kind_octets, rdn_in, rdns_in}
+use Rattle.ts_make.specs.Description.{kind_octets, kind_arcs, rdn_in, rdns_in}
 use Rattle.ts_make.specs.Sayable.{AreTexts}
 use Rattle.ts_make.specs.Made.{name_octets}
 use Rattle.ts_make.proofs.StandIns.{content-short, fits-sequence}
@@ -21,6 +21,12 @@ kind-is : (kind : AttributeType) → is_oid (kind_octets kind) ≡ true
 unfolding is_oid series_of subidentifier
 kind-is CommonName = refl
 kind-is OrganizationName = refl
+
+-- the same in the words of X.690
+pub kind-oid : (kind : AttributeType) → IsOid (kind_octets kind) (kind_arcs kind)
+unfolding arcs series_of subidentifier
+kind-oid CommonName = record { form = kind-is CommonName; value = refl }
+kind-oid OrganizationName = record { form = kind-is OrganizationName; value = refl }
 
 text-is : (text : List ℕ) → IsUtf8 text → first_broken (text_rules 0x0C) text ≡ None
 text-is text is = rw (is_utf8-from_IsUtf8 text is) refl

@@ -3,6 +3,7 @@ use Rattle.std.proofs.Common.{◌≡◌, ℕ, ◌/◌, ◌%◌, ◌^◌, ◌<◌
 use Rattle.std.proofs.lemmas.Bool.{cases_lt, cases_eq, lt-ltb, le-ltb, ne_eqb}
 use Rattle.ts_der.specs.Element.{number, spell}
 use Rattle.ts_der.specs.Integer.{is_shortest, twos_complement}
+use Rattle.ts_der.specs.Integer as integers
 use Rattle.ts_cert.specs.Spelling.{Within, IsInteger}
 use Rattle.ts_make.specs.Serial.{serial_content}
 use Rattle.ts_make.proofs.StandIns.{content-short}
@@ -54,3 +55,7 @@ serial-spelled n high le =
       spelled = refl;
       value = (refl, is.shortest);
     }
+
+-- the same in the words of X.690
+pub serial-integer : (n : ℕ) → n < 2 ^ 32 → integers.IsInteger (serial_content n) (pos n)
+serial-integer n high = let is = serial-is n high in record { shortest = is.shortest; value = is.value }

@@ -19,6 +19,11 @@ abbrev pub kind_octets : AttributeType → List ℕ
 kind_octets CommonName = 0x55 ∷ 4 ∷ 3 ∷ []
 kind_octets OrganizationName = 0x55 ∷ 4 ∷ 10 ∷ []
 
+-- and its arcs
+abbrev pub kind_arcs : AttributeType → List ℕ
+kind_arcs CommonName = 2 ∷ 5 ∷ 4 ∷ 3 ∷ []
+kind_arcs OrganizationName = 2 ∷ 5 ∷ 4 ∷ 10 ∷ []
+
 -- a relative distinguished name of one attribute, a UTF8String
 abbrev pub rdn_in : RdnText → List Attr
 rdn_in r = record { kind = kind_octets r.kind; tag = 0x0C; value = r.text.now } ∷ []
