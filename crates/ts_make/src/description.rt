@@ -34,12 +34,12 @@ pub struct RdnText<'a> {
 }
 
 /// An extension (RFC 5280 4.2). There is none yet.
-#[derive(Clone, Copy, Debug)]
+#[derive(Clone, Copy)]
 pub enum Extension {}
 
 /// A certificate of version 3, in the words of its fields (RFC 5280 4.1). Both its algorithms are the stand-in's, and so
 /// is that of its key.
-#[derive(Clone, Copy, Debug)]
+#[derive(Clone, Copy)]
 pub struct CertText<'a> {
     /// serialNumber (RFC 5280 4.1.2.2).
     pub serial: u32,
