@@ -17,3 +17,4 @@ pub mod ObjectIdentifier
 pub mod Default
 pub mod Dotted
 pub mod DottedReading
+pub mod Printed

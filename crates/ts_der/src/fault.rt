@@ -1,7 +1,8 @@
 //! What is wrong with octets that are not DER, and where.
 
-ghost use Rattle.std.specs.Prelude.{◌≡◌};
+ghost use Rattle.std.specs.Prelude.{◌≡◌, Some};
 ghost use Rattle.ts_der.specs.Reading.{located as located_at};
+ghost use Rattle.ts_der.specs.Printed.{fault_name};
 
 use std::fmt;
 
@@ -44,7 +45,10 @@ pub enum DerFault {
     Empty = 17,
 }
 
+/// The name of the rule.
 impl fmt::Display for DerFault {
+    ghost output = { λ rule. Some (fault_name rule) };
+
     fn fmt<W: fmt::Write>(&self, f: &mut fmt::Formatter<W>) -> fmt::Result {
         let name = match self {
             DerFault::Truncated => "Truncated",

@@ -1,8 +1,9 @@
 //! Reading object identifiers from their dotted text.
 
-ghost use Rattle.std.specs.Prelude.{◌≡◌, ◌++◌, [], None, OnOk};
+ghost use Rattle.std.specs.Prelude.{◌≡◌, ◌++◌, [], None, Some, OnOk};
 ghost use Rattle.std.specs.Vec.{vec_len};
 ghost use Rattle.ts_der.specs.declared.oid_text.OidTextError.TheVariants.{Memory};
+ghost use Rattle.ts_der.specs.Printed.{text_error_name};
 ghost use Rattle.ts_der.specs.DottedReading.{arc_with, arcs_from, leading_octets, octets_of, first_subidentifier, content_of, content_in, Reads};
 
 use std::alloc::{AllocError, AllocFailed, Global};
@@ -18,7 +19,10 @@ pub enum OidTextError {
     Form,
 }
 
+/// The name of the reason.
 impl fmt::Display for OidTextError {
+    ghost output = { λ error. Some (text_error_name error) };
+
     fn fmt<W: fmt::Write>(&self, f: &mut fmt::Formatter<W>) -> fmt::Result {
         match self {
             OidTextError::Memory => write!(f, "Memory"),

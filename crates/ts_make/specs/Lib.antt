@@ -6,3 +6,4 @@ pub mod Made
 pub mod Writing
 pub mod Making
 pub mod Sayable
+pub mod Printed

@@ -1,7 +1,8 @@
 //! Why a certificate was not made.
 
-ghost use Rattle.std.specs.Prelude.{◌≡◌};
+ghost use Rattle.std.specs.Prelude.{◌≡◌, Some};
 ghost use Rattle.ts_make.specs.declared.fault.MakeFault.TheVariants.{Memory};
+ghost use Rattle.ts_make.specs.Printed.{fault_text};
 
 use std::alloc::{AllocError, AllocFailed};
 use std::error::Error;
@@ -19,7 +20,10 @@ pub enum MakeFault {
     Unreadable(CertFault),
 }
 
+/// The name of the reason, as `TooLong` and `Unreadable(Truncated at 4)`.
 impl fmt::Display for MakeFault {
+    ghost output = { λ fault. Some (fault_text fault) };
+
     fn fmt<W: fmt::Write>(&self, f: &mut fmt::Formatter<W>) -> fmt::Result {
         match self {
             MakeFault::Memory => write!(f, "Memory"),

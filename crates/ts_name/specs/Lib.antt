@@ -9,3 +9,4 @@ pub mod NameView
 pub mod Steps
 pub mod NameSpelling
 pub mod Sameness
+pub mod Printed

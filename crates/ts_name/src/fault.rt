@@ -1,7 +1,8 @@
 //! What is wrong with octets that are not a certificate, and where.
 
-ghost use Rattle.std.specs.Prelude.{◌≡◌};
+ghost use Rattle.std.specs.Prelude.{◌≡◌, Some};
 ghost use Rattle.ts_name.specs.Fault.{code_of, about};
+ghost use Rattle.ts_name.specs.Printed.{rule_name};
 
 use std::fmt;
 use ts_der::{DerFault, Fault};
@@ -45,7 +46,10 @@ impl CertRule {
     }
 }
 
+/// The name of the rule.
 impl fmt::Display for CertRule {
+    ghost output = { λ rule. Some (rule_name rule) };
+
     fn fmt<W: fmt::Write>(&self, f: &mut fmt::Formatter<W>) -> fmt::Result {
         let name = match self {
             CertRule::Der(rule) => return write!(f, "{rule}"),

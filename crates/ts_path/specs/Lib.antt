@@ -4,3 +4,4 @@ pub mod Conditions
 pub mod Verdict
 pub mod View
 pub mod Judging
+pub mod Printed

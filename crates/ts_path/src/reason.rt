@@ -1,8 +1,9 @@
 //! Why a chain is not good.
 
-ghost use Rattle.std.specs.Prelude.{◌≡◌};
+ghost use Rattle.std.specs.Prelude.{◌≡◌, Some};
 ghost use Rattle.ts_path.specs.Conditions.{number_of};
 ghost use Rattle.ts_path.specs.Verdict.{condition_of};
+ghost use Rattle.ts_path.specs.Printed.{reason_text};
 
 use std::fmt;
 use ts_der::OidRef;
@@ -77,7 +78,10 @@ impl Reason<'_> {
     }
 }
 
+/// The name of the reason, as `Expired`, `Revoked 6` and `CriticalExtension 2.5.29.36`.
 impl fmt::Display for Reason<'_> {
+    ghost output = { λ reason. Some (reason_text reason) };
+
     fn fmt<W: fmt::Write>(&self, f: &mut fmt::Formatter<W>) -> fmt::Result {
         let name = match self {
             Reason::Revoked(code) => return write!(f, "Revoked {code}"),
