@@ -20,3 +20,4 @@ pub mod DottedTexts
 pub mod OidContents
 pub mod DottedArcs
 pub mod OidLaws
+pub mod ManyArcs
