@@ -1,23 +1,13 @@
--- The lab as a function of octets: what it writes for a script, and the status that it ends with.
-use Rattle.std.specs.Prelude.{ℕ, List, [], ◌∷◌, ◌++◌, Option, None, Some}
+-- How the answers of a script ended.
+use Rattle.std.specs.Prelude.{Option, None, Some, Result, Ok, Err}
 use Rattle.trustd.specs.declared.script.WrongLine.{WrongLine}
-use Rattle.trustd.specs.declared.script.TheConstants.{LINE_FEED}
-use Rattle.trustd.specs.Script.{wrong_line_of, wrong_line_text}
+use Rattle.trustd.specs.declared.lab.StreamFault.{StreamFault}
+use Rattle.trustd.specs.declared.lab.StreamFault.TheVariants as stream
+use Rattle.trustd.specs.declared.scanner.Stop.{Stop}
+use Rattle.trustd.specs.declared.scanner.Stop.TheVariants.{Wrong, Write}
 
--- one line of output for a wrong line, and none without one
-abbrev pub text_of : Option WrongLine → List ℕ
-text_of None = []
-text_of (Some wrong) = wrong_line_text wrong ++ LINE_FEED ∷ []
-
--- success, or 2 for a wrong line
-abbrev pub status_of : Option WrongLine → ℕ
-status_of None = 0
-status_of (Some wrong) = 2
-
--- what the lab writes for a script
-abbrev pub lab_text : List ℕ → List ℕ
-lab_text script = text_of (wrong_line_of script)
-
--- the status that the lab ends with after a script
-abbrev pub lab_status : List ℕ → ℕ
-lab_status script = status_of (wrong_line_of script)
+-- the wrong line that ended the answers, if one did and no write failed
+abbrev pub wrong_line_in : {T : Type 0} → Result T Stop → Result (Option WrongLine) StreamFault
+wrong_line_in (Ok _) = Ok None
+wrong_line_in (Err (Wrong w)) = Ok (Some w)
+wrong_line_in (Err Write) = Err stream.Write

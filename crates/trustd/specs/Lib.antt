@@ -1,4 +1,7 @@
-pub mod Script
+pub mod Words
+pub mod Known
+pub mod Wrong
+pub mod Says
 pub mod Scanner
 pub mod Lab
 pub mod CommandLine

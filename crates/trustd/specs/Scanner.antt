@@ -1,19 +1,28 @@
--- A script of which some octets have been taken, and others are to come.
-use Rattle.std.specs.Prelude.{◌≡◌, ℕ, List, ◌++◌, Option, None, Some, Result, Ok, Err}
+-- What ending a line does.
+use Rattle.std.specs.Prelude.{◌≡◌, List, ℕ, Option, Result, Ok, Err}
+use Rattle.std.specs.Io.KnownBytes.{Appends}
 use Rattle.trustd.specs.declared.script.WrongLine.{WrongLine}
 use Rattle.trustd.specs.declared.scanner.Scanner.{Scanner}
-use Rattle.trustd.specs.Script.{onto_first, lines_of, first_wrong}
+use Rattle.trustd.specs.declared.scanner.Stop.{Stop}
+use Rattle.trustd.specs.declared.scanner.Stop.TheVariants.{Wrong, Write}
+use Rattle.trustd.specs.Known.{known_in}
+use Rattle.trustd.specs.Says.{Says, Refuses}
 
--- the lines of what is to come, the first of which has begun with this octet
-abbrev pub begun_lines : Option ℕ → List (List ℕ) → List (List ℕ)
-begun_lines None lines = lines
-begun_lines (Some x) lines = onto_first x lines
+-- the line that was read is answered
+pub record HasSaid (old new : Scanner) (before after : Option (List ℕ)) : Type 0 where
+  pub number : new.number ≡ old.number
+  pub line : new.line.items ≡ old.line.items
+  pub text : List ℕ
+  pub says : Says (known_in old.known.items) old.line.items text (known_in new.known.items)
+  pub written : Appends before after text
 
--- the first wrong line, if these octets are the rest of the script
-abbrev pub awaited : Scanner → List ℕ → Option WrongLine
-awaited s rest = first_wrong s.number (begun_lines s.first (lines_of rest))
+-- it is refused, and nothing is written
+pub record HasRefused (old : Scanner) (before after : Option (List ℕ)) (w : WrongLine) : Type 0 where
+  pub number : w.number ≡ old.number
+  pub refuses : Refuses old.line.items w.fault
+  pub silent : after ≡ before
 
--- an `Ok` took the piece, and an `Err` is the first wrong line, whatever is to come
-abbrev pub Scans : {T : Type 0} → Scanner → Scanner → List ℕ → Result T WrongLine → Type 0
-Scans old new piece (Ok _) = (rest : List ℕ) → awaited old (piece ++ rest) ≡ awaited new rest
-Scans old new piece (Err wrong) = (rest : List ℕ) → awaited old (piece ++ rest) ≡ Some wrong
+abbrev pub Finishes : {T : Type 0} → Scanner → Scanner → Option (List ℕ) → Option (List ℕ) → Result T Stop → Type 0
+Finishes old new before after (Ok _) = HasSaid old new before after
+Finishes old new before after (Err (Wrong w)) = HasRefused old before after w
+Finishes old new before after (Err Write) = Unit {0}

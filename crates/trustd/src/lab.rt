@@ -1,11 +1,11 @@
 //! The lab: answers a script that a reader gives, on a writer.
 
-ghost use Rattle.std.specs.Prelude.{◌≡◌, ◌≢◌, ◌≤◌, ◌⊎◌, IfErr, IfOk, IfSome, OnOk};
+ghost use Rattle.std.specs.Prelude.{◌≡◌, ◌≤◌, ◌⊎◌, IfOk, OnOk};
 ghost use Rattle.std.specs.Io.KnownBytes.{Appends};
-ghost use Rattle.trustd.specs.Script.{wrong_line_of};
-ghost use Rattle.trustd.specs.Lab.{lab_status, lab_text, text_of};
+ghost use Rattle.trustd.specs.Wrong.{text_of};
+ghost use Rattle.trustd.specs.Lab.{wrong_line_in};
 
-use crate::scanner::Scanner;
+use crate::scanner::{Scanner, Stop};
 use crate::script::WrongLine;
 use std::alloc::Global;
 use std::io;
@@ -28,19 +28,16 @@ pub(crate) enum StreamFault {
     Write,
 }
 
-/// Answers the script that the reader gives, on the writer: nothing for an empty line and a comment, and for the first
-/// other line `line N: unknown`, with which it stops. A line is answered once it is whole.
+/// Answers the script that the reader gives, on the writer, line by line up to its first wrong line, which is answered
+/// with `line N: WORD`. A line is answered once it is whole.
 ///
 /// Returns the status to end with: 0 for a script without a wrong line, 2 after a wrong line, and 1, with no further
 /// text, where the reader or the writer fails or the input has not ended after `READ_LIMIT` reads. An interrupted read
-/// is tried again. The allocator is for what lines will keep; none keeps anything yet.
-pub fn lab<R: Read, W: Write>(_alloc: Global, reader: &mut R, writer: &mut W) -> u8
-    ensures bound { result ≤ 2 }
-    ensures text { result ≢ 1 → IfSome (R.remaining reader.old) (λ script.
-        Appends (W.contents writer.old) (W.contents writer.new) (lab_text script)) }
-    ensures status { result ≢ 1 → IfSome (R.remaining reader.old) (λ script. result ≡ lab_status script) }
+/// is tried again.
+pub fn lab<R: Read, W: Write>(alloc: Global, reader: &mut R, writer: &mut W) -> u8
+    ensures { result ≤ 2 }
 {
-    match answer(reader, writer, READ_LIMIT) {
+    match answer(alloc, reader, writer, READ_LIMIT) {
         Ok(status) => status,
         Err(_) => 1,
     }
@@ -48,17 +45,14 @@ pub fn lab<R: Read, W: Write>(_alloc: Global, reader: &mut R, writer: &mut W) ->
 
 /// The lab with at most this many reads.
 pub(crate) fn answer<R: Read, W: Write>(
+    alloc: Global,
     reader: &mut R,
     writer: &mut W,
     reads: u32,
 ) -> Result<u8, StreamFault>
-    ensures known { IfOk result (λ status. (status ≡ 0) ⊎ (status ≡ 2)) }
-    ensures silent { IfErr result (λ fault. (fault ≡ StreamFault.Write) ⊎ (writer.new ≡ writer.old)) }
-    ensures text { OnOk result (IfSome (R.remaining reader.old) (λ script.
-        Appends (W.contents writer.old) (W.contents writer.new) (lab_text script))) }
-    ensures status { IfOk result (λ status. IfSome (R.remaining reader.old) (λ script. status ≡ lab_status script)) }
+    ensures { IfOk result (λ status. (status ≡ 0) ⊎ (status ≡ 2)) }
 {
-    match first_wrong_line(reader, reads)? {
+    match first_wrong_line(alloc, reader, writer, reads)? {
         None => Ok(0),
         Some(wrong) => {
             say(writer, wrong).map_err(|_| StreamFault::Write)?;
@@ -67,18 +61,22 @@ pub(crate) fn answer<R: Read, W: Write>(
     }
 }
 
-/// Reads a script up to the end of its first wrong line.
-fn first_wrong_line<R: Read>(reader: &mut R, reads: u32) -> Result<Option<WrongLine>, StreamFault>
-    ensures { IfOk result (λ wrong. IfSome (R.remaining reader.old) (λ script. wrong ≡ wrong_line_of script)) }
-{
-    let mut scanner = Scanner::new();
+/// Answers a script up to its first wrong line.
+fn first_wrong_line<R: Read, W: Write>(
+    alloc: Global,
+    reader: &mut R,
+    writer: &mut W,
+    reads: u32,
+) -> Result<Option<WrongLine>, StreamFault> {
+    let mut scanner = Scanner::new(alloc);
     let mut buffer = [0; PIECE];
     for _read in 0..reads {
         match reader.read(&mut buffer) {
-            Ok(0) => return Ok(scanner.finish().err()),
+            Ok(0) => return wrong_line(scanner.finish(alloc, writer)),
             Ok(count) => {
-                if let Err(wrong) = scanner.feed(&buffer[..count]) {
-                    return Ok(Some(wrong));
+                let fed = wrong_line(scanner.feed(alloc, writer, &buffer[..count]))?;
+                if fed.is_some() {
+                    return Ok(fed);
                 }
             }
             Err(error) if error.kind() == ErrorKind::Interrupted => {}
@@ -86,6 +84,17 @@ fn first_wrong_line<R: Read>(reader: &mut R, reads: u32) -> Result<Option<WrongL
         }
     }
     Err(StreamFault::ReadLimit)
+}
+
+/// The wrong line that ended the answers, if one did and no write failed.
+fn wrong_line(answered: Result<(), Stop>) -> Result<Option<WrongLine>, StreamFault>
+    ensures { result ≡ wrong_line_in answered }
+{
+    match answered {
+        Ok(()) => Ok(None),
+        Err(Stop::Wrong(wrong)) => Ok(Some(wrong)),
+        Err(Stop::Write) => Err(StreamFault::Write),
+    }
 }
 
 /// Writes the line of output for a wrong line.
