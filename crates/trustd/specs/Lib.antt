@@ -1,7 +1,9 @@
+pub mod Pieces
 pub mod Words
 pub mod Known
 pub mod Wrong
 pub mod Says
+pub mod Script
 pub mod Scanner
 pub mod Lab
 pub mod CommandLine

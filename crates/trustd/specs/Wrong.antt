@@ -22,3 +22,8 @@ wrong_line_text wrong = codes "line " ++ (decimal wrong.number ++ (codes ": " ++
 abbrev pub text_of : Option WrongLine → List ℕ
 text_of None = []
 text_of (Some wrong) = wrong_line_text wrong ++ LINE_FEED ∷ []
+
+-- success, or 2 for a wrong line
+abbrev pub status_of : Option WrongLine → ℕ
+status_of None = 0
+status_of (Some wrong) = 2

@@ -1,11 +1,11 @@
 //! The lab: answers a script that a reader gives, on a writer.
 
-ghost use Rattle.std.specs.Prelude.{◌≡◌, ◌≤◌, ◌⊎◌, IfOk, OnOk};
+ghost use Rattle.std.specs.Prelude.{◌≡◌, ◌≢◌, ◌≤◌, ◌<◌, ◌+◌, ◌^◌, ◌⊎◌, IfErr, IfOk, IfSome, OnOk};
 ghost use Rattle.std.specs.Io.KnownBytes.{Appends};
 ghost use Rattle.trustd.specs.Wrong.{text_of};
-ghost use Rattle.trustd.specs.Lab.{wrong_line_in};
+ghost use Rattle.trustd.specs.Lab.{IsAnswered, IsRead, IsStep, done_in, fed_in};
 
-use crate::scanner::{Scanner, Stop};
+use crate::scanner::{Scanner, Step, Stop};
 use crate::script::WrongLine;
 use std::alloc::Global;
 use std::io;
@@ -35,7 +35,9 @@ pub(crate) enum StreamFault {
 /// text, where the reader or the writer fails or the input has not ended after `READ_LIMIT` reads. An interrupted read
 /// is tried again.
 pub fn lab<R: Read, W: Write>(alloc: Global, reader: &mut R, writer: &mut W) -> u8
-    ensures { result ≤ 2 }
+    ensures bound { result ≤ 2 }
+    ensures text { result ≢ 1 → IfSome (R.remaining reader.old) (λ script.
+        IsAnswered script (W.contents writer.old) (W.contents writer.new) result) }
 {
     match answer(alloc, reader, writer, READ_LIMIT) {
         Ok(status) => status,
@@ -50,7 +52,9 @@ pub(crate) fn answer<R: Read, W: Write>(
     writer: &mut W,
     reads: u32,
 ) -> Result<u8, StreamFault>
-    ensures { IfOk result (λ status. (status ≡ 0) ⊎ (status ≡ 2)) }
+    ensures known { IfOk result (λ status. (status ≡ 0) ⊎ (status ≡ 2)) }
+    ensures text { IfOk result (λ status. IfSome (R.remaining reader.old) (λ script.
+        IsAnswered script (W.contents writer.old) (W.contents writer.new) status)) }
 {
     match first_wrong_line(alloc, reader, writer, reads)? {
         None => Ok(0),
@@ -67,32 +71,58 @@ fn first_wrong_line<R: Read, W: Write>(
     reader: &mut R,
     writer: &mut W,
     reads: u32,
-) -> Result<Option<WrongLine>, StreamFault> {
+) -> Result<Option<WrongLine>, StreamFault>
+    ensures { IfOk result (λ wrong. IfSome (R.remaining reader.old) (λ script.
+        IsRead script (W.contents writer.old) (W.contents writer.new) wrong)) }
+{
     let mut scanner = Scanner::new(alloc);
     let mut buffer = [0; PIECE];
     for _read in 0..reads {
-        match reader.read(&mut buffer) {
-            Ok(0) => return wrong_line(scanner.finish(alloc, writer)),
-            Ok(count) => {
-                let fed = wrong_line(scanner.feed(alloc, writer, &buffer[..count]))?;
-                if fed.is_some() {
-                    return Ok(fed);
-                }
-            }
-            Err(error) if error.kind() == ErrorKind::Interrupted => {}
-            Err(_) => return Err(StreamFault::Read),
+        if let Step::Done(wrong) = step(alloc, reader, writer, &mut scanner, &mut buffer)? {
+            return Ok(wrong);
         }
     }
     Err(StreamFault::ReadLimit)
 }
 
-/// The wrong line that ended the answers, if one did and no write failed.
-fn wrong_line(answered: Result<(), Stop>) -> Result<Option<WrongLine>, StreamFault>
-    ensures { result ≡ wrong_line_in answered }
+/// Reads once, and answers the lines that end in what was read.
+fn step<R: Read, W: Write>(
+    alloc: Global,
+    reader: &mut R,
+    writer: &mut W,
+    scanner: &mut Scanner,
+    buffer: &mut [u8; PIECE],
+) -> Result<Step, StreamFault>
+    requires { scanner.old.number + 8192 < 2 ^ 64 }
+    ensures says { IsStep (R.remaining reader.old) (R.remaining reader.new) (W.contents writer.old) (W.contents writer.new) scanner.old scanner.new result }
+    ensures counts { scanner.new.number ≤ scanner.old.number + 8192 }
+{
+    match reader.read(buffer) {
+        Ok(0) => done(scanner.end(alloc, writer)),
+        Ok(count) => fed(scanner.feed(alloc, writer, &buffer[..count])),
+        Err(error) if error.kind() == ErrorKind::Interrupted => Ok(Step::More),
+        Err(_) => Err(StreamFault::Read),
+    }
+}
+
+/// What the end of a script comes to.
+fn done(answered: Result<(), Stop>) -> Result<Step, StreamFault>
+    ensures { result ≡ done_in answered }
 {
     match answered {
-        Ok(()) => Ok(None),
-        Err(Stop::Wrong(wrong)) => Ok(Some(wrong)),
+        Ok(()) => Ok(Step::Done(None)),
+        Err(Stop::Wrong(wrong)) => Ok(Step::Done(Some(wrong))),
+        Err(Stop::Write) => Err(StreamFault::Write),
+    }
+}
+
+/// What a piece of a script comes to.
+fn fed(answered: Result<(), Stop>) -> Result<Step, StreamFault>
+    ensures { result ≡ fed_in answered }
+{
+    match answered {
+        Ok(()) => Ok(Step::More),
+        Err(Stop::Wrong(wrong)) => Ok(Step::Done(Some(wrong))),
         Err(Stop::Write) => Err(StreamFault::Write),
     }
 }

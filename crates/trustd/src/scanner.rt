@@ -2,7 +2,7 @@
 
 ghost use Rattle.std.specs.Prelude.{◌≡◌, ◌≢◌, ◌++◌, IfErr, ◌+◌, ◌<◌, ◌≤◌, ◌^◌, [], ◌∷◌, length, OnOk};
 ghost use Rattle.std.specs.Io.KnownBytes.{Appends};
-ghost use Rattle.trustd.specs.Scanner.{Finishes};
+ghost use Rattle.trustd.specs.Scanner.{Scans, Finishes, Closes};
 
 use crate::answer::answer_line;
 use crate::named::Named;
@@ -51,14 +51,10 @@ impl Scanner {
     ///
     /// The first wrong line, once the line feed that ends it is among the octets, or a failed write. The scanner is of no
     /// use then.
-    pub fn feed<W: Write>(
-        &mut self,
-        alloc: Global,
-        writer: &mut W,
-        piece: &[u8],
-    ) -> Result<(), Stop>
+    pub fn feed<W: Write>(&mut self, alloc: Global, writer: &mut W, piece: &[u8]) -> Result<(), Stop>
         requires { self.old.number + length piece.now < 2 ^ 64 }
-        ensures { self.new.number ≤ self.old.number + length piece.now }
+        ensures scans { Scans self.old self.new (W.contents writer.old) (W.contents writer.new) piece.now result }
+        ensures counts { self.new.number ≤ self.old.number + length piece.now }
     {
         for octet in piece {
             self.take(alloc, writer, *octet)?;
@@ -68,7 +64,8 @@ impl Scanner {
 
     fn take<W: Write>(&mut self, alloc: Global, writer: &mut W, octet: u8) -> Result<(), Stop>
         requires { self.old.number + 1 < 2 ^ 64 }
-        ensures { self.new.number ≤ self.old.number + 1 }
+        ensures scans { Scans self.old self.new (W.contents writer.old) (W.contents writer.new) (octet ∷ []) result }
+        ensures counts { self.new.number ≤ self.old.number + 1 }
     {
         if octet == LINE_FEED {
             self.next(alloc, writer)
@@ -80,7 +77,8 @@ impl Scanner {
     /// Ends the line that is being read, and begins the next.
     fn next<W: Write>(&mut self, alloc: Global, writer: &mut W) -> Result<(), Stop>
         requires { self.old.number + 1 < 2 ^ 64 }
-        ensures { self.new.number ≤ self.old.number + 1 }
+        ensures scans { Scans self.old self.new (W.contents writer.old) (W.contents writer.new) (LINE_FEED ∷ []) result }
+        ensures counts { self.new.number ≤ self.old.number + 1 }
     {
         match self.finish(alloc, writer) {
             Ok(()) => {
@@ -109,12 +107,27 @@ impl Scanner {
         }
     }
 
+    /// Ends the script, and writes the answer of a last line without a line feed.
+    ///
+    /// # Errors
+    ///
+    /// That line, where it is wrong, or a failed write.
+    pub fn end<W: Write>(&mut self, alloc: Global, writer: &mut W) -> Result<(), Stop>
+        ensures { Closes self.old (W.contents writer.old) (W.contents writer.new) result }
+    {
+        if self.line.is_empty() {
+            Ok(())
+        } else {
+            self.finish(alloc, writer)
+        }
+    }
+
     /// Ends the line that is being read, where a line feed or the end of the script does, and writes its answer.
     ///
     /// # Errors
     ///
     /// This line, where it is wrong, or a failed write.
-    pub fn finish<W: Write>(&mut self, alloc: Global, writer: &mut W) -> Result<(), Stop>
+    fn finish<W: Write>(&mut self, alloc: Global, writer: &mut W) -> Result<(), Stop>
         ensures number { self.new.number ≡ self.old.number }
         ensures finishes { Finishes self.old self.new (W.contents writer.old) (W.contents writer.new) result }
     {
@@ -126,6 +139,15 @@ impl Scanner {
             })),
         }
     }
+}
+
+/// What reading a script has come to.
+#[derive(Clone, Copy, Debug, PartialEq, Eq)]
+pub enum Step {
+    /// There may be more to read.
+    More,
+    /// It was answered to its end, or up to a wrong line.
+    Done(Option<WrongLine>),
 }
 
 /// Writes a text, and passes it on.
