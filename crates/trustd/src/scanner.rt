@@ -113,7 +113,8 @@ impl Scanner {
     ///
     /// That line, where it is wrong, or a failed write.
     pub fn end<W: Write>(&mut self, alloc: Global, writer: &mut W) -> Result<(), Stop>
-        ensures { Closes self.old (W.contents writer.old) (W.contents writer.new) result }
+        ensures number { self.new.number ≡ self.old.number }
+        ensures closes { Closes self.old (W.contents writer.old) (W.contents writer.new) result }
     {
         if self.line.is_empty() {
             Ok(())
