@@ -175,7 +175,7 @@ const LINES: [(&str, &str); 43] = [
     ),
     (
         "cert A1 serial 0 issuer CN= subject O=\u{d6}/CN=a=b from 00000101000000Z to 99991231235959Z key 00 signer ff",
-        "cert A1 148",
+        "cert A1 156",
     ),
     (
         "cert a serial 4294967295 issuer CN=R subject CN=L from 20260101000000Z to 20270101000000Z key 62 signer 61",
