@@ -1,3 +1,8 @@
+pub mod Pieces
+pub mod Words
+pub mod Known
+pub mod Wrong
+pub mod Says
 pub mod Script
 pub mod Scanner
 pub mod Lab

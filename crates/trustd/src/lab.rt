@@ -1,11 +1,11 @@
 //! The lab: answers a script that a reader gives, on a writer.
 
-ghost use Rattle.std.specs.Prelude.{◌≡◌, ◌≢◌, ◌≤◌, ◌⊎◌, IfErr, IfOk, IfSome, OnOk};
+ghost use Rattle.std.specs.Prelude.{◌≡◌, ◌≢◌, ◌≤◌, ◌<◌, ◌+◌, ◌^◌, ◌⊎◌, IfErr, IfOk, IfSome, OnOk};
 ghost use Rattle.std.specs.Io.KnownBytes.{Appends};
-ghost use Rattle.trustd.specs.Script.{wrong_line_of};
-ghost use Rattle.trustd.specs.Lab.{lab_status, lab_text, text_of};
+ghost use Rattle.trustd.specs.Wrong.{text_of};
+ghost use Rattle.trustd.specs.Lab.{IsAnswered, IsRead, IsStep, done_in, fed_in};
 
-use crate::scanner::Scanner;
+use crate::scanner::{Scanner, Step, Stop};
 use crate::script::WrongLine;
 use std::alloc::Global;
 use std::io;
@@ -28,19 +28,18 @@ pub(crate) enum StreamFault {
     Write,
 }
 
-/// Answers the script that the reader gives, on the writer: nothing for an empty line and a comment, and for the first
-/// other line `line N: unknown`, with which it stops. A line is answered once it is whole.
+/// Answers the script that the reader gives, on the writer, line by line up to its first wrong line, which is answered
+/// with `line N: WORD`. A line is answered once it is whole.
 ///
 /// Returns the status to end with: 0 for a script without a wrong line, 2 after a wrong line, and 1, with no further
 /// text, where the reader or the writer fails or the input has not ended after `READ_LIMIT` reads. An interrupted read
-/// is tried again. The allocator is for what lines will keep; none keeps anything yet.
-pub fn lab<R: Read, W: Write>(_alloc: Global, reader: &mut R, writer: &mut W) -> u8
+/// is tried again.
+pub fn lab<R: Read, W: Write>(alloc: Global, reader: &mut R, writer: &mut W) -> u8
     ensures bound { result ≤ 2 }
     ensures text { result ≢ 1 → IfSome (R.remaining reader.old) (λ script.
-        Appends (W.contents writer.old) (W.contents writer.new) (lab_text script)) }
-    ensures status { result ≢ 1 → IfSome (R.remaining reader.old) (λ script. result ≡ lab_status script) }
+        IsAnswered script (W.contents writer.old) (W.contents writer.new) result) }
 {
-    match answer(reader, writer, READ_LIMIT) {
+    match answer(alloc, reader, writer, READ_LIMIT) {
         Ok(status) => status,
         Err(_) => 1,
     }
@@ -48,17 +47,16 @@ pub fn lab<R: Read, W: Write>(_alloc: Global, reader: &mut R, writer: &mut W) ->
 
 /// The lab with at most this many reads.
 pub(crate) fn answer<R: Read, W: Write>(
+    alloc: Global,
     reader: &mut R,
     writer: &mut W,
     reads: u32,
 ) -> Result<u8, StreamFault>
     ensures known { IfOk result (λ status. (status ≡ 0) ⊎ (status ≡ 2)) }
-    ensures silent { IfErr result (λ fault. (fault ≡ StreamFault.Write) ⊎ (writer.new ≡ writer.old)) }
-    ensures text { OnOk result (IfSome (R.remaining reader.old) (λ script.
-        Appends (W.contents writer.old) (W.contents writer.new) (lab_text script))) }
-    ensures status { IfOk result (λ status. IfSome (R.remaining reader.old) (λ script. status ≡ lab_status script)) }
+    ensures text { IfOk result (λ status. IfSome (R.remaining reader.old) (λ script.
+        IsAnswered script (W.contents writer.old) (W.contents writer.new) status)) }
 {
-    match first_wrong_line(reader, reads)? {
+    match first_wrong_line(alloc, reader, writer, reads)? {
         None => Ok(0),
         Some(wrong) => {
             say(writer, wrong).map_err(|_| StreamFault::Write)?;
@@ -67,25 +65,66 @@ pub(crate) fn answer<R: Read, W: Write>(
     }
 }
 
-/// Reads a script up to the end of its first wrong line.
-fn first_wrong_line<R: Read>(reader: &mut R, reads: u32) -> Result<Option<WrongLine>, StreamFault>
-    ensures { IfOk result (λ wrong. IfSome (R.remaining reader.old) (λ script. wrong ≡ wrong_line_of script)) }
+/// Answers a script up to its first wrong line.
+fn first_wrong_line<R: Read, W: Write>(
+    alloc: Global,
+    reader: &mut R,
+    writer: &mut W,
+    reads: u32,
+) -> Result<Option<WrongLine>, StreamFault>
+    ensures { IfOk result (λ wrong. IfSome (R.remaining reader.old) (λ script.
+        IsRead script (W.contents writer.old) (W.contents writer.new) wrong)) }
 {
-    let mut scanner = Scanner::new();
+    let mut scanner = Scanner::new(alloc);
     let mut buffer = [0; PIECE];
     for _read in 0..reads {
-        match reader.read(&mut buffer) {
-            Ok(0) => return Ok(scanner.finish().err()),
-            Ok(count) => {
-                if let Err(wrong) = scanner.feed(&buffer[..count]) {
-                    return Ok(Some(wrong));
-                }
-            }
-            Err(error) if error.kind() == ErrorKind::Interrupted => {}
-            Err(_) => return Err(StreamFault::Read),
+        if let Step::Done(wrong) = step(alloc, reader, writer, &mut scanner, &mut buffer)? {
+            return Ok(wrong);
         }
     }
     Err(StreamFault::ReadLimit)
+}
+
+/// Reads once, and answers the lines that end in what was read.
+fn step<R: Read, W: Write>(
+    alloc: Global,
+    reader: &mut R,
+    writer: &mut W,
+    scanner: &mut Scanner,
+    buffer: &mut [u8; PIECE],
+) -> Result<Step, StreamFault>
+    requires { scanner.old.number + 8192 < 2 ^ 64 }
+    ensures says { IsStep (R.remaining reader.old) (R.remaining reader.new) (W.contents writer.old) (W.contents writer.new) scanner.old scanner.new result }
+    ensures counts { scanner.new.number ≤ scanner.old.number + 8192 }
+{
+    match reader.read(buffer) {
+        Ok(0) => done(scanner.end(alloc, writer)),
+        Ok(count) => fed(scanner.feed(alloc, writer, &buffer[..count])),
+        Err(error) if error.kind() == ErrorKind::Interrupted => Ok(Step::More),
+        Err(_) => Err(StreamFault::Read),
+    }
+}
+
+/// What the end of a script comes to.
+fn done(answered: Result<(), Stop>) -> Result<Step, StreamFault>
+    ensures { result ≡ done_in answered }
+{
+    match answered {
+        Ok(()) => Ok(Step::Done(None)),
+        Err(Stop::Wrong(wrong)) => Ok(Step::Done(Some(wrong))),
+        Err(Stop::Write) => Err(StreamFault::Write),
+    }
+}
+
+/// What a piece of a script comes to.
+fn fed(answered: Result<(), Stop>) -> Result<Step, StreamFault>
+    ensures { result ≡ fed_in answered }
+{
+    match answered {
+        Ok(()) => Ok(Step::More),
+        Err(Stop::Wrong(wrong)) => Ok(Step::Done(Some(wrong))),
+        Err(Stop::Write) => Err(StreamFault::Write),
+    }
 }
 
 /// Writes the line of output for a wrong line.

@@ -3,12 +3,15 @@
 
 ghost use Rattle.std.specs.Prelude.{◌≤◌};
 
+mod answer;
 mod command_line;
 mod lab;
+mod named;
 mod scanner;
 mod script;
 #[cfg(test)]
 mod tests;
+mod words;
 
 use command_line::Task;
 use std::io;

@@ -1,77 +1,163 @@
-//! A script that comes in pieces, taken octet by octet up to its first wrong line.
+//! A script that comes in pieces, answered line by line up to its first wrong one.
 
-ghost use Rattle.std.specs.Prelude.{◌≡◌, ◌+◌, ◌<◌, ◌≤◌, ◌^◌, [], ◌∷◌, Some, None, length};
-ghost use Rattle.std.specs.Result.{result_err};
-ghost use Rattle.trustd.specs.Script.{begun, fault_of_line, wrong_or};
-ghost use Rattle.trustd.specs.Scanner.{Scans};
+ghost use Rattle.std.specs.Prelude.{◌≡◌, ◌≢◌, ◌++◌, IfErr, ◌+◌, ◌<◌, ◌≤◌, ◌^◌, [], ◌∷◌, length, OnOk};
+ghost use Rattle.std.specs.Io.KnownBytes.{Appends};
+ghost use Rattle.trustd.specs.Scanner.{Scans, Finishes, Closes};
 
-use crate::script::{LINE_FEED, WrongLine, fault_of};
+use crate::answer::answer_line;
+use crate::named::Named;
+use crate::script::{LINE_FEED, LineFault, WrongLine};
+use std::alloc::Global;
+use std::io;
+use std::io::Write;
 
-/// Where a script that comes in pieces has been taken up to.
-#[derive(Clone, Copy)]
+/// Where a script that comes in pieces has been answered up to.
+#[derive(Drop)]
 pub struct Scanner {
     /// The number of the line that is being read, from 1.
     number: u64,
-    /// The line's first octet, once it has come. It decides what is wrong with the line, so no other is kept.
-    first: Option<u8>,
+    /// What has come of that line.
+    line: Vec<u8>,
+    /// The certificates that the lines before it have named.
+    known: Vec<Named>,
+}
+
+/// Why a script is answered no further.
+#[derive(Clone, Copy, Debug, PartialEq, Eq)]
+pub enum Stop {
+    /// A line is refused.
+    Wrong(WrongLine),
+    /// A write failed.
+    Write,
 }
 
 impl Scanner {
     /// At the start of a script.
-    pub fn new() -> Scanner
-        ensures { result ≡ record { number = 1; first = None } }
+    pub fn new(alloc: Global) -> Scanner
+        ensures number { result.number ≡ 1 }
+        ensures line { result.line.items ≡ [] }
+        ensures known { result.known.items ≡ [] }
     {
         Scanner {
             number: 1,
-            first: None,
+            line: Vec::new(alloc),
+            known: Vec::new(alloc),
         }
     }
 
-    /// Takes the next octets of the script.
+    /// Takes the next octets of the script, and writes the answer of each line that they end.
     ///
     /// # Errors
     ///
-    /// The first wrong line, once the line feed that ends it is among the octets. The scanner is of no use then.
-    pub fn feed(&mut self, piece: &[u8]) -> Result<(), WrongLine>
+    /// The first wrong line, once the line feed that ends it is among the octets, or a failed write. The scanner is of no
+    /// use then.
+    pub fn feed<W: Write>(&mut self, alloc: Global, writer: &mut W, piece: &[u8]) -> Result<(), Stop>
         requires { self.old.number + length piece.now < 2 ^ 64 }
-        ensures scans { Scans self.old self.new piece.now result }
+        ensures scans { Scans self.old self.new (W.contents writer.old) (W.contents writer.new) piece.now result }
         ensures counts { self.new.number ≤ self.old.number + length piece.now }
     {
         for octet in piece {
-            self.take(*octet)?;
+            self.take(alloc, writer, *octet)?;
         }
         Ok(())
     }
 
-    fn take(&mut self, octet: u8) -> Result<(), WrongLine>
+    fn take<W: Write>(&mut self, alloc: Global, writer: &mut W, octet: u8) -> Result<(), Stop>
         requires { self.old.number + 1 < 2 ^ 64 }
-        ensures scans { Scans self.old self.new (octet ∷ []) result }
+        ensures scans { Scans self.old self.new (W.contents writer.old) (W.contents writer.new) (octet ∷ []) result }
         ensures counts { self.new.number ≤ self.old.number + 1 }
     {
         if octet == LINE_FEED {
-            self.finish()?;
-            self.number += 1;
-            self.first = None;
+            self.next(alloc, writer)
         } else {
-            self.first = self.first.or(Some(octet));
+            self.push(octet)
         }
-        Ok(())
     }
 
-    /// Ends the line that is being read, where a line feed or the end of the script does.
+    /// Ends the line that is being read, and begins the next.
+    fn next<W: Write>(&mut self, alloc: Global, writer: &mut W) -> Result<(), Stop>
+        requires { self.old.number + 1 < 2 ^ 64 }
+        ensures scans { Scans self.old self.new (W.contents writer.old) (W.contents writer.new) (LINE_FEED ∷ []) result }
+        ensures counts { self.new.number ≤ self.old.number + 1 }
+    {
+        match self.finish(alloc, writer) {
+            Ok(()) => {
+                self.number += 1;
+                self.line.clear();
+                Ok(())
+            }
+            Err(stop) => Err(stop),
+        }
+    }
+
+    /// Takes an octet of the line.
+    fn push(&mut self, octet: u8) -> Result<(), Stop>
+        requires { octet ≢ LINE_FEED }
+        ensures number { self.new.number ≡ self.old.number }
+        ensures known { self.new.known ≡ self.old.known }
+        ensures ok { OnOk result (self.new.line.items ≡ self.old.line.items ++ octet ∷ []) }
+        ensures err { IfErr result (λ stop. stop ≡ Stop.Wrong (record { number = self.old.number; fault = LineFault.Memory })) }
+    {
+        match self.line.push(octet) {
+            Ok(()) => Ok(()),
+            Err(_) => Err(Stop::Wrong(WrongLine {
+                number: self.number,
+                fault: LineFault::Memory,
+            })),
+        }
+    }
+
+    /// Ends the script, and writes the answer of a last line without a line feed.
     ///
     /// # Errors
     ///
-    /// This line, where it is wrong.
-    pub fn finish(&self) -> Result<(), WrongLine>
-        ensures { result_err result ≡ wrong_or self.now.number (fault_of_line (begun self.now.first)) None }
+    /// That line, where it is wrong, or a failed write.
+    pub fn end<W: Write>(&mut self, alloc: Global, writer: &mut W) -> Result<(), Stop>
+        ensures number { self.new.number ≡ self.old.number }
+        ensures closes { Closes self.old (W.contents writer.old) (W.contents writer.new) result }
     {
-        match fault_of(self.first) {
-            None => Ok(()),
-            Some(fault) => Err(WrongLine {
-                number: self.number,
-                fault,
-            }),
+        if self.line.is_empty() {
+            Ok(())
+        } else {
+            self.finish(alloc, writer)
         }
     }
+
+    /// Ends the line that is being read, where a line feed or the end of the script does, and writes its answer.
+    ///
+    /// # Errors
+    ///
+    /// This line, where it is wrong, or a failed write.
+    fn finish<W: Write>(&mut self, alloc: Global, writer: &mut W) -> Result<(), Stop>
+        ensures number { self.new.number ≡ self.old.number }
+        ensures finishes { Finishes self.old self.new (W.contents writer.old) (W.contents writer.new) result }
+    {
+        match answer_line(alloc, &mut self.known, &self.line) {
+            Ok(text) => say(writer, text.as_bytes()).map_err(|_| Stop::Write),
+            Err(fault) => Err(Stop::Wrong(WrongLine {
+                number: self.number,
+                fault,
+            })),
+        }
+    }
+}
+
+/// What reading a script has come to.
+#[derive(Clone, Copy, Debug, PartialEq, Eq)]
+pub enum Step {
+    /// There may be more to read.
+    More,
+    /// It was answered to its end, or up to a wrong line.
+    Done(Option<WrongLine>),
+}
+
+/// Writes a text, and passes it on.
+pub fn say<W: Write>(writer: &mut W, text: &[u8]) -> io::Result<()>
+    ensures { OnOk result (Appends (W.contents writer.old) (W.contents writer.new) text.now) }
+{
+    if text.is_empty() {
+        return Ok(());
+    }
+    writer.write_all(text)?;
+    writer.flush()
 }

@@ -1,8 +1,10 @@
-//! The lines of a script, and what is wrong with one.
+//! The lines of a script that are refused.
 
 ghost use Rattle.std.specs.Prelude.{◌≡◌, Some};
-ghost use Rattle.trustd.specs.Script.{begun, fault_of_line, fault_word, wrong_line_text};
+ghost use Rattle.trustd.specs.Wrong.{fault_word, wrong_line_text};
+ghost use Rattle.trustd.specs.declared.script.LineFault.TheVariants.{Memory};
 
+use std::alloc::{AllocError, AllocFailed};
 use std::fmt;
 
 /// Ends a line.
@@ -16,6 +18,14 @@ pub const COMMENT: u8 = b'#';
 pub enum LineFault {
     /// The line's first word is not one of the script language.
     Unknown,
+    /// The words are not those of such a line.
+    Form,
+    /// A name is not defined, or is defined a second time.
+    Name,
+    /// The line asks for more than the lab does.
+    Limit,
+    /// Memory could not be had.
+    Memory,
 }
 
 impl fmt::Display for LineFault {
@@ -24,7 +34,27 @@ impl fmt::Display for LineFault {
     fn fmt<W: fmt::Write>(&self, f: &mut fmt::Formatter<W>) -> fmt::Result {
         match self {
             LineFault::Unknown => write!(f, "unknown"),
+            LineFault::Form => write!(f, "form"),
+            LineFault::Name => write!(f, "name"),
+            LineFault::Limit => write!(f, "limit"),
+            LineFault::Memory => write!(f, "memory"),
         }
+    }
+}
+
+impl From<AllocError> for LineFault {
+    ghost from_gives = { λ _ e. e ≡ Memory };
+
+    fn from(_error: AllocError) -> LineFault {
+        LineFault::Memory
+    }
+}
+
+impl<T: Drop> From<AllocFailed<T>> for LineFault {
+    ghost from_gives = { λ _ e. e ≡ Memory };
+
+    fn from(_error: AllocFailed<T>) -> LineFault {
+        LineFault::Memory
     }
 }
 
@@ -42,15 +72,5 @@ impl fmt::Display for WrongLine {
     fn fmt<W: fmt::Write>(&self, f: &mut fmt::Formatter<W>) -> fmt::Result {
         let WrongLine { number, fault } = self;
         write!(f, "line {number}: {fault}")
-    }
-}
-
-/// What is wrong with a line that begins with this octet, or with an empty one.
-pub fn fault_of(first: Option<u8>) -> Option<LineFault>
-    ensures { result ≡ fault_of_line (begun first) }
-{
-    match first {
-        None | Some(COMMENT) => None,
-        Some(_) => Some(LineFault::Unknown),
     }
 }

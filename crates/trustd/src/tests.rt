@@ -136,6 +136,167 @@ fn answers_scripts(rt: HostRuntime) -> Result<(), Fail> {
     Ok(())
 }
 
+/// An anchor and a certificate that it issued.
+const NAMED: &str =
+    "cert R serial 1 issuer CN=R subject CN=R from 20260101000000Z to 20270101000000Z key 61 signer 61
+cert L serial 2 issuer CN=R subject CN=L from 20260101000000Z to 20270101000000Z key 62 signer 61
+cert F serial 2 issuer CN=R subject CN=L from 20260101000000Z to 20270101000000Z key 62 signer 63
+cert S serial 2 issuer CN=S subject CN=L from 20260101000000Z to 20270101000000Z key 62 signer 61
+";
+
+/// What is printed for them.
+const NAMED_TEXT: &str = "cert R 138\ncert L 138\ncert F 138\ncert S 138\n";
+
+/// A line behind them, and what is printed for it.
+const LINES: [(&str, &str); 43] = [
+    ("check R at 20260601000000Z chain L", "check valid -"),
+    ("check R at 20260101000000Z chain L", "check valid -"),
+    ("check R at 20270101000000Z chain L", "check valid -"),
+    (
+        "check R at 20270101000001Z chain L",
+        "check invalid 1 Expired",
+    ),
+    (
+        "check R at 20251231235959Z chain L",
+        "check invalid 1 TooEarly",
+    ),
+    (
+        "check R at 20260601000000Z chain F",
+        "check invalid 1 Signature",
+    ),
+    (
+        "check R at 20260601000000Z chain S",
+        "check invalid 1 IssuerName",
+    ),
+    ("check R at 20260601000000Z chain R", "check valid -"),
+    (
+        "check L at 20260601000000Z chain L",
+        "check invalid 1 Signature",
+    ),
+    (
+        "cert A1 serial 0 issuer CN= subject O=\u{d6}/CN=a=b from 00000101000000Z to 99991231235959Z key 00 signer ff",
+        "cert A1 156",
+    ),
+    (
+        "cert a serial 4294967295 issuer CN=R subject CN=L from 20260101000000Z to 20270101000000Z key 62 signer 61",
+        "cert a 142",
+    ),
+    ("certs", "line 5: unknown"),
+    (" cert R", "line 5: unknown"),
+    ("Check R at 20260601000000Z chain L", "line 5: unknown"),
+    ("cert", "line 5: form"),
+    ("check", "line 5: form"),
+    ("check ", "line 5: form"),
+    ("check R at 20260601000000Z chain", "line 5: form"),
+    ("check R at 20260601000000Z chain ", "line 5: form"),
+    ("check R at 20260601000000Z chain L ", "line 5: form"),
+    ("check R  at 20260601000000Z chain L", "line 5: form"),
+    ("check R at 20260601000000Z hosts chain L", "line 5: form"),
+    ("check R at 20260601000000 chain L", "line 5: form"),
+    ("check R at 20260231000000Z chain L", "line 5: form"),
+    ("check R at 20260601000000Z chain L-", "line 5: form"),
+    ("check X at 20260601000000Z chain L L-", "line 5: form"),
+    ("check X at 20260601000000Z chain L", "line 5: name"),
+    ("check R at 20260601000000Z chain X", "line 5: name"),
+    ("check R at 20260601000000Z chain L X", "line 5: name"),
+    ("check R at 20260601000000Z chain L L", "line 5: limit"),
+    ("check R at 20260601000000Z chain L S F", "line 5: limit"),
+    (
+        "cert R serial 1 issuer CN=R subject CN=R from 20260101000000Z to 20270101000000Z key 61 signer 61",
+        "line 5: name",
+    ),
+    (
+        "cert R serial 01 issuer CN=R subject CN=R from 20260101000000Z to 20270101000000Z key 61 signer 61",
+        "line 5: form",
+    ),
+    (
+        "cert A serial +1 issuer CN=R subject CN=R from 20260101000000Z to 20270101000000Z key 61 signer 61",
+        "line 5: form",
+    ),
+    (
+        "cert A serial 4294967296 issuer CN=R subject CN=R from 20260101000000Z to 20270101000000Z key 61 signer 61",
+        "line 5: form",
+    ),
+    (
+        "cert A serial 1 issuer R subject CN=R from 20260101000000Z to 20270101000000Z key 61 signer 61",
+        "line 5: form",
+    ),
+    (
+        "cert A serial 1 issuer CN=R/ subject CN=R from 20260101000000Z to 20270101000000Z key 61 signer 61",
+        "line 5: form",
+    ),
+    (
+        "cert A serial 1 issuer CN=R subject cn=R from 20260101000000Z to 20270101000000Z key 61 signer 61",
+        "line 5: form",
+    ),
+    (
+        "cert A serial 1 issuer CN=R subject CN=R from 260101000000Z to 20270101000000Z key 61 signer 61",
+        "line 5: form",
+    ),
+    (
+        "cert A serial 1 issuer CN=R subject CN=R from 20260101000000Z to 20270101000000Z key 6 signer 61",
+        "line 5: form",
+    ),
+    (
+        "cert A serial 1 issuer CN=R subject CN=R from 20260101000000Z to 20270101000000Z key 6A signer 61",
+        "line 5: form",
+    ),
+    (
+        "cert A serial 1 issuer CN=R subject CN=R from 20260101000000Z to 20270101000000Z key 61 signer ",
+        "line 5: form",
+    ),
+    (
+        "cert A serial 1 issuer CN=R subject CN=R from 20260101000000Z to 20270101000000Z key 61 signer 61 x",
+        "line 5: form",
+    ),
+];
+
+#[test]
+fn answers_lines(rt: HostRuntime) -> Result<(), Fail> {
+    for (line, answer) in LINES {
+        let script = format!(in rt.alloc(); "{NAMED}{line}\ncheck\n")?;
+        let mut written = Vec::new(rt.alloc());
+        assert_eq!(rt;
+            lab(rt.alloc(), &mut script.as_bytes(), &mut written),
+            2,
+            "{line}"
+        );
+        let is_wrong = answer.starts_with("line");
+        let rest = if is_wrong { "" } else { "line 6: form\n" };
+        let text = format!(in rt.alloc(); "{NAMED_TEXT}{answer}\n{rest}")?;
+        assert_eq!(rt; str::from_utf8(&written), Ok(text.as_str()), "{line}");
+    }
+    Ok(())
+}
+
+#[test]
+fn a_certificate_may_be_too_long(rt: HostRuntime) -> Result<(), Fail> {
+    let mut script = Vec::new(rt.alloc());
+    script.extend_from_slice(
+        b"cert R serial 1 issuer CN=R subject CN=R from 20260101000000Z to 20270101000000Z key ",
+    )?;
+    for _octet in 0..65_393_u32 {
+        script.extend_from_slice(b"61")?;
+    }
+    script.extend_from_slice(b" signer 61")?;
+    let mut written = Vec::new(rt.alloc());
+    assert_eq!(rt; lab(rt.alloc(), &mut script.as_slice(), &mut written), 2);
+    assert_eq!(rt; written.as_slice(), b"line 1: limit\n".as_slice());
+    Ok(())
+}
+
+#[test]
+fn what_was_printed_stays_where_a_read_fails(rt: HostRuntime) -> Result<(), Fail> {
+    let script = format!(in rt.alloc(); "{NAMED}check")?;
+    let mut written = Vec::new(rt.alloc());
+    assert_eq!(rt;
+        lab(rt.alloc(), &mut FailsAtEnd(script.as_bytes()), &mut written),
+        1
+    );
+    assert_eq!(rt; written.as_slice(), NAMED_TEXT.as_bytes());
+    Ok(())
+}
+
 #[test]
 fn lines_pass_the_ends_of_pieces(rt: HostRuntime) -> Result<(), Fail> {
     let mut script = vec![in rt.alloc(); b'#'; 20_000]?;
@@ -157,7 +318,7 @@ fn a_failed_read_writes_nothing(rt: HostRuntime) -> Result<(), Fail> {
         );
         assert_eq!(rt; written.as_slice(), b"".as_slice(), "{script:?}");
         assert_eq!(rt;
-            answer(&mut FailsAtEnd(script), &mut written, 9),
+            answer(rt.alloc(), &mut FailsAtEnd(script), &mut written, 9),
             Err(StreamFault::Read)
         );
     }
@@ -200,7 +361,7 @@ fn an_endless_input_meets_the_limit(rt: HostRuntime) {
     for octet in [b'#', b'\n', b'x'] {
         let mut reader = Endless { octet, reads: 0 };
         assert_eq!(rt;
-            answer(&mut reader, &mut written, 9),
+            answer(rt.alloc(), &mut reader, &mut written, 9),
             Err(StreamFault::ReadLimit)
         );
         assert_eq!(rt; reader.reads, 9, "{octet}");
@@ -217,12 +378,18 @@ fn an_endless_input_meets_the_limit(rt: HostRuntime) {
 #[test]
 fn an_input_that_ends_at_the_last_read_is_answered(rt: HostRuntime) {
     let mut written = Vec::new(rt.alloc());
-    assert_eq!(rt; answer(&mut b"x".as_slice(), &mut written, 2), Ok(2));
     assert_eq!(rt;
-        answer(&mut b"x".as_slice(), &mut written, 1),
+        answer(rt.alloc(), &mut b"x".as_slice(), &mut written, 2),
+        Ok(2)
+    );
+    assert_eq!(rt;
+        answer(rt.alloc(), &mut b"x".as_slice(), &mut written, 1),
         Err(StreamFault::ReadLimit)
     );
-    assert_eq!(rt; answer(&mut b"x\n".as_slice(), &mut written, 1), Ok(2));
+    assert_eq!(rt;
+        answer(rt.alloc(), &mut b"x\n".as_slice(), &mut written, 1),
+        Ok(2)
+    );
 }
 
 #[test]
