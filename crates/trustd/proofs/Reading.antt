@@ -40,20 +40,20 @@ pub ends_said : (n : ℕ) (known after : List Entry) (line said : List ℕ) (bef
     → (rest : List ℕ) (whole : Option (List ℕ)) (wrong : Option WrongLine) → Ends (n + 1) after [] mid rest whole wrong → Ends n known line before (LINE_FEED ∷ rest) whole wrong
 unfolding Ends
 ends_said n known after line said before mid says written rest whole wrong e = (
-    said ++ e.0,
-    subst (λ lines. Run n known lines (said ++ e.0) wrong) (sym (line_ended line (lines_of rest))) (inr (after, said, e.0, says, e.1, refl)),
-    Appends-trans before mid whole said e.0 written e.2,
-  )
+  said ++ e.0,
+  subst (λ lines. Run n known lines (said ++ e.0) wrong) (sym (line_ended line (lines_of rest))) (inr (after, said, e.0, says, e.1, refl)),
+  Appends-trans before mid whole said e.0 written e.2,
+)
 
 -- the line has ended and is refused
 pub ends_refused : (known : List Entry) (line : List ℕ) (contents : Option (List ℕ)) (w : WrongLine) → Refuses line w.fault
     → (rest : List ℕ) → Ends w.number known line contents (LINE_FEED ∷ rest) contents (Some w)
 unfolding Ends
 ends_refused known line contents w refuses rest = (
-    [],
-    subst (λ lines. Run w.number known lines [] (Some w)) (sym (line_ended line (lines_of rest))) (inl (w, refl, refl, refuses, refl)),
-    Appends-nil contents,
-  )
+  [],
+  subst (λ lines. Run w.number known lines [] (Some w)) (sym (line_ended line (lines_of rest))) (inl (w, refl, refl, refuses, refl)),
+  Appends-nil contents,
+)
 
 -- a line that is refused ends what is scanned
 pub scans_refused : (T U : Type 0) (old mid new : Scanner) (before after : Option (List ℕ)) (stop : Stop)
@@ -61,8 +61,8 @@ pub scans_refused : (T U : Type 0) (old mid new : Scanner) (before after : Optio
 scans_refused T U old mid new before after Write h = tt
 scans_refused T U old mid new before after (Wrong w) h = λ rest.
     subst (λ a. Owes old before (LINE_FEED ∷ rest) a (Some w)) (sym h.silent)
-      (subst (λ n. Ends n (known_in old.known.items) old.line.items before (LINE_FEED ∷ rest) before (Some w)) h.number
-        (ends_refused (known_in old.known.items) old.line.items before w h.refuses rest))
+    (subst (λ n. Ends n (known_in old.known.items) old.line.items before (LINE_FEED ∷ rest) before (Some w)) h.number
+    (ends_refused (known_in old.known.items) old.line.items before w h.refuses rest))
 
 -- a line that said its text is behind what is scanned
 pub scans_said : (old mid new : Scanner) (before after : Option (List ℕ)) → HasSaid old mid before after

@@ -30,7 +30,7 @@ scans_pushed T (Ok _) old new x before other number known line fault = λ rest w
     scans_begun old.number (known_in old.known.items) old.line.items x other before rest whole wrong h
 scans_pushed T (Err stop) old new x before other number known line fault =
     subst (λ s. Scans {T = T} old new before before (x ∷ []) (Err s)) (sym fault)
-      (λ rest. scans_forgotten old.number (known_in old.known.items) old.line.items x other before (record { number = old.number; fault = Memory }) refl refl rest)
+    (λ rest. scans_forgotten old.number (known_in old.known.items) old.line.items x other before (record { number = old.number; fault = Memory }) refl refl rest)
 
 -- a piece of which an octet ends what is scanned
 pub scans_stopped : (T U : Type 0) (old mid new : Scanner) (start before after : Option (List ℕ)) (piece behind : List ℕ) (x : ℕ) (left : List ℕ) (stop : Stop)

@@ -51,7 +51,12 @@ impl Scanner {
     ///
     /// The first wrong line, once the line feed that ends it is among the octets, or a failed write. The scanner is of no
     /// use then.
-    pub fn feed<W: Write>(&mut self, alloc: Global, writer: &mut W, piece: &[u8]) -> Result<(), Stop>
+    pub fn feed<W: Write>(
+        &mut self,
+        alloc: Global,
+        writer: &mut W,
+        piece: &[u8],
+    ) -> Result<(), Stop>
         requires { self.old.number + length piece.now < 2 ^ 64 }
         ensures scans { Scans self.old self.new (W.contents writer.old) (W.contents writer.new) piece.now result }
         ensures counts { self.new.number ≤ self.old.number + length piece.now }
