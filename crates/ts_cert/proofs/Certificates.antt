@@ -15,13 +15,16 @@ use Rattle.ts_der.proofs.Unique.{one-element}
 use Rattle.ts_name.specs.declared.fault.CertRule.TheVariants.{Der, AlgorithmMismatch}
 use Rattle.ts_name.specs.declared.fault.CertFault.{CertFault}
 use Rattle.ts_cert.specs.Certificate.{Algorithm, Tbs, Certificate}
-use Rattle.ts_cert.specs.Fault.{der, breaks}
-use Rattle.ts_cert.specs.Spelling.{Within, IsAlgorithm, IsTbs, IsSigned, IsCertificate, version_octets}
+use Rattle.ts_name.specs.Fault.{der, breaks}
+use Rattle.ts_name.specs.Fields.{Within}
+use Rattle.ts_cert.specs.Spelling.{IsAlgorithm, IsTbs, IsSigned, IsCertificate, version_octets}
 use Rattle.ts_cert.specs.Version.{version_at}
-use Rattle.ts_cert.specs.Reading.{integer_at, bits_at, algorithm_of, algorithm_at, name_at, validity_at, key_at, tbs_of, Unagreed, signed_of, agreed, whole_of, certificate_of}
+use Rattle.ts_name.specs.Fields.{integer_at, bits_at, name_at}
+use Rattle.ts_cert.specs.Reading.{algorithm_of, algorithm_at, validity_at, key_at, tbs_of, Unagreed, signed_of, agreed, whole_of, certificate_of}
 use Rattle.ts_name.proofs.Shapes.{end-ok, end-again}
-use Rattle.ts_cert.proofs.Parts.{took, element-took, der-ok}
-use Rattle.ts_cert.proofs.FieldParts.{integer-part, bits-part, name-part, algorithm-value, algorithm-part, key-part}
+use Rattle.ts_name.proofs.Parts.{took, element-took, der-ok}
+use Rattle.ts_name.proofs.FieldParts.{integer-part, bits-part, name-part}
+use Rattle.ts_cert.proofs.KeyParts.{algorithm-value, algorithm-part, key-part}
 use Rattle.ts_cert.proofs.Periods.{validity-part, version-found, version-again}
 
 -- ---- what is signed

@@ -1,5 +1,4 @@
-pub mod Parts
-pub mod FieldParts
+pub mod KeyParts
 pub mod Periods
 pub mod Certificates
 pub mod OneSpelling

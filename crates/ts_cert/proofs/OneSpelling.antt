@@ -7,7 +7,8 @@ use Rattle.ts_time.proofs.TextLemmas.{IsUtc-one_text, IsGeneral-one_text}
 use Rattle.ts_cert.specs.declared.time.TimeForm.{TimeForm}
 use Rattle.ts_cert.specs.declared.time.TimeForm.TheVariants.{Utc, General}
 use Rattle.ts_cert.specs.Certificate.{Tbs}
-use Rattle.ts_cert.specs.Spelling.{Within, IsInteger, IsBits, IsTimeIn, IsAlgorithm, IsKeyInfo, IsValidity, IsTbs}
+use Rattle.ts_name.specs.Fields.{Within, IsInteger, IsBits}
+use Rattle.ts_cert.specs.Spelling.{IsTimeIn, IsAlgorithm, IsKeyInfo, IsValidity, IsTbs}
 
 -- one content for each value
 abbrev One : {A : Type 0} → (List ℕ → A → Type 0) → Type 0

@@ -25,13 +25,14 @@ use Rattle.ts_cert.specs.declared.time.TimeForm.{TimeForm}
 use Rattle.ts_cert.specs.declared.time.TimeForm.TheVariants.{Utc, General}
 use Rattle.ts_cert.specs.declared.time.Time.{Time}
 use Rattle.ts_cert.specs.declared.time.Validity.{Validity}
-use Rattle.ts_cert.specs.Fault.{der, breaks}
-use Rattle.ts_cert.specs.Spelling.{Within, IsTimeIn, IsTime, IsValidity, version_octets}
+use Rattle.ts_name.specs.Fault.{der, breaks}
+use Rattle.ts_name.specs.Fields.{Within}
+use Rattle.ts_cert.specs.Spelling.{IsTimeIn, IsTime, IsValidity, version_octets}
 use Rattle.ts_cert.specs.Time.{time_of, time_at, validity_of}
 use Rattle.ts_cert.specs.Version.{version_named, number_of, not_default, version_of, version_if, version_at}
 use Rattle.ts_cert.specs.Reading.{validity_at}
 use Rattle.ts_name.proofs.Shapes.{end-ok, end-again}
-use Rattle.ts_cert.proofs.Parts.{Part, within-part, took, der-ok}
+use Rattle.ts_name.proofs.Parts.{Part, within-part, took, der-ok}
 
 -- ---- times
 

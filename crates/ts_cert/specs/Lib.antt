@@ -1,12 +1,9 @@
 pub mod Certificate
-pub mod Fault
 pub mod Period
 pub mod View
 pub mod Spelling
 pub mod Version
 pub mod Time
-pub mod Steps
 pub mod CertView
 pub mod Reading
-pub mod Shape
 pub mod Table

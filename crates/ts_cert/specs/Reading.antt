@@ -1,34 +1,21 @@
 -- Reading a certificate (RFC 5280 4.1) from front to back, up to the first rule that is broken. Each function reads one
 -- SEQUENCE of the standard, field by field in its order.
-use Rattle.std.specs.Prelude.{ℕ, nat_lt, List, drop, length, Option, Some, None, Result, Ok, Err, if◌then◌else◌}
+use Rattle.std.specs.Prelude.{ℕ, nat_lt, List, length, Option, Some, None, Result, Ok, Err, if◌then◌else◌}
 use Rattle.std.specs.Str.{bytes_eq}
 use Rattle.ts_der.specs.declared.fault.DerFault.TheVariants.{TooLarge}
 use Rattle.ts_der.specs.declared.fault.Fault.{Fault}
 use Rattle.ts_der.specs.Answer.{◌>>=◌}
 use Rattle.ts_der.specs.Element.{Place, Tlv, inside}
-use Rattle.ts_der.specs.Reading.{is_end, next_at, element_at, value_at, end_at}
-use Rattle.ts_der.specs.Integer.{integer_rules}
-use Rattle.ts_der.specs.BitString.{whole_octets_rules}
-use Rattle.ts_der.specs.ObjectIdentifier.{oid_rules}
+use Rattle.ts_der.specs.Reading.{is_end, next_at, element_at, end_at}
 use Rattle.ts_name.specs.declared.fault.CertRule.TheVariants.{Der, AlgorithmMismatch}
 use Rattle.ts_name.specs.declared.fault.CertFault.{CertFault}
-use Rattle.ts_name.specs.Canon.{Attr}
-use Rattle.ts_name.specs.Names.{within, name_of}
+use Rattle.ts_name.specs.Fault.{der, breaks}
+use Rattle.ts_name.specs.Names.{within}
+use Rattle.ts_name.specs.Fields.{oid_at, integer_at, bits_at, name_at}
 use Rattle.ts_cert.specs.declared.time.Validity.{Validity}
 use Rattle.ts_cert.specs.Certificate.{Algorithm, KeyInfo, Tbs, Certificate}
-use Rattle.ts_cert.specs.Fault.{der, breaks}
 use Rattle.ts_cert.specs.Version.{version_at}
 use Rattle.ts_cert.specs.Time.{validity_of}
-
--- OBJECT IDENTIFIER, INTEGER, and BIT STRING of whole octets
-unfoldable pub oid_at : Place → Result (List ℕ × Place) Fault
-oid_at = within 0x06 (value_at oid_rules (λ c. c))
-
-unfoldable pub integer_at : Place → Result (List ℕ × Place) Fault
-integer_at = within 0x02 (value_at integer_rules (λ c. c))
-
-unfoldable pub bits_at : Place → Result (List ℕ × Place) Fault
-bits_at = within 0x03 (value_at whole_octets_rules (λ c. drop 1 c))
 
 -- parameters ANY DEFINED BY algorithm OPTIONAL: the element that is left, if any is
 unfoldable pub parameters_at : Place → Result (Option (List ℕ) × Place) Fault
@@ -44,9 +31,6 @@ algorithm_of e = do
 
 unfoldable pub algorithm_at : Place → Result (Algorithm × Place) Fault
 algorithm_at = within 0x30 algorithm_of
-
-unfoldable pub name_at : Place → Result (List (List Attr) × Place) Fault
-name_at = within 0x30 name_of
 
 unfoldable pub validity_at : Place → Result (Validity × Place) Fault
 validity_at = within 0x30 validity_of

@@ -1,9 +1,8 @@
 -- The one spelling of a certificate (RFC 5280 4.1, as restated in Appendix A.1), from its parts up to the whole.
-use Rattle.std.specs.Prelude.{◌≡◌, ℕ, ◌≤◌, true, List, [], ◌∷◌, ◌++◌, length, Option, Some, None, unwrap_or, ℤ}
-use Rattle.ts_der.specs.Element.{Fits, spell}
-use Rattle.ts_der.specs.Integer.{is_shortest}
-use Rattle.ts_der.specs.ObjectIdentifier.{is_oid}
+use Rattle.std.specs.Prelude.{◌≡◌, ℕ, ◌≤◌, List, [], ◌∷◌, ◌++◌, length, Option, Some, None, unwrap_or, ℤ}
+use Rattle.ts_der.specs.Element.{spell}
 use Rattle.ts_name.specs.NameSpelling.{IsName}
+use Rattle.ts_name.specs.Fields.{Within, IsAny, IsOid, IsInteger, IsBits}
 use Rattle.ts_time.specs.Text.{IsUtc, IsGeneral}
 use Rattle.ts_cert.specs.declared.version.Version.{Version}
 use Rattle.ts_cert.specs.declared.version.Version.TheVariants.{V1, V2, V3}
@@ -12,34 +11,6 @@ use Rattle.ts_cert.specs.declared.time.TimeForm.TheVariants.{Utc, General}
 use Rattle.ts_cert.specs.declared.time.Time.{Time}
 use Rattle.ts_cert.specs.declared.time.Validity.{Validity}
 use Rattle.ts_cert.specs.Certificate.{Algorithm, KeyInfo, Tbs, Certificate}
-
--- octets that are one element of this tag, whose content spells a value
-pub record Within {A : Type 0} (tag : ℕ) (Spells : List ℕ → A → Type 0) (octets : List ℕ) (x : A) : Type 0 where
-  pub content : List ℕ
-  pub fits : Fits tag content
-  pub spelled : octets ≡ spell tag content
-  pub value : Spells content x
-
--- octets that are one element of any tag
-pub record IsAny (octets : List ℕ) : Type 0 where
-  pub tag : ℕ
-  pub content : List ℕ
-  pub fits : Fits tag content
-  pub spelled : octets ≡ spell tag content
-
--- ---- the values of elements that hold no others
-
--- OBJECT IDENTIFIER, by its content
-abbrev pub IsOid : List ℕ → List ℕ → Type 0
-IsOid content oid = (content ≡ oid) × (is_oid oid ≡ true)
-
--- INTEGER, by its content
-abbrev pub IsInteger : List ℕ → List ℕ → Type 0
-IsInteger content octets = (content ≡ octets) × (is_shortest octets ≡ true)
-
--- BIT STRING of whole octets: no bit is unused
-abbrev pub IsBits : List ℕ → List ℕ → Type 0
-IsBits content octets = content ≡ 0 ∷ octets
 
 -- Time ::= CHOICE { utcTime UTCTime, generalTime GeneralizedTime } (4.1.2.5)
 abbrev pub IsTimeIn : TimeForm → List ℕ → ℤ → Type 0

@@ -1,35 +1,18 @@
 -- The table of a certificate (RFC 5280 4.1, as restated in Appendix A.1), and the first rule that octets break.
-use Rattle.std.specs.Prelude.{ℕ, zero, suc, ◌+◌, ◌==◌, ◌||◌, not, nat_lt, Bool, false, List, [], ◌∷◌, take, drop, length, Option, Some, None, is_some, if◌then◌else◌}
+use Rattle.std.specs.Prelude.{ℕ, zero, suc, ◌==◌, ◌||◌, not, nat_lt, Bool, false, List, [], ◌∷◌, length, Option, Some, None, is_some, if◌then◌else◌}
 use Rattle.std.specs.Str.{bytes_eq}
-use Rattle.ts_der.specs.declared.fault.DerFault.TheVariants.{TooLarge, DefaultEncoded, TimeForm, Empty, SetOrder}
-use Rattle.ts_der.specs.Rules.{Rule, rule}
+use Rattle.ts_der.specs.declared.fault.DerFault.TheVariants.{TooLarge, DefaultEncoded, TimeForm}
 use Rattle.ts_der.specs.Element.{Place, Tlv, inside, spell}
-use Rattle.ts_der.specs.Header.{header_size, length_of}
-use Rattle.ts_der.specs.Reading.{begins_with, is_end, element_of, behind}
+use Rattle.ts_der.specs.Reading.{begins_with, element_of, behind}
 use Rattle.ts_der.specs.Integer.{integer_rules}
-use Rattle.ts_der.specs.BitString.{whole_octets_rules}
-use Rattle.ts_der.specs.ObjectIdentifier.{oid_rules}
-use Rattle.ts_der.specs.SetOf.{ascends}
-use Rattle.ts_der.specs.Text.{utf8_rules, ascii_rules}
 use Rattle.ts_time.specs.Reading.{utc_in, general_in}
 use Rattle.ts_name.specs.declared.fault.CertRule.TheVariants.{Der, Version, AlgorithmMismatch}
 use Rattle.ts_name.specs.declared.fault.CertFault.{CertFault}
-use Rattle.ts_cert.specs.Fault.{breaks}
-use Rattle.ts_cert.specs.Shape.{ContentRules, Row, any, optional, tagged, no_other, items, nothing, ◌then◌, ◌or_else◌, judge, der_rules, one_rule, primitive, sequence, ◌or◌}
+use Rattle.ts_name.specs.Fault.{breaks}
+use Rattle.ts_name.specs.Shape.{ContentRules, Row, any, optional, tagged, no_other, nothing, ◌then◌, ◌or_else◌, judge, der_rules, one_rule, primitive, sequence, ◌or◌}
+use Rattle.ts_name.specs.Rows.{object_identifier, integer, bit_string, name}
 
--- ---- elements that hold no others
-
--- OBJECT IDENTIFIER
-abbrev pub object_identifier : Row
-object_identifier = primitive 0x06 (der_rules oid_rules)
-
--- INTEGER
-abbrev pub integer : Row
-integer = primitive 0x02 (der_rules integer_rules)
-
--- BIT STRING of whole octets
-abbrev pub bit_string : Row
-bit_string = primitive 0x03 (der_rules whole_octets_rules)
+-- ---- certificates
 
 -- UTCTime in its one form (4.1.2.5.1)
 abbrev pub utc_time : Row
@@ -38,53 +21,6 @@ utc_time = primitive 0x17 (one_rule (Der TimeForm) (λ c. not (is_some (utc_in c
 -- GeneralizedTime in its one form (4.1.2.5.2)
 abbrev pub generalized_time : Row
 generalized_time = primitive 0x18 (one_rule (Der TimeForm) (λ c. not (is_some (general_in c))))
-
--- UTF8String
-abbrev pub utf8_string : Row
-utf8_string = primitive 0x0C (der_rules utf8_rules)
-
--- PrintableString
-abbrev pub printable_string : Row
-printable_string = primitive 0x13 (der_rules ascii_rules)
-
--- IA5String
-abbrev pub ia5_string : Row
-ia5_string = primitive 0x16 (der_rules ascii_rules)
-
--- ---- names (4.1.2.4)
-
--- the elements that octets are, one after another, where there are no more of them than this
-abbrev pub elements_of : ℕ → List ℕ → List (List ℕ)
-elements_of zero octets = []
-elements_of (suc n) octets =
-    if is_end octets then []
-    else take (header_size octets + length_of octets) octets ∷ elements_of n (drop (header_size octets + length_of octets) octets)
-
--- there is an element, and they ascend (X.690 11.6)
-abbrev pub set_rules : List Rule
-set_rules = rule Empty (λ c. is_end c) ∷ rule SetOrder (λ c. not (ascends (elements_of (length c) c))) ∷ []
-
--- SET SIZE (1..MAX) OF
-abbrev pub set_of : Row → Row
-set_of row = tagged 0x31 (items row) (der_rules set_rules) no_other
-
--- AttributeValue ::= ANY DEFINED BY AttributeType, of which text is in its character set
-abbrev pub attribute_value : Row
-attribute_value = utf8_string or printable_string or ia5_string or any
-
--- AttributeTypeAndValue ::= SEQUENCE { type OBJECT IDENTIFIER, value AttributeValue }
-abbrev pub attribute_type_and_value : Row
-attribute_type_and_value = sequence (object_identifier then attribute_value then nothing)
-
--- RelativeDistinguishedName ::= SET SIZE (1..MAX) OF AttributeTypeAndValue
-abbrev pub relative_distinguished_name : Row
-relative_distinguished_name = set_of attribute_type_and_value
-
--- Name ::= CHOICE { rdnSequence RDNSequence }, RDNSequence ::= SEQUENCE OF RelativeDistinguishedName
-abbrev pub name : Row
-name = sequence (items relative_distinguished_name)
-
--- ---- certificates
 
 -- whether a content is v1(0), v2(1) or v3(2)
 abbrev pub is_version : List ℕ → Bool

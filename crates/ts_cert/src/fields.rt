@@ -2,7 +2,7 @@
 
 ghost use Rattle.ts_name.specs.Steps.{Takes};
 ghost use Rattle.ts_name.specs.NameView.{rdns_in};
-ghost use Rattle.ts_cert.specs.Reading.{oid_at, integer_at, bits_at, name_at};
+ghost use Rattle.ts_name.specs.Fields.{oid_at, integer_at, bits_at, name_at};
 
 use ts_der::{Fault, Integer, Reader};
 use ts_name::Name;
@@ -16,7 +16,7 @@ const OBJECT_IDENTIFIER: u8 = 0x06;
 pub(crate) const SEQUENCE: u8 = 0x30;
 
 /// The content octets of an OBJECT IDENTIFIER.
-#[tactic(auto, unfolding(crate::specs::Reading::oid_at, ts_name::specs::Names::within))]
+#[tactic(auto, unfolding(ts_name::specs::Fields::oid_at, ts_name::specs::Names::within))]
 pub(crate) fn next_oid<'a>(fields: &mut Reader<'a>) -> Result<&'a [u8], Fault>
     ensures { Takes (λ c. c.now) fields.new result (oid_at fields.old) }
 {
@@ -24,7 +24,7 @@ pub(crate) fn next_oid<'a>(fields: &mut Reader<'a>) -> Result<&'a [u8], Fault>
 }
 
 /// An INTEGER of any size.
-#[tactic(auto, unfolding(crate::specs::Reading::integer_at, ts_name::specs::Names::within))]
+#[tactic(auto, unfolding(ts_name::specs::Fields::integer_at, ts_name::specs::Names::within))]
 pub(crate) fn next_integer<'a>(fields: &mut Reader<'a>) -> Result<Integer<'a>, Fault>
     ensures { Takes (λ i. i.octets.now) fields.new result (integer_at fields.old) }
 {
@@ -32,7 +32,7 @@ pub(crate) fn next_integer<'a>(fields: &mut Reader<'a>) -> Result<Integer<'a>, F
 }
 
 /// The octets of a BIT STRING without unused bits.
-#[tactic(auto, unfolding(crate::specs::Reading::bits_at, ts_name::specs::Names::within))]
+#[tactic(auto, unfolding(ts_name::specs::Fields::bits_at, ts_name::specs::Names::within))]
 pub(crate) fn next_bits<'a>(fields: &mut Reader<'a>) -> Result<&'a [u8], Fault>
     ensures { Takes (λ c. c.now) fields.new result (bits_at fields.old) }
 {
@@ -40,7 +40,7 @@ pub(crate) fn next_bits<'a>(fields: &mut Reader<'a>) -> Result<&'a [u8], Fault>
 }
 
 /// A distinguished name.
-#[tactic(auto, unfolding(crate::specs::Reading::name_at, ts_name::specs::Names::within))]
+#[tactic(auto, unfolding(ts_name::specs::Fields::name_at, ts_name::specs::Names::within))]
 pub(crate) fn next_name<'a>(fields: &mut Reader<'a>) -> Result<Name<'a>, Fault>
     ensures { Takes rdns_in fields.new result (name_at fields.old) }
 {

@@ -4,7 +4,7 @@ ghost use Rattle.std.specs.Prelude.{◌≡◌};
 ghost use Rattle.ts_der.specs.Answer.{Answers};
 ghost use Rattle.ts_der.specs.View.{now};
 ghost use Rattle.ts_cert.specs.Version.{number_of, version_of, version_at};
-ghost use Rattle.ts_cert.specs.Steps.{TakesIn};
+ghost use Rattle.ts_name.specs.Steps.{TakesIn};
 
 use crate::fields::INTEGER;
 use ts_der::{DerFault, Element, Reader};

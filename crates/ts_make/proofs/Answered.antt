@@ -10,7 +10,7 @@ use Rattle.ts_name.specs.declared.fault.CertRule.TheVariants.{Der}
 use Rattle.ts_name.specs.declared.fault.CertFault.{CertFault}
 use Rattle.ts_time.specs.Civil.{IsInYears}
 use Rattle.ts_cert.specs.declared.time.Time.{Time}
-use Rattle.ts_cert.specs.Fault.{breaks}
+use Rattle.ts_name.specs.Fault.{breaks}
 use Rattle.ts_cert.specs.Certificate.{Certificate}
 use Rattle.ts_cert.specs.Reading.{certificate_of}
 use Rattle.ts_cert.proofs.Certificates.{certificate-again}

@@ -20,11 +20,12 @@ use Rattle.ts_cert.specs.declared.version.Version.TheVariants.{V3}
 use Rattle.ts_cert.specs.declared.time.TimeForm.{TimeForm}
 use Rattle.ts_cert.specs.declared.time.TimeForm.TheVariants.{Utc, General}
 use Rattle.ts_cert.specs.declared.time.Time.{Time}
-use Rattle.ts_cert.specs.Fault.{breaks}
+use Rattle.ts_name.specs.Fault.{breaks}
 use Rattle.ts_cert.specs.Spelling.{IsTimeIn, IsTime, version_octets}
 use Rattle.ts_cert.specs.Time.{time_of, time_at, validity_of}
 use Rattle.ts_cert.specs.Reading.{validity_at, tbs_of, signed_of, whole_of, certificate_of}
-use Rattle.ts_cert.proofs.FieldParts.{integer-part, algorithm-part, name-part}
+use Rattle.ts_name.proofs.FieldParts.{integer-part, name-part}
+use Rattle.ts_cert.proofs.KeyParts.{algorithm-part}
 use Rattle.ts_cert.proofs.Periods.{version-again}
 use Rattle.ts_make.specs.declared.description.CertText.{CertText}
 use Rattle.ts_make.specs.Serial.{serial_content}

@@ -5,7 +5,8 @@ use Rattle.ts_der.specs.Element.{spell}
 use Rattle.ts_sig.specs.StandIn.{algorithm_identifier}
 use Rattle.ts_cert.specs.declared.version.Version.TheVariants.{V3}
 use Rattle.ts_cert.specs.declared.time.Time.{Time}
-use Rattle.ts_cert.specs.Spelling.{Within, IsTime, IsTbs, IsCertificate, version_octets}
+use Rattle.ts_name.specs.Fields.{Within}
+use Rattle.ts_cert.specs.Spelling.{IsTime, IsTbs, IsCertificate, version_octets}
 use Rattle.ts_make.specs.declared.description.CertText.{CertText}
 use Rattle.ts_make.specs.Serial.{serial_content}
 use Rattle.ts_make.specs.Sayable.{IsSayable}

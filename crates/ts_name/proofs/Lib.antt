@@ -10,3 +10,6 @@ pub mod Shapes
 pub mod Items
 pub mod NameLists
 pub mod Counting
+pub mod Parts
+pub mod FieldParts
+pub mod Judging

@@ -1,5 +1,5 @@
 -- The numbers of the rules that a certificate's octets can break: 1 to 17 those of DER, 32 to 38 those of certificates.
-use Rattle.std.specs.Prelude.{ℕ}
+use Rattle.std.specs.Prelude.{ℕ, Result, Ok, Err}
 use Rattle.ts_der.specs.declared.fault.DerFault.{DerFault}
 use Rattle.ts_der.specs.declared.fault.DerFault.TheVariants.{Truncated, HighTag, Indefinite, LongLength, TooLarge, WrongTag, Trailing, IntegerForm, BooleanForm, BitsForm, NamedBits, OidForm, SetOrder, DefaultEncoded, TextForm, TimeForm, Empty}
 use Rattle.ts_der.specs.declared.fault.Fault.{Fault}
@@ -41,3 +41,12 @@ code_of AddressLength = 38
 -- a fault of DER, as one of a certificate at the same place
 abbrev pub about : Fault → CertFault
 about f = record { kind = Der f.kind; at = f.at }
+
+-- a rule of DER that is broken is one that a certificate breaks, at the same place
+abbrev pub der : {A : Type 0} → Result A Fault → Result A CertFault
+der (Ok x) = Ok x
+der (Err f) = Err (about f)
+
+-- a rule that is broken, with its place
+abbrev pub breaks : ℕ → CertRule → CertFault
+breaks at kind = record { kind = kind; at = at }

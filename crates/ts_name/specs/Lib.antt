@@ -8,5 +8,8 @@ pub mod Names
 pub mod NameView
 pub mod Steps
 pub mod NameSpelling
+pub mod Shape
+pub mod Rows
+pub mod Fields
 pub mod Sameness
 pub mod Printed

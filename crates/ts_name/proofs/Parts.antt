@@ -9,8 +9,8 @@ use Rattle.ts_der.proofs.OctetLists.{AreOctets-part, AreOctets-back}
 use Rattle.ts_der.proofs.Laws.{bind_ok, ok_is, element-found, element-only}
 use Rattle.ts_name.specs.declared.fault.CertFault.{CertFault}
 use Rattle.ts_name.specs.Names.{within}
-use Rattle.ts_cert.specs.Fault.{der}
-use Rattle.ts_cert.specs.Spelling.{Within}
+use Rattle.ts_name.specs.Fault.{der}
+use Rattle.ts_name.specs.Fields.{Within}
 
 -- how a value is read from an element of this tag, and spelled in its content
 pub record Value {A : Type 0} (tag : ℕ) (value : Tlv → Result A Fault) (Spells : List ℕ → A → Type 0) : Type 0 where

@@ -8,7 +8,7 @@ use Rattle.ts_der.specs.Reading.{begins_with, is_end, element_of, behind}
 use Rattle.ts_name.specs.declared.fault.CertRule.{CertRule}
 use Rattle.ts_name.specs.declared.fault.CertRule.TheVariants.{Der}
 use Rattle.ts_name.specs.declared.fault.CertFault.{CertFault}
-use Rattle.ts_cert.specs.Fault.{breaks}
+use Rattle.ts_name.specs.Fault.{breaks}
 
 -- ---- tables
 

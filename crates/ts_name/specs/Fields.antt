@@ -1,0 +1,54 @@
+-- Fields of a SEQUENCE that more than one format has: the octets that spell each, and how it is read.
+use Rattle.std.specs.Prelude.{◌≡◌, ℕ, true, List, ◌∷◌, drop, Result}
+use Rattle.ts_der.specs.declared.fault.Fault.{Fault}
+use Rattle.ts_der.specs.Element.{Place, Fits, spell}
+use Rattle.ts_der.specs.Integer.{is_shortest, integer_rules}
+use Rattle.ts_der.specs.BitString.{whole_octets_rules}
+use Rattle.ts_der.specs.ObjectIdentifier.{is_oid, oid_rules}
+use Rattle.ts_der.specs.Reading.{value_at}
+use Rattle.ts_name.specs.Canon.{Attr}
+use Rattle.ts_name.specs.Names.{within, name_of}
+
+-- ---- spelling
+
+-- octets that are one element of this tag, whose content spells a value
+pub record Within {A : Type 0} (tag : ℕ) (Spells : List ℕ → A → Type 0) (octets : List ℕ) (x : A) : Type 0 where
+  pub content : List ℕ
+  pub fits : Fits tag content
+  pub spelled : octets ≡ spell tag content
+  pub value : Spells content x
+
+-- octets that are one element of any tag
+pub record IsAny (octets : List ℕ) : Type 0 where
+  pub tag : ℕ
+  pub content : List ℕ
+  pub fits : Fits tag content
+  pub spelled : octets ≡ spell tag content
+
+-- OBJECT IDENTIFIER, by its content
+abbrev pub IsOid : List ℕ → List ℕ → Type 0
+IsOid content oid = (content ≡ oid) × (is_oid oid ≡ true)
+
+-- INTEGER, by its content
+abbrev pub IsInteger : List ℕ → List ℕ → Type 0
+IsInteger content octets = (content ≡ octets) × (is_shortest octets ≡ true)
+
+-- BIT STRING of whole octets: no bit is unused
+abbrev pub IsBits : List ℕ → List ℕ → Type 0
+IsBits content octets = content ≡ 0 ∷ octets
+
+-- ---- reading
+
+-- OBJECT IDENTIFIER, INTEGER, and BIT STRING of whole octets
+unfoldable pub oid_at : Place → Result (List ℕ × Place) Fault
+oid_at = within 0x06 (value_at oid_rules (λ c. c))
+
+unfoldable pub integer_at : Place → Result (List ℕ × Place) Fault
+integer_at = within 0x02 (value_at integer_rules (λ c. c))
+
+unfoldable pub bits_at : Place → Result (List ℕ × Place) Fault
+bits_at = within 0x03 (value_at whole_octets_rules (λ c. drop 1 c))
+
+-- Name
+unfoldable pub name_at : Place → Result (List (List Attr) × Place) Fault
+name_at = within 0x30 name_of
