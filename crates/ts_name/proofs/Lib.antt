@@ -14,3 +14,4 @@ pub mod Parts
 pub mod FieldParts
 pub mod Judging
 pub mod OptionalParts
+pub mod ItemParts

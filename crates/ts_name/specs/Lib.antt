@@ -11,5 +11,6 @@ pub mod NameSpelling
 pub mod Shape
 pub mod Rows
 pub mod Fields
+pub mod Items
 pub mod Sameness
 pub mod Printed
