@@ -13,6 +13,7 @@ mod name_reading;
 #[cfg(test)]
 mod name_tests;
 mod rdn;
+mod sequence_of;
 mod sameness;
 #[cfg(test)]
 mod tests;
@@ -24,3 +25,4 @@ pub use folded::same_text;
 pub use name::Name;
 pub use name_items::{Attributes, Rdns};
 pub use rdn::Rdn;
+pub use sequence_of::{FromElement, SequenceItems, SequenceOf, tagged_as};
