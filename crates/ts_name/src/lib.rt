@@ -13,8 +13,10 @@ mod name_reading;
 #[cfg(test)]
 mod name_tests;
 mod rdn;
-mod sequence_of;
 mod sameness;
+mod sequence_of;
+#[cfg(test)]
+mod sequence_tests;
 #[cfg(test)]
 mod tests;
 
