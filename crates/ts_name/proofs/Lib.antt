@@ -13,3 +13,4 @@ pub mod Counting
 pub mod Parts
 pub mod FieldParts
 pub mod Judging
+pub mod Generals

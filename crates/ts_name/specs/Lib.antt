@@ -11,5 +11,8 @@ pub mod NameSpelling
 pub mod Shape
 pub mod Rows
 pub mod Fields
+pub mod General
+pub mod GeneralTable
+pub mod GeneralView
 pub mod Sameness
 pub mod Printed
