@@ -21,6 +21,7 @@ use Rattle.ts_name.specs.Canon.{Attr}
 use Rattle.ts_name.specs.Fault.{about, der, breaks}
 use Rattle.ts_name.specs.Fields.{Within, name_at}
 use Rattle.ts_name.specs.NameSpelling.{IsName}
+use Rattle.ts_name.specs.Items.{each}
 use Rattle.ts_name.specs.General.{GeneralName, otherName, rfc822Name, dNSName, x400Address, directoryName, ediPartyName, uniformResourceIdentifier, iPAddress, registeredID, IsForm, IsGeneralName, directory_of, general_of, general_at}
 use Rattle.ts_name.specs.GeneralTable.{general_name}
 use Rattle.ts_name.specs.Rows.{name}
@@ -119,7 +120,7 @@ general-again e (iPAddress o) is = rw is.0 (ap (λ (c : List ℕ). Ok (iPAddress
 general-again e (registeredID o) is = rw (is.0, is.1.0, is.1.1) refl
 
 general_at-found : (here : Place) (x : GeneralName) (after : Place) → AreOctets here.rest → general_at here ≡ Ok (x, after) → (w : List ℕ) × IsGeneralName w x × (here.rest ≡ w ++ after.rest)
-unfolding general_at
+unfolding each
 general_at-found here x after fits read =
     let n = bind_ok (next_at here) (λ e. general_of e.0 >>= λ g. Ok (g, e.1)) (x, after) read in
     let g = bind_ok (general_of n.0.0) (λ g. Ok (g, n.0.1)) (x, after) n.2 in
@@ -130,7 +131,7 @@ general_at-found here x after fits read =
     subst (λ (p : GeneralName × Place). (w : List ℕ) × IsGeneralName w p.0 × (here.rest ≡ w ++ p.1.rest)) same (n.0.0.whole, is, s.whole)
 
 general_at-again : (here : Place) (x : GeneralName) (w rest : List ℕ) → IsGeneralName w x → here.rest ≡ w ++ rest → general_at here ≡ Ok (x, record { rest = rest; at = here.at + length w })
-unfolding general_at
+unfolding each
 general_at-again here x w rest is e =
     let one = next-only here is.tag is.content rest is.fits (e ∙ ap (λ (o : List ℕ). o ++ rest) is.spelled) in
     let read = general-again (spelled_at here.at is.tag is.content) x is.form in
@@ -188,7 +189,7 @@ general-judged e =
     (choice-judged 0x88 plain (der_rules oid_rules) e _ _ _ (formed-judged oid_rules (λ o. registeredID o) e) refl))))))))
 
 pub general-reads : Reads general_name (λ here. der (general_at here)) Whatever
-unfolding general_at
+unfolding each
 general-reads = next-reads general_name general_of Whatever general-judged
 
 -- what a call refuses, as a fault of a certificate

@@ -13,4 +13,6 @@ pub mod Counting
 pub mod Parts
 pub mod FieldParts
 pub mod Judging
+pub mod OptionalParts
+pub mod ItemParts
 pub mod Generals

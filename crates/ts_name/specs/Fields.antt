@@ -1,11 +1,12 @@
 -- Fields of a SEQUENCE that more than one format has: the octets that spell each, and how it is read.
-use Rattle.std.specs.Prelude.{◌≡◌, ℕ, true, List, ◌∷◌, drop, Result}
+use Rattle.std.specs.Prelude.{◌≡◌, ℕ, true, List, [], ◌∷◌, drop, Option, Some, None, Result, Ok, if◌then◌else◌}
 use Rattle.ts_der.specs.declared.fault.Fault.{Fault}
-use Rattle.ts_der.specs.Element.{Place, Fits, spell}
+use Rattle.ts_der.specs.Answer.{◌>>=◌}
+use Rattle.ts_der.specs.Element.{Place, Tlv, Fits, spell}
 use Rattle.ts_der.specs.Integer.{is_shortest, integer_rules}
 use Rattle.ts_der.specs.BitString.{whole_octets_rules}
 use Rattle.ts_der.specs.ObjectIdentifier.{is_oid, oid_rules}
-use Rattle.ts_der.specs.Reading.{value_at}
+use Rattle.ts_der.specs.Reading.{value_at, begins_with, element_at}
 use Rattle.ts_name.specs.Canon.{Attr}
 use Rattle.ts_name.specs.Names.{within, name_of}
 
@@ -24,6 +25,11 @@ pub record IsAny (octets : List ℕ) : Type 0 where
   pub content : List ℕ
   pub fits : Fits tag content
   pub spelled : octets ≡ spell tag content
+
+-- octets that are such an element, or none where it is absent
+abbrev pub IfAny : {A : Type 0} → ℕ → (List ℕ → A → Type 0) → List ℕ → Option A → Type 0
+IfAny tag Spells octets None = octets ≡ []
+IfAny tag Spells octets (Some x) = Within tag Spells octets x
 
 -- OBJECT IDENTIFIER, by its content
 abbrev pub IsOid : List ℕ → List ℕ → Type 0
@@ -52,3 +58,7 @@ bits_at = within 0x03 (value_at whole_octets_rules (λ c. drop 1 c))
 -- Name
 unfoldable pub name_at : Place → Result (List (List Attr) × Place) Fault
 name_at = within 0x30 name_of
+
+-- a field of this tag that may be absent
+unfoldable pub optional_of : {A : Type 0} → ℕ → (Tlv → Result A Fault) → Place → Result (Option A × Place) Fault
+optional_of tag value here = if begins_with tag here.rest then (element_at tag here >>= λ e. value e.0 >>= λ x. Ok (Some x, e.1)) else Ok (None, here)

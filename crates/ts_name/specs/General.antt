@@ -5,11 +5,12 @@ use Rattle.ts_der.specs.declared.fault.Fault.{Fault}
 use Rattle.ts_der.specs.Answer.{◌>>=◌}
 use Rattle.ts_der.specs.Element.{Place, Tlv, Fits, spell, inside}
 use Rattle.ts_der.specs.ObjectIdentifier.{oid_rules}
-use Rattle.ts_der.specs.Reading.{fault_at, value_at, next_at, end_at}
+use Rattle.ts_der.specs.Reading.{fault_at, value_at, end_at}
 use Rattle.ts_der.specs.Text.{is_ascii, ascii_rules}
 use Rattle.ts_name.specs.Canon.{Attr}
 use Rattle.ts_name.specs.Fields.{Within, IsOid, name_at}
 use Rattle.ts_name.specs.NameSpelling.{IsName}
+use Rattle.ts_name.specs.Items.{each}
 
 -- GeneralName, by its content: octets, or the relative distinguished names of a directory name
 pub data GeneralName : Type 0 where
@@ -91,8 +92,5 @@ general_of e =
     else (if e.tag == 0x88 then (value_at oid_rules (λ c. c) e >>= λ oid. Ok (registeredID oid))
     else Err (fault_at e.at WrongTag)))))))))
 
-unfoldable pub general_at : Place → Result (GeneralName × Place) Fault
-general_at here = do
-  e ← next_at here
-  name ← general_of e.0
-  Ok (name, e.1)
+abbrev pub general_at : Place → Result (GeneralName × Place) Fault
+general_at = each general_of

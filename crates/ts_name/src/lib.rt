@@ -16,6 +16,8 @@ mod name_reading;
 mod name_tests;
 mod rdn;
 mod sameness;
+mod subtree;
+mod subtree_reading;
 #[cfg(test)]
 mod tests;
 
@@ -27,3 +29,4 @@ pub use general::General;
 pub use name::Name;
 pub use name_items::{Attributes, Rdns};
 pub use rdn::Rdn;
+pub use subtree::Subtree;

@@ -1,0 +1,39 @@
+-- SEQUENCE OF and SET OF with one item or more (X.680 26, X.690 8.10): how the items are read, and the octets that they are.
+use Rattle.std.specs.Prelude.{◌≡◌, ◌≢◌, ℕ, zero, suc, List, [], ◌∷◌, ◌++◌, length, Result, Ok, Err, if◌then◌else◌}
+use Rattle.ts_der.specs.declared.fault.Fault.{Fault}
+use Rattle.ts_der.specs.Answer.{◌>>=◌}
+use Rattle.ts_der.specs.Element.{Place, Tlv, inside}
+use Rattle.ts_der.specs.Reading.{is_end, next_at, value_at, many}
+use Rattle.ts_name.specs.Names.{some_rules}
+
+-- the element that stands next, and what it is read as
+unfoldable pub each : {A : Type 0} → (Tlv → Result A Fault) → Place → Result (A × Place) Fault
+each value here = next_at here >>= λ e. value e.0 >>= λ x. Ok (x, e.1)
+
+-- the items within an element, of which there is one or more
+unfoldable pub some_of : {A : Type 0} → (Tlv → Result A Fault) → Tlv → Result (List A) Fault
+some_of value e = many (each value) (inside e) >>= λ xs. value_at some_rules (λ c. c) e >>= λ some. Ok xs
+
+-- octets that are items one after another
+abbrev pub AreItems : {A : Type 0} → (List ℕ → A → Type 0) → List ℕ → List A → Type 0
+AreItems Spells octets [] = octets ≡ []
+AreItems Spells octets (x ∷ xs) = (w : List ℕ) × (rest : List ℕ) × Spells w x × (octets ≡ w ++ rest) × AreItems Spells rest xs
+
+-- one item or more
+abbrev pub AreSome : {A : Type 0} → (List ℕ → A → Type 0) → List ℕ → List A → Type 0
+AreSome Spells octets xs = (xs ≢ []) × AreItems Spells octets xs
+
+-- ---- walking over items
+
+abbrev pub first_then : {A : Type 0} → Result (A × Place) Fault → (Place → List A) → List A
+first_then (Ok x) others = x.0 ∷ others x.1
+first_then (Err f) others = []
+
+-- the items at a place, up to the first that can't be read, where there are no more of them than this
+abbrev pub upto_from : {A : Type 0} → ℕ → (Tlv → Result A Fault) → Place → List A
+upto_from zero value here = []
+upto_from (suc n) value here = if is_end here.rest then [] else first_then (each value here) (upto_from n value)
+
+-- the items at a place, up to the first that can't be read: all of them where reading them was not refused
+unfoldable pub items_at : {A : Type 0} → (Tlv → Result A Fault) → Place → List A
+items_at value here = upto_from (length here.rest) value here
