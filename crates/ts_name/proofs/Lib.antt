@@ -15,3 +15,4 @@ pub mod FieldParts
 pub mod Judging
 pub mod OptionalParts
 pub mod ItemParts
+pub mod Generals

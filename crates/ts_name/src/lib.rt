@@ -6,6 +6,8 @@ mod canon;
 mod canonical;
 mod fault;
 mod folded;
+mod general;
+mod general_reading;
 pub mod laws;
 mod name;
 mod name_items;
@@ -17,6 +19,8 @@ mod sameness;
 mod sequence_of;
 #[cfg(test)]
 mod sequence_tests;
+mod subtree;
+mod subtree_reading;
 #[cfg(test)]
 mod tests;
 
@@ -24,7 +28,9 @@ pub use attribute::{Attribute, IA5_STRING, PRINTABLE_STRING, UTF8_STRING};
 pub use canon::{Canon, CanonAttribute, CanonRdn, canon_attribute};
 pub use fault::{CertFault, CertRule};
 pub use folded::same_text;
+pub use general::General;
 pub use name::Name;
 pub use name_items::{Attributes, Rdns};
 pub use rdn::Rdn;
 pub use sequence_of::{FromElement, SequenceItems, SequenceOf, tagged_as};
+pub use subtree::Subtree;
