@@ -1,0 +1,4 @@
+pub mod Inner
+pub mod Spelling
+pub mod Reading
+pub mod Table
