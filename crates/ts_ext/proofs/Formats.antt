@@ -7,11 +7,10 @@ use Rattle.ts_der.specs.declared.fault.Fault.{Fault}
 use Rattle.ts_der.specs.Octets.{AreOctets}
 use Rattle.ts_der.specs.Answer.{Answers, refusal}
 use Rattle.ts_der.specs.Rules.{Rule, first_broken, value_unless}
-use Rattle.ts_der.specs.Element.{Tlv, spell}
+use Rattle.ts_der.specs.Element.{Tlv}
 use Rattle.ts_der.specs.Reading.{located, value_at}
 use Rattle.ts_der.proofs.Laws.{ok_is}
 use Rattle.ts_name.specs.declared.fault.CertRule.TheVariants.{Der}
-use Rattle.ts_name.specs.declared.fault.CertFault.{CertFault}
 use Rattle.ts_name.specs.Fault.{about, der, breaks}
 use Rattle.ts_name.specs.Shape.{Shape, ContentRules, plain, der_rules, one_rule}
 use Rattle.ts_name.proofs.Judging.{Judged, refusal-judged, weaker, value-judged}

@@ -1,11 +1,12 @@
 -- The one spelling of each value of an extension (RFC 5280 4.2, 5.2, 5.3), by the content of its element.
-use Rattle.std.specs.Prelude.{◌≡◌, ℕ, ◌<◌, ◌^◌, true, false, List, [], ◌∷◌, ℤ}
+use Rattle.std.specs.Prelude.{◌≡◌, ℕ, ◌<◌, ◌^◌, Bool, true, false, List, [], ◌∷◌, ℤ}
 use Rattle.ts_der.specs.Element.{number}
 use Rattle.ts_der.specs.Integer.{is_shortest, is_negative}
 use Rattle.ts_name.specs.Fields.{IsInteger}
 use Rattle.ts_time.specs.Text.{IsGeneral}
 use Rattle.ts_ext.specs.declared.reason_code.ReasonCode.{ReasonCode}
 use Rattle.ts_ext.specs.declared.reason_code.ReasonCode.TheVariants.{Unspecified, KeyCompromise, CaCompromise, AffiliationChanged, Superseded, CessationOfOperation, CertificateHold, RemoveFromCrl, PrivilegeWithdrawn, AaCompromise}
+use Rattle.ts_ext.specs.NamedBits.{IsNamedBits}
 
 -- ---- numbers
 
@@ -56,3 +57,13 @@ IsReasonCode content reason = content ≡ reason_number reason ∷ []
 -- InvalidityDate ::= GeneralizedTime (5.3.2), by its moment
 abbrev pub IsInvalidityDate : List ℕ → ℤ → Type 0
 IsInvalidityDate = IsGeneral
+
+-- ---- named bits
+
+-- KeyUsage ::= BIT STRING (4.2.1.3), of which keyCertSign is bit 5 and cRLSign is bit 6
+abbrev pub IsKeyUsage : List ℕ → List Bool → Type 0
+IsKeyUsage = IsNamedBits
+
+-- ReasonFlags ::= BIT STRING (4.2.1.13)
+abbrev pub AreReasonFlags : List ℕ → List Bool → Type 0
+AreReasonFlags = IsNamedBits

@@ -1,9 +1,10 @@
 -- The rules of the values of extensions (RFC 5280 4.2, 5.2, 5.3), in the order in which they count.
-use Rattle.std.specs.Prelude.{ℕ, ◌==◌, not, List, [], ◌∷◌, Option, Some, None, is_some}
+use Rattle.std.specs.Prelude.{ℕ, ◌==◌, not, List, [], ◌∷◌, Option, None, is_some}
 use Rattle.std.specs.List.{find}
 use Rattle.ts_der.specs.declared.fault.DerFault.TheVariants.{IntegerForm, TimeForm}
 use Rattle.ts_der.specs.Rules.{Rule, rule}
 use Rattle.ts_der.specs.Integer.{is_shortest, is_negative, integer_rules, small_rules}
+use Rattle.ts_der.specs.BitString.{named_bits_rules}
 use Rattle.ts_time.specs.Reading.{general_in}
 use Rattle.ts_name.specs.declared.fault.CertRule.TheVariants.{Der}
 use Rattle.ts_name.specs.Shape.{ContentRules, der_rules, one_rule}
@@ -53,3 +54,13 @@ reason_code_rules = one_rule (Der IntegerForm) (λ c. not (is_some (reason_in c)
 -- InvalidityDate ::= GeneralizedTime (5.3.2)
 abbrev pub invalidity_date_rules : ContentRules
 invalidity_date_rules = one_rule (Der TimeForm) (λ c. not (is_some (general_in c)))
+
+-- ---- named bits
+
+-- KeyUsage ::= BIT STRING (4.2.1.3)
+abbrev pub key_usage_rules : ContentRules
+key_usage_rules = der_rules named_bits_rules
+
+-- ReasonFlags ::= BIT STRING (4.2.1.13)
+abbrev pub reason_flags_rules : ContentRules
+reason_flags_rules = der_rules named_bits_rules

@@ -5,10 +5,19 @@
 
 mod crl_number;
 mod invalidity_date;
+mod key_usage;
+mod named_bits;
 mod reason_code;
+mod reason_flag;
+mod reason_flags;
+mod reason_set;
 mod skip_certs;
 
 pub use crl_number::{BaseCrlNumber, CrlNumber};
 pub use invalidity_date::InvalidityDate;
+pub use key_usage::KeyUsage;
 pub use reason_code::ReasonCode;
+pub use reason_flag::ReasonFlag;
+pub use reason_flags::ReasonFlags;
+pub use reason_set::ReasonSet;
 pub use skip_certs::SkipCerts;
