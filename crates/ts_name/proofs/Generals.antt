@@ -191,9 +191,3 @@ general-judged e =
 pub general-reads : Reads general_name (λ here. der (general_at here)) Whatever
 unfolding each
 general-reads = next-reads general_name general_of Whatever general-judged
-
--- what a call refuses, as a fault of a certificate
-pub about-judged : {X Y : Type 0} (view : X → Y) (result : Result X Fault) (reading : Result Y Fault) (o : Option CertFault) (P : Y → Type 0)
-    → Answers view result reading → Judged (der reading) o P → option_map about (refusal result) ≡ o
-about-judged {X} {Y} view (Ok x) reading o P a j = sym ((subst (λ (r : Result Y Fault). Judged (der r) o P) a j).0)
-about-judged {X} {Y} view (Err f) reading o P a j = sym (subst (λ (r : Result Y Fault). Judged (der r) o P) a j)
