@@ -14,6 +14,9 @@ mod name_reading;
 mod name_tests;
 mod rdn;
 mod sameness;
+mod sequence_of;
+#[cfg(test)]
+mod sequence_tests;
 #[cfg(test)]
 mod tests;
 
@@ -24,3 +27,4 @@ pub use folded::same_text;
 pub use name::Name;
 pub use name_items::{Attributes, Rdns};
 pub use rdn::Rdn;
+pub use sequence_of::{FromElement, SequenceItems, SequenceOf, tagged_as};
