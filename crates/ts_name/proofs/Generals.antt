@@ -1,5 +1,5 @@
 -- General names: what is read is spelled so, what is spelled so is read, and a fault is the first rule of the table.
-use Rattle.std.proofs.Common.{◌≡◌, ℕ, ◌+◌, Bool, true, false, cond, eqb, not, List, [], ◌++◌, length, Option, Some, None, Result, Ok, Err, refl, sym, ap, subst, ◌∙◌}
+use Rattle.std.proofs.Common.{◌≡◌, ℕ, ◌+◌, Bool, true, false, cond, eqb, not, ◌&&◌, ◌||◌, List, [], ◌++◌, length, Option, Some, None, Result, Ok, Err, refl, sym, ap, subst, ◌∙◌}
 use Rattle.std.specs.Prelude.{option_map}
 use Rattle.std.proofs.lemmas.Bool.{eqb-true}
 use Rattle.std.proofs.lemmas.List.{append-nil}
@@ -22,7 +22,7 @@ use Rattle.ts_name.specs.Fault.{about, der, breaks}
 use Rattle.ts_name.specs.Fields.{Within, name_at}
 use Rattle.ts_name.specs.NameSpelling.{IsName}
 use Rattle.ts_name.specs.Items.{each}
-use Rattle.ts_name.specs.General.{GeneralName, otherName, rfc822Name, dNSName, x400Address, directoryName, ediPartyName, uniformResourceIdentifier, iPAddress, registeredID, IsForm, IsGeneralName, directory_of, general_of, general_at}
+use Rattle.ts_name.specs.General.{GeneralName, otherName, rfc822Name, dNSName, x400Address, directoryName, ediPartyName, uniformResourceIdentifier, iPAddress, registeredID, IsForm, IsGeneralName, directory_of, general_of, general_at, has_range_length}
 use Rattle.ts_name.specs.GeneralTable.{general_name}
 use Rattle.ts_name.specs.Rows.{name}
 use Rattle.ts_name.specs.Shape.{Shape, ContentRules, nothing, plain, ◌then◌, ◌or_else◌, row_fault, judge, der_rules, no_rules}
@@ -197,3 +197,25 @@ pub about-judged : {X Y : Type 0} (view : X → Y) (result : Result X Fault) (re
     → Answers view result reading → Judged (der reading) o P → option_map about (refusal result) ≡ o
 about-judged {X} {Y} view (Ok x) reading o P a j = sym ((subst (λ (r : Result Y Fault). Judged (der r) o P) a j).0)
 about-judged {X} {Y} view (Err f) reading o P a j = sym (subst (λ (r : Result Y Fault). Judged (der r) o P) a j)
+
+-- ---- the length of an IP address
+
+not_not : (b : Bool) → b ≡ not (not b)
+not_not true = refl
+not_not false = refl
+
+-- what the octets of a name say of it
+pub range-is : (e : Tlv) (x : GeneralName) → general_of e ≡ Ok x → has_range_length x ≡ not (eqb e.tag 0x87 && not (eqb (length e.content) 8 || eqb (length e.content) 32))
+unfolding general_of
+range-is e x read =
+    let P : GeneralName → Type 0 = λ x. has_range_length x ≡ not (eqb e.tag 0x87 && not (eqb (length e.content) 8 || eqb (length e.content) 32)) in
+    choice-found 0xA0 e _ _ P (λ t. kept-found (λ o. otherName o) e.content P (rw t refl))
+    (choice-found 0x81 e _ _ P (λ t. text-found (λ o. rfc822Name o) e P (λ a. rw t refl))
+    (choice-found 0x82 e _ _ P (λ t. text-found (λ o. dNSName o) e P (λ a. rw t refl))
+    (choice-found 0xA3 e _ _ P (λ t. kept-found (λ o. x400Address o) e.content P (rw t refl))
+    (choice-found 0xA4 e _ _ P (λ t x r. let b = bind_ok (directory_of e) (λ rdns. Ok (directoryName rdns)) x r in subst P (ok_is {E = Fault} (directoryName b.0) x b.2) (rw t refl))
+    (choice-found 0xA5 e _ _ P (λ t. kept-found (λ o. ediPartyName o) e.content P (rw t refl))
+    (choice-found 0x86 e _ _ P (λ t. text-found (λ o. uniformResourceIdentifier o) e P (λ a. rw t refl))
+    (choice-found 0x87 e _ _ P (λ t. kept-found (λ o. iPAddress o) e.content P (rw t (not_not _)))
+    (choice-found 0x88 e _ _ P (λ t. oid-found (λ o. registeredID o) e P (λ a. rw t refl))
+    (λ x r. absurd cc))))))))) x read

@@ -39,7 +39,7 @@ fn read_minimum<'a>(element: Element<'a>) -> Result<Integer<'a>, Fault>
 }
 
 /// The minimum, if one stands next, which the reader has then passed.
-#[tactic(auto, unfolding(crate::specs::Fields::optional_of))]
+#[tactic(auto, using(crate::proofs::OptionalReads::optional_fails, crate::proofs::OptionalReads::optional_is_absent, crate::proofs::OptionalReads::optional_reads, crate::proofs::OptionalReads::optional_refuses))]
 fn next_minimum<'a>(fields: &mut Reader<'a>) -> Result<Option<Integer<'a>>, Fault>
     ensures { Takes (λ m. option_map (λ i. i.octets.now) m) fields.new result (optional_of 0x80 minimum_of fields.old) }
 {
@@ -50,7 +50,7 @@ fn next_minimum<'a>(fields: &mut Reader<'a>) -> Result<Option<Integer<'a>>, Faul
 }
 
 /// The maximum, if one stands next, which the reader has then passed.
-#[tactic(auto, unfolding(crate::specs::Fields::optional_of))]
+#[tactic(auto, using(crate::proofs::OptionalReads::optional_fails, crate::proofs::OptionalReads::optional_is_absent, crate::proofs::OptionalReads::optional_reads, crate::proofs::OptionalReads::optional_refuses))]
 fn next_maximum<'a>(fields: &mut Reader<'a>) -> Result<Option<Integer<'a>>, Fault>
     ensures { Takes (λ m. option_map (λ i. i.octets.now) m) fields.new result (optional_of 0x81 maximum_of fields.old) }
 {
