@@ -1,24 +1,26 @@
 -- Items one after another: what is read is spelled so, what is spelled so is read, the first rule that is broken, and walks.
-use Rattle.std.proofs.Common.{◌≡◌, ◌≢◌, ℕ, zero, suc, ◌+◌, ◌<◌, ◌≤◌, Bool, true, false, cond, List, [], ◌∷◌, ◌++◌, length, Some, None, Result, Ok, Err, refl, sym, ap, subst, ◌∙◌, arith}
+use Rattle.std.proofs.Common.{◌≡◌, ◌≢◌, ℕ, zero, suc, ◌+◌, ◌<◌, ◌≤◌, Bool, true, false, cond, eqb, List, [], ◌∷◌, ◌++◌, length, Some, None, Result, Ok, Err, refl, sym, ap, subst, ◌∙◌, arith}
 use Rattle.std.specs.Prelude.{option_map}
+use Rattle.std.proofs.lemmas.Bool.{eqb-true, eqb-false}
 use Rattle.ts_der.specs.declared.fault.Fault.{Fault}
-use Rattle.ts_der.specs.declared.fault.DerFault.TheVariants.{Empty}
+use Rattle.ts_der.specs.declared.fault.DerFault.TheVariants.{Empty, WrongTag}
 use Rattle.ts_der.specs.Octets.{AreOctets}
-use Rattle.ts_der.specs.Answer.{◌>>=◌}
+use Rattle.ts_der.specs.Answer.{◌>>=◌, refusal}
 use Rattle.ts_der.specs.Rules.{value_unless}
 use Rattle.ts_der.specs.Element.{Place, Tlv, inside}
-use Rattle.ts_der.specs.Reading.{is_end, next_at, located, value_at, many_from, many}
+use Rattle.ts_der.specs.Reading.{fault_at, is_end, next_at, element_at, element_of, behind, located, value_at, many_from, many}
 use Rattle.ts_der.proofs.Laws.{bind_ok, ok_is}
 use Rattle.ts_der.proofs.Many.{Consumes, is_end-length, many-end, many-step}
 use Rattle.ts_der.proofs.Sets.{next-consumes}
 use Rattle.ts_der.proofs.OctetLists.{AreOctets-back}
-use Rattle.ts_name.specs.Names.{some_rules}
-use Rattle.ts_name.specs.Items.{each, some_of, AreItems, AreSome, first_then, upto_from, items_at}
+use Rattle.ts_name.specs.Names.{within, some_rules}
+use Rattle.ts_name.specs.Fields.{Within}
+use Rattle.ts_name.specs.Items.{each, tagged_as, of_tag, some_of, AreItems, AreSome, first_then, upto_from, items_at}
 use Rattle.ts_name.specs.declared.fault.CertFault.{CertFault}
 use Rattle.ts_name.specs.Fault.{der, breaks}
-use Rattle.ts_name.specs.Shape.{Row, items, ◌or_else◌, row_fault, judge, der_rules}
-use Rattle.ts_name.proofs.Parts.{Part}
-use Rattle.ts_name.proofs.Judging.{Judged, bind-der, no_less, Reads, items-judged, value-judged, next-reads}
+use Rattle.ts_name.specs.Shape.{Row, Shape, ContentRules, tagged, no_other, items, ◌or_else◌, header_fault, row_fault, judge, der_rules}
+use Rattle.ts_name.proofs.Parts.{Value, Part, within-part}
+use Rattle.ts_name.proofs.Judging.{Judged, bind-der, no_less, Headed, Reads, within-reads, items-judged, value-judged, next-reads}
 
 pub each-consumes : {A : Type 0} (value : Tlv → Result A Fault) → Consumes (each value)
 unfolding each
@@ -27,6 +29,41 @@ each-consumes {A} value here x after read =
     let v = bind_ok (value e.0.0) (λ y. Ok (y, e.0.1)) (x, after) e.2 in
     let same : (v.0, e.0.1) ≡ (x, after) = ok_is {A = A × Place} {E = Fault} (v.0, e.0.1) (x, after) v.2 in
     subst (λ (p : Place). length p.rest < length here.rest) (ap (λ (p : A × Place). p.1) same) (next-consumes here e.0.0 e.0.1 e.1)
+
+-- an element of one tag, each way
+each-tag : {A : Type 0} (tag : ℕ) (value : Tlv → Result A Fault) (here : Place) → each (of_tag tag value) here ≡ within tag value here
+unfolding each of_tag tagged_as within element_at
+each-tag {A} tag value here = by_next (next_at here)
+  where
+    beside : Place → A → Result (A × Place) Fault
+    beside p y = Ok (y, p)
+
+    by_tag : (x : Tlv × Place) (b : Bool) → ((cond {A = Result Tlv Fault} b (Ok x.0) (Err (fault_at x.0.at WrongTag)) >>= value) >>= beside x.1)
+        ≡ (cond {A = Result (Tlv × Place) Fault} b (Ok x) (Err (fault_at x.0.at WrongTag)) >>= λ e. value e.0 >>= beside e.1)
+    by_tag x true = refl
+    by_tag x false = refl
+
+    by_next : (r : Result (Tlv × Place) Fault) → (r >>= λ x. (cond {A = Result Tlv Fault} (eqb x.0.tag tag) (Ok x.0) (Err (fault_at x.0.at WrongTag)) >>= value) >>= beside x.1)
+        ≡ ((r >>= λ x. cond {A = Result (Tlv × Place) Fault} (eqb x.0.tag tag) (Ok x) (Err (fault_at x.0.at WrongTag))) >>= λ e. value e.0 >>= beside e.1)
+    by_next (Ok x) = by_tag x (eqb x.0.tag tag)
+    by_next (Err f) = refl
+
+-- an item of one tag: what is read is spelled so, and what is spelled so is read
+pub tag-part : {A : Type 0} (tag : ℕ) (value : Tlv → Result A Fault) (Spells : List ℕ → A → Type 0) → Value tag value Spells → Part (each (of_tag tag value)) (Within tag Spells)
+tag-part {A} tag value Spells v =
+    let p = within-part tag value Spells v in
+    record {
+      found = λ here x after fits read. p.found here x after fits (sym (each-tag tag value here) ∙ read);
+      again = λ here x w rest is e. each-tag tag value here ∙ p.again here x w rest is e;
+    }
+
+-- and the first rule that it breaks
+pub tag-reads : {A : Type 0} (tag : ℕ) (shape : Shape) (rules : ContentRules) (value : Tlv → Result A Fault) (P : Tlv → A → Type 0)
+    → ((e : Tlv) → Judged (der (value e)) (judge shape (inside e) or_else option_map (breaks e.at) (rules e.content)) (P e))
+    → Reads (tagged tag shape rules no_other) (λ here. der (each (of_tag tag value) here)) P
+tag-reads {A} tag shape rules value P j here =
+    subst (λ (r : Result (A × Place) Fault). Judged (der r) (header_fault here or_else row_fault (tagged tag shape rules no_other) (element_of here)) (λ x. Headed here × (x.1 ≡ behind here) × P (element_of here) x.0))
+    (sym (each-tag tag value here)) (within-reads tag shape rules value P j here)
 
 -- ---- walks
 
@@ -182,6 +219,38 @@ some-again {A} value Spells part e (x ∷ xs) are =
     filled : {n : ℕ} (c : List ℕ) → n < length c → is_end c ≡ false
     filled [] h = absurd (omega arith)
     filled (o ∷ c) h = refl
+
+-- ---- a loop over items that has come to the end
+
+empty-is : (c : List ℕ) (b : Bool) → eqb (length c) 0 ≡ b → is_end c ≡ b
+empty-is [] true e = refl
+empty-is [] false e = absurd (eqb-false 0 0 e refl)
+empty-is (o ∷ c) true e = absurd (let none = eqb-true (length (o ∷ c)) 0 e in omega arith)
+empty-is (o ∷ c) false e = refl
+
+-- there was one
+pub some-is : {A : Type 0} (value : Tlv → Result A Fault) (e : Tlv) (xs : List A) → many (each value) (inside e) ≡ Ok xs → eqb (length e.content) 0 ≡ false → some_of value e ≡ Ok xs
+unfolding some_of
+some-is value e xs all some = rw (all, empty-is e.content false some) refl
+
+-- there was none
+pub none-is : {A : Type 0} (value : Tlv → Result A Fault) (e : Tlv) (xs : List A) → many (each value) (inside e) ≡ Ok xs → eqb (length e.content) 0 ≡ true → some_of value e ≡ Err (fault_at e.at Empty)
+unfolding some_of
+none-is value e xs all none = rw (all, empty-is e.content true none) refl
+
+-- items that were not refused are those of a walk
+pub some-walked : {A : Type 0} (value : Tlv → Result A Fault) (e : Tlv) → None ≡ refusal (some_of value e) → some_of value e ≡ Ok (items_at value (inside e))
+unfolding some_of
+some-walked {A} value e ok = by_items (many (each value) (inside e)) refl ok
+  where
+    by_items : (r : Result (List A) Fault) → many (each value) (inside e) ≡ r
+        → None ≡ refusal (r >>= λ xs. value_at some_rules (λ c. c) e >>= λ some. Ok xs) → (r >>= λ xs. value_at some_rules (λ c. c) e >>= λ some. Ok xs) ≡ Ok (items_at value (inside e))
+    by_items (Ok xs) all ok = by_some (value_at some_rules (λ c. c) e) ok
+      where
+        by_some : (s : Result (List ℕ) Fault) → None ≡ refusal (s >>= λ some. Ok xs) → (s >>= λ some. Ok xs) ≡ Ok (items_at value (inside e))
+        by_some (Ok c) ok = ap (λ (ys : List A). Ok ys) (sym (walk-all value (inside e) xs all))
+        by_some (Err f) ok = absurd cc
+    by_items (Err f) all ok = absurd cc
 
 -- ---- the first rule that is broken
 

@@ -1,14 +1,23 @@
 -- SEQUENCE OF and SET OF with one item or more (X.680 26, X.690 8.10): how the items are read, and the octets that they are.
-use Rattle.std.specs.Prelude.{◌≡◌, ◌≢◌, ℕ, zero, suc, List, [], ◌∷◌, ◌++◌, length, Result, Ok, Err, if◌then◌else◌}
+use Rattle.std.specs.Prelude.{◌≡◌, ◌≢◌, ℕ, zero, suc, ◌==◌, List, [], ◌∷◌, ◌++◌, length, Result, Ok, Err, if◌then◌else◌}
+use Rattle.ts_der.specs.declared.fault.DerFault.TheVariants.{WrongTag}
 use Rattle.ts_der.specs.declared.fault.Fault.{Fault}
 use Rattle.ts_der.specs.Answer.{◌>>=◌}
 use Rattle.ts_der.specs.Element.{Place, Tlv, inside}
-use Rattle.ts_der.specs.Reading.{is_end, next_at, value_at, many}
+use Rattle.ts_der.specs.Reading.{fault_at, is_end, next_at, value_at, many}
 use Rattle.ts_name.specs.Names.{some_rules}
 
 -- the element that stands next, and what it is read as
 unfoldable pub each : {A : Type 0} → (Tlv → Result A Fault) → Place → Result (A × Place) Fault
 each value here = next_at here >>= λ e. value e.0 >>= λ x. Ok (x, e.1)
+
+-- an element, if it has this tag
+unfoldable pub tagged_as : ℕ → Tlv → Result Tlv Fault
+tagged_as tag e = if e.tag == tag then Ok e else Err (fault_at e.at WrongTag)
+
+-- what an element of this tag is read as
+unfoldable pub of_tag : {A : Type 0} → ℕ → (Tlv → Result A Fault) → Tlv → Result A Fault
+of_tag tag value e = tagged_as tag e >>= value
 
 -- the items within an element, of which there is one or more
 unfoldable pub some_of : {A : Type 0} → (Tlv → Result A Fault) → Tlv → Result (List A) Fault

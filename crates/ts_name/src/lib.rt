@@ -16,6 +16,9 @@ mod name_reading;
 mod name_tests;
 mod rdn;
 mod sameness;
+mod sequence_of;
+#[cfg(test)]
+mod sequence_tests;
 mod subtree;
 mod subtree_reading;
 #[cfg(test)]
@@ -29,4 +32,5 @@ pub use general::General;
 pub use name::Name;
 pub use name_items::{Attributes, Rdns};
 pub use rdn::Rdn;
+pub use sequence_of::{FromElement, SequenceItems, SequenceOf, tagged_as};
 pub use subtree::Subtree;

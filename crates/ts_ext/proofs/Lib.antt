@@ -1,0 +1,4 @@
+pub mod Formats
+pub mod Values
+pub mod BitPlaces
+pub mod NamedBits

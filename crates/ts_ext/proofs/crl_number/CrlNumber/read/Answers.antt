@@ -1,0 +1,13 @@
+use Rattle.ts_der.specs.View.{now}
+use Rattle.ts_ext.proofs.Formats.{is_found, is_read, is_fault}
+use Rattle.ts_ext.proofs.Values.{crl_number-format}
+use Rattle.ts_ext.proofs.crl_number.CrlNumber.read.Goals as goal
+
+pub returns-clause-found : goal.returns-clause-found
+returns-clause-found c = is_found crl_number-format (now c.args.element) c.read_crl_number.result (λ n. n.octets.now) c.args.element.octets c.read_crl_number.ensures
+
+pub returns-clause-only : goal.returns-clause-only
+returns-clause-only c = is_read crl_number-format (now c.args.element) c.read_crl_number.result (λ n. n.octets.now) c.read_crl_number.ensures
+
+pub returns-clause-fault : goal.returns-clause-fault
+returns-clause-fault c = is_fault crl_number-format (now c.args.element) c.read_crl_number.result (λ n. n.octets.now) c.read_crl_number.ensures

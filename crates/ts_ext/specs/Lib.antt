@@ -1,0 +1,5 @@
+pub mod Inner
+pub mod Spelling
+pub mod NamedBits
+pub mod Reading
+pub mod Table

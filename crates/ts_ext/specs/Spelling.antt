@@ -1,0 +1,69 @@
+-- The one spelling of each value of an extension (RFC 5280 4.2, 5.2, 5.3), by the content of its element.
+use Rattle.std.specs.Prelude.{◌≡◌, ℕ, ◌<◌, ◌^◌, Bool, true, false, List, [], ◌∷◌, ℤ}
+use Rattle.ts_der.specs.Element.{number}
+use Rattle.ts_der.specs.Integer.{is_shortest, is_negative}
+use Rattle.ts_name.specs.Fields.{IsInteger}
+use Rattle.ts_time.specs.Text.{IsGeneral}
+use Rattle.ts_ext.specs.declared.reason_code.ReasonCode.{ReasonCode}
+use Rattle.ts_ext.specs.declared.reason_code.ReasonCode.TheVariants.{Unspecified, KeyCompromise, CaCompromise, AffiliationChanged, Superseded, CessationOfOperation, CertificateHold, RemoveFromCrl, PrivilegeWithdrawn, AaCompromise}
+use Rattle.ts_ext.specs.NamedBits.{IsNamedBits}
+
+-- ---- numbers
+
+-- INTEGER (0..MAX), by its content
+pub record IsNatural (content : List ℕ) (octets : List ℕ) : Type 0 where
+  pub whole : content ≡ octets
+  pub shortest : is_shortest octets ≡ true
+  pub natural : is_negative octets ≡ false
+
+-- INTEGER (0..4294967295), by its number
+pub record IsSmall (content : List ℕ) (n : ℕ) : Type 0 where
+  pub shortest : is_shortest content ≡ true
+  pub natural : is_negative content ≡ false
+  pub value : number content ≡ n
+  pub limit : n < 2 ^ 32
+
+-- CRLNumber ::= INTEGER (0..MAX) (5.2.3)
+abbrev pub IsCrlNumber : List ℕ → List ℕ → Type 0
+IsCrlNumber = IsNatural
+
+-- BaseCRLNumber, an INTEGER of any sign (5.2.4)
+abbrev pub IsBaseCrlNumber : List ℕ → List ℕ → Type 0
+IsBaseCrlNumber = IsInteger
+
+-- SkipCerts ::= INTEGER (0..MAX) (4.2.1.14), at most 4,294,967,295 in this profile
+abbrev pub IsSkipCerts : List ℕ → ℕ → Type 0
+IsSkipCerts = IsSmall
+
+-- ---- reasons and dates
+
+-- the numbers of CRLReason ::= ENUMERATED (5.3.1); 7 is not used
+abbrev pub reason_number : ReasonCode → ℕ
+reason_number Unspecified = 0
+reason_number KeyCompromise = 1
+reason_number CaCompromise = 2
+reason_number AffiliationChanged = 3
+reason_number Superseded = 4
+reason_number CessationOfOperation = 5
+reason_number CertificateHold = 6
+reason_number RemoveFromCrl = 8
+reason_number PrivilegeWithdrawn = 9
+reason_number AaCompromise = 10
+
+-- CRLReason (5.3.1): its number in one octet
+abbrev pub IsReasonCode : List ℕ → ReasonCode → Type 0
+IsReasonCode content reason = content ≡ reason_number reason ∷ []
+
+-- InvalidityDate ::= GeneralizedTime (5.3.2), by its moment
+abbrev pub IsInvalidityDate : List ℕ → ℤ → Type 0
+IsInvalidityDate = IsGeneral
+
+-- ---- named bits
+
+-- KeyUsage ::= BIT STRING (4.2.1.3), of which keyCertSign is bit 5 and cRLSign is bit 6
+abbrev pub IsKeyUsage : List ℕ → List Bool → Type 0
+IsKeyUsage = IsNamedBits
+
+-- ReasonFlags ::= BIT STRING (4.2.1.13)
+abbrev pub AreReasonFlags : List ℕ → List Bool → Type 0
+AreReasonFlags = IsNamedBits

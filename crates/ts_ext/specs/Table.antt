@@ -1,0 +1,66 @@
+-- The rules of the values of extensions (RFC 5280 4.2, 5.2, 5.3), in the order in which they count.
+use Rattle.std.specs.Prelude.{ℕ, ◌==◌, not, List, [], ◌∷◌, Option, None, is_some}
+use Rattle.std.specs.List.{find}
+use Rattle.ts_der.specs.declared.fault.DerFault.TheVariants.{IntegerForm, TimeForm}
+use Rattle.ts_der.specs.Rules.{Rule, rule}
+use Rattle.ts_der.specs.Integer.{is_shortest, is_negative, integer_rules, small_rules}
+use Rattle.ts_der.specs.BitString.{named_bits_rules}
+use Rattle.ts_time.specs.Reading.{general_in}
+use Rattle.ts_name.specs.declared.fault.CertRule.TheVariants.{Der}
+use Rattle.ts_name.specs.Shape.{ContentRules, der_rules, one_rule}
+use Rattle.ts_ext.specs.declared.reason_code.ReasonCode.{ReasonCode}
+use Rattle.ts_ext.specs.declared.reason_code.ReasonCode.TheVariants.{Unspecified, KeyCompromise, CaCompromise, AffiliationChanged, Superseded, CessationOfOperation, CertificateHold, RemoveFromCrl, PrivilegeWithdrawn, AaCompromise}
+use Rattle.ts_ext.specs.Spelling.{reason_number}
+
+-- ---- numbers
+
+-- INTEGER (0..MAX)
+abbrev pub natural_rules : List Rule
+natural_rules = rule IntegerForm (λ c. not (is_shortest c)) ∷ rule IntegerForm (λ c. is_negative c) ∷ []
+
+-- CRLNumber ::= INTEGER (0..MAX) (5.2.3)
+abbrev pub crl_number_rules : ContentRules
+crl_number_rules = der_rules natural_rules
+
+-- BaseCRLNumber, an INTEGER of any sign (5.2.4)
+abbrev pub base_crl_number_rules : ContentRules
+base_crl_number_rules = der_rules integer_rules
+
+-- SkipCerts ::= INTEGER (0..MAX) (4.2.1.14), at most 4,294,967,295 in this profile
+abbrev pub skip_certs_rules : ContentRules
+skip_certs_rules = der_rules small_rules
+
+-- ---- reasons and dates
+
+-- the reasons of CRLReason (5.3.1)
+abbrev pub reasons : List ReasonCode
+reasons =
+    Unspecified ∷ KeyCompromise ∷ CaCompromise ∷ AffiliationChanged ∷ Superseded
+    ∷ CessationOfOperation ∷ CertificateHold ∷ RemoveFromCrl ∷ PrivilegeWithdrawn ∷ AaCompromise ∷ []
+
+-- the reason that has this number, if one has it
+unfoldable pub reason_of_number : ℕ → Option ReasonCode
+reason_of_number n = find (λ r. reason_number r == n) reasons
+
+-- the reason that a content is, if it is one
+abbrev pub reason_in : List ℕ → Option ReasonCode
+reason_in (octet ∷ []) = reason_of_number octet
+reason_in content = None
+
+-- CRLReason ::= ENUMERATED (5.3.1)
+abbrev pub reason_code_rules : ContentRules
+reason_code_rules = one_rule (Der IntegerForm) (λ c. not (is_some (reason_in c)))
+
+-- InvalidityDate ::= GeneralizedTime (5.3.2)
+abbrev pub invalidity_date_rules : ContentRules
+invalidity_date_rules = one_rule (Der TimeForm) (λ c. not (is_some (general_in c)))
+
+-- ---- named bits
+
+-- KeyUsage ::= BIT STRING (4.2.1.3)
+abbrev pub key_usage_rules : ContentRules
+key_usage_rules = der_rules named_bits_rules
+
+-- ReasonFlags ::= BIT STRING (4.2.1.13)
+abbrev pub reason_flags_rules : ContentRules
+reason_flags_rules = der_rules named_bits_rules
