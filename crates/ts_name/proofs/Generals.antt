@@ -1,5 +1,5 @@
 -- General names: what is read is spelled so, what is spelled so is read, and a fault is the first rule of the table.
-use Rattle.std.proofs.Common.{◌≡◌, ℕ, ◌+◌, Bool, true, false, cond, eqb, not, List, [], ◌++◌, length, Option, Some, None, Result, Ok, Err, refl, sym, ap, subst, ◌∙◌}
+use Rattle.std.proofs.Common.{◌≡◌, ℕ, ◌+◌, Bool, true, false, cond, eqb, not, ◌&&◌, ◌||◌, List, [], ◌++◌, length, Option, Some, None, Result, Ok, Err, refl, sym, ap, subst, ◌∙◌}
 use Rattle.std.specs.Prelude.{option_map}
 use Rattle.std.proofs.lemmas.Bool.{eqb-true}
 use Rattle.std.proofs.lemmas.List.{append-nil}
@@ -22,12 +22,13 @@ use Rattle.ts_name.specs.Fault.{about, der, breaks}
 use Rattle.ts_name.specs.Fields.{Within, name_at}
 use Rattle.ts_name.specs.NameSpelling.{IsName}
 use Rattle.ts_name.specs.Items.{each}
-use Rattle.ts_name.specs.General.{GeneralName, otherName, rfc822Name, dNSName, x400Address, directoryName, ediPartyName, uniformResourceIdentifier, iPAddress, registeredID, IsForm, IsGeneralName, directory_of, general_of, general_at}
+use Rattle.ts_name.specs.General.{GeneralName, otherName, rfc822Name, dNSName, x400Address, directoryName, ediPartyName, uniformResourceIdentifier, iPAddress, registeredID, IsForm, IsGeneralName, directory_of, general_of, general_at, has_range_length}
 use Rattle.ts_name.specs.GeneralTable.{general_name}
 use Rattle.ts_name.specs.Rows.{name}
 use Rattle.ts_name.specs.Shape.{Shape, ContentRules, nothing, plain, ◌then◌, ◌or_else◌, row_fault, judge, der_rules, no_rules}
 use Rattle.ts_name.proofs.Shapes.{end-ok, end-again}
 use Rattle.ts_name.proofs.Parts.{Part, took}
+use Rattle.ts_name.proofs.ItemParts.{choice-found, choice-judged, form-part}
 use Rattle.ts_name.proofs.FieldParts.{name-part}
 use Rattle.ts_name.proofs.Judging.{Judged, refusal-judged, weaker, bind-der, no_more, under, then-judged, ends, value-judged, Whatever, Reads, next-reads, name-reads}
 
@@ -51,15 +52,6 @@ directory-again e rdns is =
     rw (n, d) refl
 
 -- ---- what is read is spelled so
-
--- an element of this tag, or what is read of others
-choice-found : {A : Type 0} (tag : ℕ) (e : Tlv) (value other : Result A Fault) (P : A → Type 0)
-    → (e.tag ≡ tag → (x : A) → value ≡ Ok x → P x) → ((x : A) → other ≡ Ok x → P x) → (x : A) → cond (eqb e.tag tag) value other ≡ Ok x → P x
-choice-found {A} tag e value other P f g x read = by_tag (eqb e.tag tag) refl read
-  where
-    by_tag : (b : Bool) → eqb e.tag tag ≡ b → cond b value other ≡ Ok x → P x
-    by_tag true t read = f (eqb-true e.tag tag t) x read
-    by_tag false t read = g x read
 
 -- octets that a form keeps as they are
 kept-found : (form : List ℕ → GeneralName) (content : List ℕ) (P : GeneralName → Type 0) → P (form content) → (x : GeneralName) → (let r : Result GeneralName Fault = Ok (form content) in r ≡ Ok x) → P x
@@ -119,38 +111,10 @@ general-again e (uniformResourceIdentifier o) is = rw (is.0, is.1.0, is.1.1) ref
 general-again e (iPAddress o) is = rw is.0 (ap (λ (c : List ℕ). Ok (iPAddress c)) is.1)
 general-again e (registeredID o) is = rw (is.0, is.1.0, is.1.1) refl
 
-general_at-found : (here : Place) (x : GeneralName) (after : Place) → AreOctets here.rest → general_at here ≡ Ok (x, after) → (w : List ℕ) × IsGeneralName w x × (here.rest ≡ w ++ after.rest)
-unfolding each
-general_at-found here x after fits read =
-    let n = bind_ok (next_at here) (λ e. general_of e.0 >>= λ g. Ok (g, e.1)) (x, after) read in
-    let g = bind_ok (general_of n.0.0) (λ g. Ok (g, n.0.1)) (x, after) n.2 in
-    let same : (g.0, n.0.1) ≡ (x, after) = ok_is {A = GeneralName × Place} {E = Fault} (g.0, n.0.1) (x, after) g.2 in
-    let s = next-found here n.0.0 n.0.1 fits n.1 in
-    let inner : AreOctets n.0.0.content = AreOctets-part n.0.0.tag n.0.0.content n.0.1.rest (subst AreOctets (s.whole ∙ ap (λ (w : List ℕ). w ++ n.0.1.rest) s.spelled) fits) in
-    let is : IsGeneralName n.0.0.whole g.0 = record { tag = n.0.0.tag; content = n.0.0.content; fits = s.fits; spelled = s.spelled; form = general-found n.0.0 g.0 inner g.1 } in
-    subst (λ (p : GeneralName × Place). (w : List ℕ) × IsGeneralName w p.0 × (here.rest ≡ w ++ p.1.rest)) same (n.0.0.whole, is, s.whole)
-
-general_at-again : (here : Place) (x : GeneralName) (w rest : List ℕ) → IsGeneralName w x → here.rest ≡ w ++ rest → general_at here ≡ Ok (x, record { rest = rest; at = here.at + length w })
-unfolding each
-general_at-again here x w rest is e =
-    let one = next-only here is.tag is.content rest is.fits (e ∙ ap (λ (o : List ℕ). o ++ rest) is.spelled) in
-    let read = general-again (spelled_at here.at is.tag is.content) x is.form in
-    rw (one, read) (ap (λ (o : List ℕ). Ok (x, record { rest = rest; at = here.at + length o })) (sym is.spelled))
-
 pub general-part : Part general_at IsGeneralName
-general-part = record { found = general_at-found; again = general_at-again }
+general-part = form-part general_of IsForm general-found general-again
 
 -- ---- the first rule that is broken
-
--- a row of one tag, or what the next row says
-choice-judged : (tag : ℕ) (shape : Shape) (rules : ContentRules) (e : Tlv) (value rest : Result GeneralName Fault) (other : Option CertFault)
-    → Judged (der value) (judge shape (inside e) or_else option_map (breaks e.at) (rules e.content)) (λ x. Unit {0}) → Judged (der rest) other (λ x. Unit {0})
-    → Judged (der (cond (eqb e.tag tag) value rest)) (cond (eqb e.tag tag) (judge shape (inside e) or_else option_map (breaks e.at) (rules e.content)) other) (λ x. Unit {0})
-choice-judged tag shape rules e value rest other j k = by_tag (eqb e.tag tag)
-  where
-    by_tag : (b : Bool) → Judged (der (cond b value rest)) (cond b (judge shape (inside e) or_else option_map (breaks e.at) (rules e.content)) other) (λ x. Unit {0})
-    by_tag true = j
-    by_tag false = k
 
 directory-judged : (e : Tlv) → Judged (der (directory_of e)) (judge (name then nothing) (inside e) or_else None) (λ n. Unit {0})
 unfolding directory_of
@@ -191,3 +155,25 @@ general-judged e =
 pub general-reads : Reads general_name (λ here. der (general_at here)) Whatever
 unfolding each
 general-reads = next-reads general_name general_of Whatever general-judged
+
+-- ---- the length of an IP address
+
+not_not : (b : Bool) → b ≡ not (not b)
+not_not true = refl
+not_not false = refl
+
+-- what the octets of a name say of it
+pub range-is : (e : Tlv) (x : GeneralName) → general_of e ≡ Ok x → has_range_length x ≡ not (eqb e.tag 0x87 && not (eqb (length e.content) 8 || eqb (length e.content) 32))
+unfolding general_of
+range-is e x read =
+    let P : GeneralName → Type 0 = λ x. has_range_length x ≡ not (eqb e.tag 0x87 && not (eqb (length e.content) 8 || eqb (length e.content) 32)) in
+    choice-found 0xA0 e _ _ P (λ t. kept-found (λ o. otherName o) e.content P (rw t refl))
+    (choice-found 0x81 e _ _ P (λ t. text-found (λ o. rfc822Name o) e P (λ a. rw t refl))
+    (choice-found 0x82 e _ _ P (λ t. text-found (λ o. dNSName o) e P (λ a. rw t refl))
+    (choice-found 0xA3 e _ _ P (λ t. kept-found (λ o. x400Address o) e.content P (rw t refl))
+    (choice-found 0xA4 e _ _ P (λ t x r. let b = bind_ok (directory_of e) (λ rdns. Ok (directoryName rdns)) x r in subst P (ok_is {E = Fault} (directoryName b.0) x b.2) (rw t refl))
+    (choice-found 0xA5 e _ _ P (λ t. kept-found (λ o. ediPartyName o) e.content P (rw t refl))
+    (choice-found 0x86 e _ _ P (λ t. text-found (λ o. uniformResourceIdentifier o) e P (λ a. rw t refl))
+    (choice-found 0x87 e _ _ P (λ t. kept-found (λ o. iPAddress o) e.content P (rw t (not_not _)))
+    (choice-found 0x88 e _ _ P (λ t. oid-found (λ o. registeredID o) e P (λ a. rw t refl))
+    (λ x r. absurd cc))))))))) x read

@@ -13,7 +13,11 @@ ghost use Rattle.ts_name.specs.Shape.{row_fault};
 use crate::general::General;
 use crate::name::Name;
 use crate::name_reading::SEQUENCE;
+use crate::sequence_of::{FromElement, SequenceOf};
 use ts_der::{DerFault, Element, Fault};
+
+/// General names, of which there is one or more (RFC 5280 4.2.1.6, `GeneralNames`).
+pub type GeneralNames<'a> = SequenceOf<'a, General<'a>>;
 
 const OTHER_NAME: u8 = 0xA0;
 
@@ -99,5 +103,20 @@ impl<'a> General<'a> {
             General::IpAddress(octets) => matches!(octets.len(), 8 | 32),
             _ => true,
         }
+    }
+}
+
+impl<'a> FromElement<'a> for General<'a> {
+    ghost use Rattle.ts_name.specs.General.{GeneralName, general_of};
+    ghost use Rattle.ts_name.specs.GeneralView.{general_in};
+
+    ghost Record = { GeneralName };
+
+    ghost record_of = { general_in };
+
+    ghost reading = { general_of };
+
+    fn read(element: Element<'a>) -> Result<General<'a>, Fault> {
+        read_general(element)
     }
 }

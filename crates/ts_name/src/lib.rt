@@ -29,6 +29,7 @@ pub use canon::{Canon, CanonAttribute, CanonRdn, canon_attribute};
 pub use fault::{CertFault, CertRule};
 pub use folded::same_text;
 pub use general::General;
+pub use general_reading::GeneralNames;
 pub use name::Name;
 pub use name_items::{Attributes, Rdns};
 pub use rdn::Rdn;

@@ -17,6 +17,7 @@ ghost use Rattle.ts_name.specs.SubtreeView.{subtree_in};
 use crate::fault::{CertFault, CertRule};
 use crate::general::General;
 use crate::name_reading::SEQUENCE;
+use crate::sequence_of::{FromElement, tagged_as};
 use crate::subtree::Subtree;
 use ts_der::{DerFault, Element, Fault, Integer, Reader};
 
@@ -39,7 +40,7 @@ fn read_minimum<'a>(element: Element<'a>) -> Result<Integer<'a>, Fault>
 }
 
 /// The minimum, if one stands next, which the reader has then passed.
-#[tactic(auto, unfolding(crate::specs::Fields::optional_of))]
+#[tactic(auto, using(crate::proofs::OptionalReads::optional_fails, crate::proofs::OptionalReads::optional_is_absent, crate::proofs::OptionalReads::optional_reads, crate::proofs::OptionalReads::optional_refuses))]
 fn next_minimum<'a>(fields: &mut Reader<'a>) -> Result<Option<Integer<'a>>, Fault>
     ensures { Takes (λ m. option_map (λ i. i.octets.now) m) fields.new result (optional_of 0x80 minimum_of fields.old) }
 {
@@ -50,7 +51,7 @@ fn next_minimum<'a>(fields: &mut Reader<'a>) -> Result<Option<Integer<'a>>, Faul
 }
 
 /// The maximum, if one stands next, which the reader has then passed.
-#[tactic(auto, unfolding(crate::specs::Fields::optional_of))]
+#[tactic(auto, using(crate::proofs::OptionalReads::optional_fails, crate::proofs::OptionalReads::optional_is_absent, crate::proofs::OptionalReads::optional_reads, crate::proofs::OptionalReads::optional_refuses))]
 fn next_maximum<'a>(fields: &mut Reader<'a>) -> Result<Option<Integer<'a>>, Fault>
     ensures { Takes (λ m. option_map (λ i. i.octets.now) m) fields.new result (optional_of 0x81 maximum_of fields.old) }
 {
@@ -160,5 +161,22 @@ impl<'a> Subtree<'a> {
         ensures { result ≡ has_range_length (subtree_in self.entry).base }
     {
         self.base.has_range_length()
+    }
+}
+
+impl<'a> FromElement<'a> for Subtree<'a> {
+    ghost use Rattle.ts_name.specs.Items.{of_tag};
+    ghost use Rattle.ts_name.specs.Subtree.{GeneralSubtree, subtree_of};
+    ghost use Rattle.ts_name.specs.SubtreeView.{subtree_in};
+
+    ghost Record = { GeneralSubtree };
+
+    ghost record_of = { subtree_in };
+
+    ghost reading = { of_tag 0x30 subtree_of };
+
+    #[tactic(auto, unfolding(crate::specs::Items::of_tag))]
+    fn read(element: Element<'a>) -> Result<Subtree<'a>, Fault> {
+        read_subtree(tagged_as(element, SEQUENCE)?)
     }
 }
