@@ -4,3 +4,6 @@ pub mod BitPlaces
 pub mod NamedBits
 pub mod Flags
 pub mod Constraints
+pub mod Names
+pub mod Points
+pub mod KeyAndConstraints

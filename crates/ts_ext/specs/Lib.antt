@@ -3,3 +3,8 @@ pub mod Spelling
 pub mod NamedBits
 pub mod Reading
 pub mod Table
+pub mod GeneralNames
+pub mod Points
+pub mod AuthorityKey
+pub mod NameConstraints
+pub mod NameViews

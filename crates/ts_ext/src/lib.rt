@@ -3,11 +3,15 @@
 //! value's element and does not look at its tag.
 #![tactic(auto)]
 
+mod authority_key_identifier;
 mod basic_constraints;
 mod crl_number;
+mod distribution_point;
 mod fields;
 mod invalidity_date;
+mod issuing_distribution_point;
 mod key_usage;
+mod name_constraints;
 mod named_bits;
 mod policy_constraints;
 mod reason_code;
@@ -16,10 +20,14 @@ mod reason_flags;
 mod reason_set;
 mod skip_certs;
 
+pub use authority_key_identifier::AuthorityKeyIdentifier;
 pub use basic_constraints::BasicConstraints;
 pub use crl_number::{BaseCrlNumber, CrlNumber};
+pub use distribution_point::{DistributionPoint, PointName};
 pub use invalidity_date::InvalidityDate;
+pub use issuing_distribution_point::IssuingDistributionPoint;
 pub use key_usage::KeyUsage;
+pub use name_constraints::NameConstraints;
 pub use policy_constraints::PolicyConstraints;
 pub use reason_code::ReasonCode;
 pub use reason_flag::ReasonFlag;
