@@ -4,3 +4,5 @@ pub mod BitPlaces
 pub mod NamedBits
 pub mod Flags
 pub mod Constraints
+pub mod Lists
+pub mod Policies

@@ -4,12 +4,18 @@
 #![tactic(auto)]
 
 mod basic_constraints;
+mod certificate_policies;
 mod crl_number;
+mod extended_key_usage;
 mod fields;
 mod invalidity_date;
 mod key_usage;
 mod named_bits;
 mod policy_constraints;
+mod policy_information;
+mod policy_mapping;
+mod policy_mappings;
+mod policy_qualifier;
 mod reason_code;
 mod reason_flag;
 mod reason_flags;
@@ -17,10 +23,16 @@ mod reason_set;
 mod skip_certs;
 
 pub use basic_constraints::BasicConstraints;
+pub use certificate_policies::CertificatePolicies;
 pub use crl_number::{BaseCrlNumber, CrlNumber};
+pub use extended_key_usage::ExtendedKeyUsage;
 pub use invalidity_date::InvalidityDate;
 pub use key_usage::KeyUsage;
 pub use policy_constraints::PolicyConstraints;
+pub use policy_information::PolicyInformation;
+pub use policy_mapping::PolicyMapping;
+pub use policy_mappings::PolicyMappings;
+pub use policy_qualifier::PolicyQualifier;
 pub use reason_code::ReasonCode;
 pub use reason_flag::ReasonFlag;
 pub use reason_flags::ReasonFlags;
