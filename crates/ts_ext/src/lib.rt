@@ -4,7 +4,11 @@
 #![tactic(auto)]
 
 mod basic_constraints;
+#[cfg(test)]
+mod bit_tests;
 mod certificate_policies;
+#[cfg(test)]
+mod constraint_tests;
 mod crl_number;
 mod extended_key_usage;
 mod fields;
@@ -16,11 +20,15 @@ mod policy_information;
 mod policy_mapping;
 mod policy_mappings;
 mod policy_qualifier;
+#[cfg(test)]
+mod policy_tests;
 mod reason_code;
 mod reason_flag;
 mod reason_flags;
 mod reason_set;
 mod skip_certs;
+#[cfg(test)]
+mod tests;
 
 pub use basic_constraints::BasicConstraints;
 pub use certificate_policies::CertificatePolicies;
