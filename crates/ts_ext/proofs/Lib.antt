@@ -7,3 +7,5 @@ pub mod Constraints
 pub mod Names
 pub mod Points
 pub mod KeyAndConstraints
+pub mod Lists
+pub mod Policies

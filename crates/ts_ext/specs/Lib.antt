@@ -1,6 +1,7 @@
 pub mod Inner
 pub mod Spelling
 pub mod NamedBits
+pub mod Policies
 pub mod Reading
 pub mod Table
 pub mod GeneralNames
@@ -8,3 +9,4 @@ pub mod Points
 pub mod AuthorityKey
 pub mod NameConstraints
 pub mod NameViews
+pub mod View
