@@ -13,9 +13,9 @@ use Rattle.ts_time.proofs.ReadingLemmas.{general_in-found, general_in-only}
 use Rattle.ts_name.specs.Shape.{plain}
 use Rattle.ts_ext.specs.declared.reason_code.ReasonCode.{ReasonCode}
 use Rattle.ts_ext.specs.declared.reason_code.ReasonCode.TheVariants.{Unspecified, KeyCompromise, CaCompromise, AffiliationChanged, Superseded, CessationOfOperation, CertificateHold, RemoveFromCrl, PrivilegeWithdrawn, AaCompromise}
-use Rattle.ts_ext.specs.Spelling.{IsSmall, IsCrlNumber, IsBaseCrlNumber, IsSkipCerts, reason_number, IsReasonCode, IsInvalidityDate}
-use Rattle.ts_ext.specs.Table.{natural_rules, crl_number_rules, base_crl_number_rules, skip_certs_rules, reasons, reason_of_number, reason_in, reason_code_rules, invalidity_date_rules}
-use Rattle.ts_ext.specs.Reading.{crl_number_of, base_crl_number_of, skip_certs_of, reason_code_of, invalidity_date_of}
+use Rattle.ts_ext.specs.Spelling.{IsSmall, IsCrlNumber, IsBaseCrlNumber, reason_number, IsReasonCode, IsInvalidityDate}
+use Rattle.ts_ext.specs.Table.{natural_rules, crl_number_rules, base_crl_number_rules, small_integer_rules, reasons, reason_of_number, reason_in, reason_code_rules, invalidity_date_rules}
+use Rattle.ts_ext.specs.Reading.{crl_number_of, base_crl_number_of, small_of, reason_code_of, invalidity_date_of}
 use Rattle.ts_ext.proofs.Formats.{Format, by_der_rules, by_name}
 
 -- ---- numbers
@@ -47,9 +47,9 @@ small-kept true false true e = absurd cc
 small-kept true true d e = absurd cc
 small-kept false c d e = absurd cc
 
-pub skip_certs-format : Format skip_certs_of IsSkipCerts plain skip_certs_rules
-unfolding skip_certs_of small_rules
-skip_certs-format = by_der_rules small_rules number IsSkipCerts found again
+pub small-format : Format small_of IsSmall plain small_integer_rules
+unfolding small_of small_rules
+small-format = by_der_rules small_rules number IsSmall found again
   where
     found : (c : List ℕ) → AreOctets c → first_broken small_rules c ≡ None → IsSmall c (number c)
     found c fits kept =

@@ -1,13 +1,18 @@
 -- Reading the value of an extension (RFC 5280 4.2, 5.2, 5.3) from its element, whatever the tag, up to the first rule
 -- that is broken.
-use Rattle.std.specs.Prelude.{ℕ, Bool, List, Result, ℤ, ok_or}
+use Rattle.std.specs.Prelude.{ℕ, Bool, List, Result, Ok, ℤ, ok_or}
 use Rattle.ts_der.specs.declared.fault.DerFault.TheVariants.{IntegerForm}
 use Rattle.ts_der.specs.declared.fault.Fault.{Fault}
-use Rattle.ts_der.specs.Element.{Tlv, number}
-use Rattle.ts_der.specs.Reading.{located, value_at}
+use Rattle.ts_der.specs.Answer.{◌>>=◌}
+use Rattle.ts_der.specs.Element.{Tlv, number, inside}
+use Rattle.ts_der.specs.Reading.{located, value_at, end_at}
+use Rattle.ts_der.specs.Default.{flag_at}
 use Rattle.ts_der.specs.Integer.{integer_rules, small_rules}
 use Rattle.ts_der.specs.BitString.{named_bits_rules}
 use Rattle.ts_time.specs.Reading.{general_value}
+use Rattle.ts_name.specs.Fields.{optional_of}
+use Rattle.ts_ext.specs.declared.basic_constraints.BasicConstraints.{BasicConstraints}
+use Rattle.ts_ext.specs.declared.policy_constraints.PolicyConstraints.{PolicyConstraints}
 use Rattle.ts_ext.specs.declared.reason_code.ReasonCode.{ReasonCode}
 use Rattle.ts_ext.specs.NamedBits.{named_bits_in}
 use Rattle.ts_ext.specs.Table.{natural_rules, reason_in}
@@ -22,9 +27,13 @@ crl_number_of = value_at natural_rules (λ c. c)
 unfoldable pub base_crl_number_of : Tlv → Result (List ℕ) Fault
 base_crl_number_of = value_at integer_rules (λ c. c)
 
--- SkipCerts (4.2.1.14)
-unfoldable pub skip_certs_of : Tlv → Result ℕ Fault
-skip_certs_of = value_at small_rules number
+-- INTEGER (0..MAX), at most 4,294,967,295
+unfoldable pub small_of : Tlv → Result ℕ Fault
+small_of = value_at small_rules number
+
+-- SkipCerts (4.2.1.11, 4.2.1.14)
+abbrev pub skip_certs_of : Tlv → Result ℕ Fault
+skip_certs_of = small_of
 
 -- ---- reasons and dates
 
@@ -45,3 +54,21 @@ key_usage_of = value_at named_bits_rules named_bits_in
 -- ReasonFlags (4.2.1.13)
 unfoldable pub reason_flags_of : Tlv → Result (List Bool) Fault
 reason_flags_of = value_at named_bits_rules named_bits_in
+
+-- ---- sequences
+
+-- BasicConstraints ::= SEQUENCE { cA, pathLenConstraint } (4.2.1.9)
+unfoldable pub basic_constraints_of : Tlv → Result BasicConstraints Fault
+basic_constraints_of e = do
+  ca ← flag_at 0x01 (inside e)
+  length ← optional_of 0x02 small_of ca.1
+  done ← end_at length.1
+  Ok (record { ca = ca.0; path_len_constraint = length.0 })
+
+-- PolicyConstraints ::= SEQUENCE { requireExplicitPolicy, inhibitPolicyMapping } (4.2.1.11)
+unfoldable pub policy_constraints_of : Tlv → Result PolicyConstraints Fault
+policy_constraints_of e = do
+  explicit ← optional_of 0x80 skip_certs_of (inside e)
+  mapping ← optional_of 0x81 skip_certs_of explicit.1
+  done ← end_at mapping.1
+  Ok (record { require_explicit_policy = explicit.0; inhibit_policy_mapping = mapping.0 })

@@ -1,11 +1,14 @@
 -- The one spelling of each value of an extension (RFC 5280 4.2, 5.2, 5.3), by the content of its element.
-use Rattle.std.specs.Prelude.{◌≡◌, ℕ, ◌<◌, ◌^◌, Bool, true, false, List, [], ◌∷◌, ℤ}
-use Rattle.ts_der.specs.Element.{number}
+use Rattle.std.specs.Prelude.{◌≡◌, ℕ, ◌<◌, ◌^◌, Bool, true, false, List, [], ◌∷◌, ◌++◌, ℤ}
+use Rattle.ts_der.specs.Element.{number, spell}
+use Rattle.ts_der.specs.Boolean.{boolean_content}
 use Rattle.ts_der.specs.Integer.{is_shortest, is_negative}
-use Rattle.ts_name.specs.Fields.{IsInteger}
+use Rattle.ts_name.specs.Fields.{IfAny, IsInteger}
 use Rattle.ts_time.specs.Text.{IsGeneral}
 use Rattle.ts_ext.specs.declared.reason_code.ReasonCode.{ReasonCode}
 use Rattle.ts_ext.specs.declared.reason_code.ReasonCode.TheVariants.{Unspecified, KeyCompromise, CaCompromise, AffiliationChanged, Superseded, CessationOfOperation, CertificateHold, RemoveFromCrl, PrivilegeWithdrawn, AaCompromise}
+use Rattle.ts_ext.specs.declared.basic_constraints.BasicConstraints.{BasicConstraints}
+use Rattle.ts_ext.specs.declared.policy_constraints.PolicyConstraints.{PolicyConstraints}
 use Rattle.ts_ext.specs.NamedBits.{IsNamedBits}
 
 -- ---- numbers
@@ -16,7 +19,7 @@ pub record IsNatural (content : List ℕ) (octets : List ℕ) : Type 0 where
   pub shortest : is_shortest octets ≡ true
   pub natural : is_negative octets ≡ false
 
--- INTEGER (0..4294967295), by its number
+-- INTEGER (0..MAX), at most 4,294,967,295 in this profile, by its number
 pub record IsSmall (content : List ℕ) (n : ℕ) : Type 0 where
   pub shortest : is_shortest content ≡ true
   pub natural : is_negative content ≡ false
@@ -31,7 +34,7 @@ IsCrlNumber = IsNatural
 abbrev pub IsBaseCrlNumber : List ℕ → List ℕ → Type 0
 IsBaseCrlNumber = IsInteger
 
--- SkipCerts ::= INTEGER (0..MAX) (4.2.1.14), at most 4,294,967,295 in this profile
+-- SkipCerts ::= INTEGER (0..MAX) (4.2.1.11, 4.2.1.14)
 abbrev pub IsSkipCerts : List ℕ → ℕ → Type 0
 IsSkipCerts = IsSmall
 
@@ -67,3 +70,26 @@ IsKeyUsage = IsNamedBits
 -- ReasonFlags ::= BIT STRING (4.2.1.13)
 abbrev pub AreReasonFlags : List ℕ → List Bool → Type 0
 AreReasonFlags = IsNamedBits
+
+-- ---- sequences
+
+-- BOOLEAN DEFAULT FALSE of this tag: the default is absent (X.690 11.5)
+abbrev pub IfTrue : ℕ → List ℕ → Bool → Type 0
+IfTrue tag octets false = octets ≡ []
+IfTrue tag octets true = octets ≡ spell tag (boolean_content true)
+
+-- BasicConstraints ::= SEQUENCE { cA BOOLEAN DEFAULT FALSE, pathLenConstraint INTEGER (0..MAX) OPTIONAL } (4.2.1.9)
+pub record IsBasicConstraints (content : List ℕ) (b : BasicConstraints) : Type 0 where
+  pub authority : List ℕ
+  pub length : List ℕ
+  pub cA : IfTrue 0x01 authority b.ca
+  pub pathLenConstraint : IfAny 0x02 IsSmall length b.path_len_constraint
+  pub fields : content ≡ authority ++ length
+
+-- PolicyConstraints ::= SEQUENCE { requireExplicitPolicy [0] SkipCerts OPTIONAL, inhibitPolicyMapping [1] SkipCerts OPTIONAL } (4.2.1.11)
+pub record IsPolicyConstraints (content : List ℕ) (p : PolicyConstraints) : Type 0 where
+  pub explicit : List ℕ
+  pub mapping : List ℕ
+  pub requireExplicitPolicy : IfAny 0x80 IsSkipCerts explicit p.require_explicit_policy
+  pub inhibitPolicyMapping : IfAny 0x81 IsSkipCerts mapping p.inhibit_policy_mapping
+  pub fields : content ≡ explicit ++ mapping

@@ -1,13 +1,14 @@
 -- The rules of the values of extensions (RFC 5280 4.2, 5.2, 5.3), in the order in which they count.
 use Rattle.std.specs.Prelude.{ℕ, ◌==◌, not, List, [], ◌∷◌, Option, None, is_some}
 use Rattle.std.specs.List.{find}
-use Rattle.ts_der.specs.declared.fault.DerFault.TheVariants.{IntegerForm, TimeForm}
+use Rattle.ts_der.specs.declared.fault.DerFault.TheVariants.{IntegerForm, TimeForm, DefaultEncoded}
 use Rattle.ts_der.specs.Rules.{Rule, rule}
 use Rattle.ts_der.specs.Integer.{is_shortest, is_negative, integer_rules, small_rules}
+use Rattle.ts_der.specs.Boolean.{boolean_rules, boolean_value}
 use Rattle.ts_der.specs.BitString.{named_bits_rules}
 use Rattle.ts_time.specs.Reading.{general_in}
 use Rattle.ts_name.specs.declared.fault.CertRule.TheVariants.{Der}
-use Rattle.ts_name.specs.Shape.{ContentRules, der_rules, one_rule}
+use Rattle.ts_name.specs.Shape.{ContentRules, Row, optional, Shape, nothing, ◌then◌, ◌or_else◌, der_rules, one_rule, primitive}
 use Rattle.ts_ext.specs.declared.reason_code.ReasonCode.{ReasonCode}
 use Rattle.ts_ext.specs.declared.reason_code.ReasonCode.TheVariants.{Unspecified, KeyCompromise, CaCompromise, AffiliationChanged, Superseded, CessationOfOperation, CertificateHold, RemoveFromCrl, PrivilegeWithdrawn, AaCompromise}
 use Rattle.ts_ext.specs.Spelling.{reason_number}
@@ -26,9 +27,13 @@ crl_number_rules = der_rules natural_rules
 abbrev pub base_crl_number_rules : ContentRules
 base_crl_number_rules = der_rules integer_rules
 
--- SkipCerts ::= INTEGER (0..MAX) (4.2.1.14), at most 4,294,967,295 in this profile
+-- INTEGER (0..MAX), at most 4,294,967,295 in this profile
+abbrev pub small_integer_rules : ContentRules
+small_integer_rules = der_rules small_rules
+
+-- SkipCerts ::= INTEGER (0..MAX) (4.2.1.11, 4.2.1.14)
 abbrev pub skip_certs_rules : ContentRules
-skip_certs_rules = der_rules small_rules
+skip_certs_rules = small_integer_rules
 
 -- ---- reasons and dates
 
@@ -64,3 +69,21 @@ key_usage_rules = der_rules named_bits_rules
 -- ReasonFlags ::= BIT STRING (4.2.1.13)
 abbrev pub reason_flags_rules : ContentRules
 reason_flags_rules = der_rules named_bits_rules
+
+-- ---- sequences
+
+-- a BOOLEAN, and then not the default FALSE, which is not encoded (X.690 11.5)
+abbrev pub flag_rules : ContentRules
+flag_rules content = der_rules boolean_rules content or_else one_rule (Der DefaultEncoded) (λ c. not (boolean_value c)) content
+
+-- BOOLEAN DEFAULT FALSE of this tag
+abbrev pub flag : ℕ → Row
+flag tag = primitive tag flag_rules
+
+-- BasicConstraints ::= SEQUENCE { cA BOOLEAN DEFAULT FALSE, pathLenConstraint INTEGER (0..MAX) OPTIONAL } (4.2.1.9)
+abbrev pub basic_constraints_fields : Shape
+basic_constraints_fields = optional (flag 0x01) then optional (primitive 0x02 small_integer_rules) then nothing
+
+-- PolicyConstraints ::= SEQUENCE { requireExplicitPolicy [0] SkipCerts OPTIONAL, inhibitPolicyMapping [1] SkipCerts OPTIONAL } (4.2.1.11)
+abbrev pub policy_constraints_fields : Shape
+policy_constraints_fields = optional (primitive 0x80 skip_certs_rules) then optional (primitive 0x81 skip_certs_rules) then nothing

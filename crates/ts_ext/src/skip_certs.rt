@@ -32,7 +32,7 @@ impl SkipCerts {
     }
 }
 
-#[tactic(auto, unfolding(crate::specs::Reading::skip_certs_of))]
+#[tactic(auto, unfolding(crate::specs::Reading::small_of))]
 fn read_skip_certs(element: Element<'_>) -> Result<SkipCerts, Fault>
     ensures { Answers (λ n. n.0) result (skip_certs_of (now element.entry)) }
 {
