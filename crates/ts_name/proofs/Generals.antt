@@ -7,18 +7,18 @@ use Rattle.ts_der.specs.declared.fault.DerFault.{DerFault}
 use Rattle.ts_der.specs.declared.fault.DerFault.TheVariants.{TextForm, OidForm}
 use Rattle.ts_der.specs.declared.fault.Fault.{Fault}
 use Rattle.ts_der.specs.Octets.{AreOctets}
-use Rattle.ts_der.specs.Answer.{◌>>=◌, Answers, refusal}
+use Rattle.ts_der.specs.Answer.{◌>>=◌}
 use Rattle.ts_der.specs.Rules.{Rule, first_broken, value_unless}
-use Rattle.ts_der.specs.Element.{Place, Tlv, spell, spelled_at, inside}
+use Rattle.ts_der.specs.Element.{Place, Tlv, spelled_at, inside}
 use Rattle.ts_der.specs.ObjectIdentifier.{is_oid, oid_rules}
 use Rattle.ts_der.specs.Reading.{located, value_at, next_at, end_at}
 use Rattle.ts_der.specs.Text.{is_ascii, ascii_rules}
 use Rattle.ts_der.proofs.Elements.{next-found}
-use Rattle.ts_der.proofs.OctetLists.{AreOctets-part, AreOctets-back}
+use Rattle.ts_der.proofs.OctetLists.{AreOctets-part}
 use Rattle.ts_der.proofs.Laws.{bind_ok, ok_is, next-only}
 use Rattle.ts_name.specs.declared.fault.CertFault.{CertFault}
 use Rattle.ts_name.specs.Canon.{Attr}
-use Rattle.ts_name.specs.Fault.{about, der, breaks}
+use Rattle.ts_name.specs.Fault.{der, breaks}
 use Rattle.ts_name.specs.Fields.{Within, name_at}
 use Rattle.ts_name.specs.NameSpelling.{IsName}
 use Rattle.ts_name.specs.Items.{each}
@@ -30,7 +30,7 @@ use Rattle.ts_name.proofs.Shapes.{end-ok, end-again}
 use Rattle.ts_name.proofs.Parts.{Part, took}
 use Rattle.ts_name.proofs.ItemParts.{choice-found, choice-judged, form-part}
 use Rattle.ts_name.proofs.FieldParts.{name-part}
-use Rattle.ts_name.proofs.Judging.{Judged, refusal-judged, weaker, bind-der, no_more, under, then-judged, ends, value-judged, Whatever, Reads, next-reads, name-reads}
+use Rattle.ts_name.proofs.Judging.{Judged, no_more, under, then-judged, ends, Whatever, Reads, next-reads, name-reads}
 
 -- ---- directory names
 

@@ -1,6 +1,6 @@
 -- General subtrees: what is read is spelled so, what is spelled so is read, and a fault is the first rule of the table.
 use Rattle.std.proofs.Common.{◌≡◌, ℕ, ◌+◌, Bool, true, false, cond, eqb, not, ◌&&◌, ◌||◌, List, [], ◌∷◌, ◌++◌, length, Option, Some, None, ◌⊎◌, inl, inr, Result, Ok, Err, refl, sym, ap, subst, ◌∙◌}
-use Rattle.std.specs.Prelude.{option_map, unwrap_or}
+use Rattle.std.specs.Prelude.{unwrap_or}
 use Rattle.std.proofs.lemmas.List.{append-nil}
 use Rattle.ts_der.specs.declared.fault.DerFault.{DerFault}
 use Rattle.ts_der.specs.declared.fault.DerFault.TheVariants.{IntegerForm, DefaultEncoded}
@@ -11,14 +11,14 @@ use Rattle.ts_der.specs.Rules.{first_broken, value_unless}
 use Rattle.ts_der.specs.Element.{Place, Tlv, spell, spelled_at, inside}
 use Rattle.ts_der.specs.Header.{header_rules}
 use Rattle.ts_der.specs.Integer.{is_shortest, integer_rules}
-use Rattle.ts_der.specs.Reading.{unless, located, value_at, begins_with, is_end, element_of, behind, next_at, element_at, end_at}
+use Rattle.ts_der.specs.Reading.{unless, located, begins_with, is_end, element_of, behind, next_at, element_at, end_at}
 use Rattle.ts_der.proofs.Laws.{bind_ok, ok_is, element-only}
 use Rattle.ts_name.specs.declared.fault.CertRule.TheVariants.{SubtreeBounds, AddressLength}
 use Rattle.ts_name.specs.declared.fault.CertFault.{CertFault}
 use Rattle.ts_name.specs.Fault.{der, breaks}
 use Rattle.ts_name.specs.Items.{each}
-use Rattle.ts_name.specs.Fields.{Within, IfAny, IsInteger, optional_of}
-use Rattle.ts_name.specs.General.{GeneralName, directoryName, general_of, general_at, has_range_length}
+use Rattle.ts_name.specs.Fields.{IsInteger, optional_of}
+use Rattle.ts_name.specs.General.{GeneralName, general_of, general_at, has_range_length}
 use Rattle.ts_name.specs.GeneralTable.{general_name}
 use Rattle.ts_name.specs.Subtree.{GeneralSubtree, is_zero, is_unbounded, IsDistance, IsSubtree, IsConstraint, minimum_rules, minimum_of, maximum_of, subtree_of, constrained, constraint_of}
 use Rattle.ts_name.specs.SubtreeTable.{minimum, maximum, subtree_fields, general_subtree, input, bounds_fault, address_fault, constraint_fault}

@@ -1,4 +1,5 @@
-//! Distinguished names: their attributes and the canonical form in which two of them are compared (RFC 5280 7.1).
+//! Names: distinguished names with their attributes and the canonical form in which two of them are compared (RFC 5280
+//! 7.1), and general names with their subtrees (4.2.1.6, 4.2.1.10).
 #![tactic(auto)]
 
 mod attribute;
@@ -8,6 +9,8 @@ mod fault;
 mod folded;
 mod general;
 mod general_reading;
+#[cfg(test)]
+mod general_tests;
 pub mod laws;
 mod name;
 mod name_items;
@@ -21,6 +24,8 @@ mod sequence_of;
 mod sequence_tests;
 mod subtree;
 mod subtree_reading;
+#[cfg(test)]
+mod subtree_tests;
 #[cfg(test)]
 mod tests;
 

@@ -1,5 +1,4 @@
-use Rattle.std.proofs.Common.{◌≡◌, refl, ap, sym, ◌∙◌, arith, Result}
-use Rattle.ts_der.specs.Answer.{refusal}
+use Rattle.std.proofs.Common.{◌≡◌, refl, ◌∙◌, arith}
 use Rattle.ts_name.specs.Subtree.{GeneralSubtree, IsConstraint, constraint_of}
 use Rattle.ts_name.specs.SubtreeView.{subtree_in}
 use Rattle.ts_name.proofs.Walks.{IfOk-answers, IsOkAnd-answers}
