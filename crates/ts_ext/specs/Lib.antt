@@ -10,3 +10,4 @@ pub mod AuthorityKey
 pub mod NameConstraints
 pub mod NameViews
 pub mod View
+pub mod Known
