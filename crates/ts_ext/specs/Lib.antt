@@ -11,3 +11,5 @@ pub mod NameConstraints
 pub mod NameViews
 pub mod View
 pub mod Known
+pub mod Ext
+pub mod ExtView

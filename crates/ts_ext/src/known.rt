@@ -2,8 +2,18 @@
 
 ghost use Rattle.std.specs.Prelude.{◌≡◌};
 ghost use Rattle.ts_ext.specs.Known.{arc_of, certificate_extension, list_extension, entry_extension, known_at};
+ghost use Rattle.ts_ext.specs.Ext.{layout_of};
 
+use crate::fields::{INTEGER, SEQUENCE};
 use ts_der::OidRef;
+
+const BIT_STRING: u8 = 0x03;
+
+const OCTET_STRING: u8 = 0x04;
+
+const ENUMERATED: u8 = 0x0A;
+
+const GENERALIZED_TIME: u8 = 0x18;
 
 /// What has extensions.
 #[derive(Clone, Copy, Debug, PartialEq, Eq)]
@@ -115,5 +125,19 @@ impl Known {
         ensures { result ≡ arc_of self }
     {
         self as u8
+    }
+
+    /// The tag of the element that its value is.
+    pub(crate) fn tag(self) -> u8
+        ensures { result ≡ (layout_of self).tag }
+    {
+        match self {
+            Known::SubjectKeyIdentifier => OCTET_STRING,
+            Known::KeyUsage => BIT_STRING,
+            Known::CrlNumber | Known::DeltaCrlIndicator | Known::InhibitAnyPolicy => INTEGER,
+            Known::ReasonCode => ENUMERATED,
+            Known::InvalidityDate => GENERALIZED_TIME,
+            _ => SEQUENCE,
+        }
     }
 }

@@ -3,6 +3,7 @@
 //! value's element and does not look at its tag.
 #![tactic(auto)]
 
+mod alternative_names;
 mod authority_key_identifier;
 mod basic_constraints;
 #[cfg(test)]
@@ -12,6 +13,8 @@ mod certificate_policies;
 mod constraint_tests;
 mod crl_number;
 mod distribution_point;
+mod distribution_points;
+mod ext;
 mod extended_key_usage;
 mod fields;
 mod invalidity_date;
@@ -35,11 +38,14 @@ mod skip_certs;
 #[cfg(test)]
 mod tests;
 
+pub use alternative_names::AlternativeNames;
 pub use authority_key_identifier::AuthorityKeyIdentifier;
 pub use basic_constraints::BasicConstraints;
 pub use certificate_policies::CertificatePolicies;
 pub use crl_number::{BaseCrlNumber, CrlNumber};
 pub use distribution_point::{DistributionPoint, PointName};
+pub use distribution_points::DistributionPoints;
+pub use ext::Ext;
 pub use extended_key_usage::ExtendedKeyUsage;
 pub use invalidity_date::InvalidityDate;
 pub use issuing_distribution_point::IssuingDistributionPoint;
