@@ -13,3 +13,4 @@ pub mod View
 pub mod Known
 pub mod Ext
 pub mod ExtView
+pub mod Rules

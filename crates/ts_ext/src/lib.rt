@@ -34,6 +34,7 @@ mod reason_code;
 mod reason_flag;
 mod reason_flags;
 mod reason_set;
+mod rules;
 mod skip_certs;
 #[cfg(test)]
 mod tests;
