@@ -17,6 +17,7 @@ use Rattle.ts_path.specs.declared.verdict.Verdict.{Verdict}
 use Rattle.ts_path.specs.declared.verdict.Verdict.TheVariants.{Valid, Invalid}
 use Rattle.ts_path.specs.Question.{Question, issuer_of}
 use Rattle.ts_path.specs.Verdict.{IsVerdict}
+use Rattle.ts_path.specs.Printed.{reason_text}
 use Rattle.trustd.specs.declared.answer.CertWords.{CertWords}
 use Rattle.trustd.specs.declared.answer.CheckWords.{CheckWords}
 use Rattle.trustd.specs.declared.script.LineFault.{LineFault}
@@ -64,16 +65,16 @@ IsCertSaid known line text after = (c : CertWords) × (line ≡ cert_line c) × 
 abbrev pub question : Certificate → Certificate → ℤ → Question
 question anchor target moment = record { anchor = issuer_of anchor; chain = target ∷ []; moment = moment; good = stand_in_accepts }
 
--- the text of a verdict: of one that is not valid what it begins with, up to the reason
-abbrev pub IsVerdictText : Verdict → List ℕ → Type 0
-IsVerdictText Valid text = text ≡ codes "check valid -\n"
-IsVerdictText (Invalid position reason) text = (word : List ℕ) × (text ≡ codes "check invalid " ++ (decimal position ++ (codes " " ++ (word ++ codes "\n"))))
+-- the text of a verdict: of one that is not valid the position, and the reason as it is printed
+abbrev pub verdict_text : Verdict → List ℕ
+verdict_text Valid = codes "check valid -\n"
+verdict_text (Invalid position reason) = codes "check invalid " ++ (decimal position ++ (codes " " ++ (reason_text reason ++ codes "\n")))
 
 -- the text is the verdict on the certificate of these octets, under that of others as the anchor
 abbrev pub IsJudged : List ℕ → List ℕ → ℤ → List ℕ → Type 0
 IsJudged anchor target moment text =
     (a : Certificate) × (c : Certificate) × (v : Verdict) × (certificate_of anchor ≡ Ok a) × (certificate_of target ≡ Ok c)
-    × IsVerdict (question a c moment) v × IsVerdictText v text
+    × IsVerdict (question a c moment) v × (text ≡ verdict_text v)
 
 -- a `check` line prints the verdict on the certificate that it names, under the one that it names as the anchor
 abbrev pub IsCheckSaid : List Entry → List ℕ → List ℕ → Type 0

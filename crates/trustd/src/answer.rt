@@ -2,7 +2,7 @@
 
 ghost use Rattle.std.specs.Prelude.{◌≡◌, ◌≢◌, ◌++◌, IfOk, IfErr, IfSome, OnOk, false, string_bytes, codes};
 ghost use Rattle.trustd.specs.Known.{known_in};
-ghost use Rattle.trustd.specs.Says.{cert_line, check_line, IsMade, IsKept, IsVerdictText, IsJudged, IsCertSaid, IsCheckSaid, Answers};
+ghost use Rattle.trustd.specs.Says.{cert_line, check_line, IsMade, IsKept, verdict_text, IsJudged, IsCertSaid, IsCheckSaid, Answers};
 ghost use Rattle.trustd.specs.declared.script.LineFault.TheVariants.{Unknown};
 ghost use Rattle.std.specs.Fmt.{decimal};
 ghost use Rattle.ts_cert.specs.CertView.{cert_in};
@@ -12,7 +12,7 @@ ghost use Rattle.trustd.specs.Words.{IsName};
 use crate::named::{Named, find};
 use crate::script::{COMMENT, LineFault};
 use crate::words::{first_word, is_name, moment_of, number_of, octets_of, pieces, rdns_of, skip};
-use std::alloc::Global;
+use std::alloc::{AllocError, Global};
 use ts_cert::Cert;
 use ts_make::{CertText, MakeFault, make_cert};
 use ts_path::{Anchor, Inputs, Verdict, validate};
@@ -144,16 +144,14 @@ fn read(octets: &[u8]) -> Result<Cert<'_>, LineFault>
 }
 
 /// The text of a verdict.
-fn verdict_text(alloc: Global, verdict: &Verdict<'_>) -> Result<String, LineFault>
-    ensures said { IfOk result (λ text. IsVerdictText verdict.now (string_bytes text)) }
-    ensures fault { IfErr result (λ fault. fault ≢ Unknown) }
+fn print_verdict(alloc: Global, verdict: &Verdict<'_>) -> Result<String, AllocError>
+    ensures { IfOk result (λ text. string_bytes text ≡ verdict_text verdict.now) }
 {
     match verdict {
-        Verdict::Valid => Ok(String::from_str(alloc, "check valid -\n")?),
-        Verdict::Invalid { position, reason } => {
-            let word = format!(in alloc; "{reason}")?;
-            Ok(format!(in alloc; "check invalid {position} {word}\n")?)
-        }
+        Verdict::Valid => String::from_str(alloc, "check valid -\n"),
+        Verdict::Invalid { position, reason } => format!(in alloc;
+            "check invalid {position} {reason}\n"
+        ),
     }
 }
 
@@ -170,7 +168,7 @@ fn judge(alloc: Global, anchor: &[u8], target: &[u8], moment: Moment) -> Result<
         &Inputs { moment },
         &DigestCheck,
     );
-    Ok(verdict_text(alloc, &verdict)?)
+    Ok(print_verdict(alloc, &verdict)?)
 }
 
 /// The words of a `check` line that say something.

@@ -15,5 +15,5 @@ returns-clause-said c =
       c.in_ok-anchor.ensures.exact,
       c.in_ok-target.ensures.exact,
       subst (λ (i : Issuer). IsVerdict (record { anchor = i; chain = target ∷ []; moment = c.args.moment; good = stand_in_accepts }) c.validate-verdict.result) c.of.ensures c.validate-verdict.ensures,
-      c.in_ok-verdict_text.ensures.said,
+      c.in_ok-print_verdict.ensures,
     )
