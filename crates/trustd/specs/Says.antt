@@ -1,11 +1,11 @@
 -- What one line of a script says: the text that answers it and what it makes known, or why it is refused.
-use Rattle.std.specs.Prelude.{◌≡◌, ◌⊎◌, ℕ, ◌==◌, if◌then◌else◌, List, [], ◌∷◌, ◌++◌, map, length, ℤ, Option, Some, None, Result, Ok, Err, codes, true}
+use Rattle.std.specs.Prelude.{◌≡◌, ◌≢◌, ◌⊎◌, ℕ, ◌<◌, ◌==◌, if◌then◌else◌, List, [], ◌∷◌, ◌++◌, length, ℤ, Some, None, option_map, Result, Ok, Err, codes}
+use Rattle.std.specs.List.{AllByRecursion}
 use Rattle.std.specs.Str.{bytes_eq}
 use Rattle.std.specs.Fmt.{decimal}
 use Rattle.std.specs.declared.string.String.{String}
 use Rattle.std.specs.Prelude.{string_bytes}
 use Rattle.std.specs.declared.alloc.Global.{Global}
-use Rattle.hex.specs.Hex.{encode_lower}
 use Rattle.ts_time.specs.Text.{IsGeneral}
 use Rattle.ts_sig.specs.StandIn.{stand_in_accepts}
 use Rattle.ts_cert.specs.Certificate.{Certificate}
@@ -23,27 +23,39 @@ use Rattle.trustd.specs.declared.answer.CheckWords.{CheckWords}
 use Rattle.trustd.specs.declared.script.LineFault.{LineFault}
 use Rattle.trustd.specs.declared.script.LineFault.TheVariants.{Unknown, Form, Name, Limit, Memory}
 use Rattle.trustd.specs.declared.script.TheConstants.{COMMENT}
-use Rattle.trustd.specs.declared.named.Named.{Named}
-use Rattle.trustd.specs.Words.{IsName, word_of}
-use Rattle.trustd.specs.Known.{Entry, known_in, octets_named}
+use Rattle.trustd.specs.Pieces.{pieces_behind}
+use Rattle.trustd.specs.Words.{words_of, first_of, IsName, IsNumber, IsHex, IsDn}
+use Rattle.trustd.specs.Known.{Entry, octets_named}
 
--- a `cert` line of these words
-unfoldable pub cert_line : CertWords → List ℕ
+-- the words of a `cert` line, in their places
+unfoldable pub cert_line : CertWords → List (List ℕ)
 cert_line c =
-    codes "cert " ++ (c.name.now ++ (codes " serial " ++ (c.serial.now ++ (codes " issuer " ++ (c.issuer.now ++ (codes " subject " ++ (c.subject.now
-    ++ (codes " from " ++ (c.from.now ++ (codes " to " ++ (c.to.now ++ (codes " key " ++ (c.key.now ++ (codes " signer " ++ c.signer.now))))))))))))))
+    codes "cert" ∷ c.name.now ∷ codes "serial" ∷ c.serial.now ∷ codes "issuer" ∷ c.issuer.now ∷ codes "subject" ∷ c.subject.now
+    ∷ codes "from" ∷ c.from.now ∷ codes "to" ∷ c.to.now ∷ codes "key" ∷ c.key.now ∷ codes "signer" ∷ c.signer.now ∷ []
 
--- a `check` line of these words
-unfoldable pub check_line : CheckWords → List ℕ
-check_line c = codes "check " ++ (c.anchor.now ++ (codes " at " ++ (c.time.now ++ (codes " chain " ++ (c.target.now ++ c.others.now)))))
+-- the names behind the first one of a chain
+abbrev pub others_of : CheckWords → List (List ℕ)
+others_of c = pieces_behind 32 (option_map (λ rest. rest.now) c.others)
+
+-- the words of a `check` line, in their places
+unfoldable pub check_line : CheckWords → List (List ℕ)
+check_line c = codes "check" ∷ c.anchor.now ∷ codes "at" ∷ c.time.now ∷ codes "chain" ∷ c.target.now ∷ others_of c
 
 -- the words are those of the description
 pub record IsSaid (c : CertWords) (text : CertText) : Type 0 where
-  pub serial : c.serial.now ≡ decimal text.serial
+  pub serial : IsNumber c.serial.now text.serial
+  pub issuer : IsDn c.issuer.now text.issuer.now
+  pub subject : IsDn c.subject.now text.subject.now
   pub not_before : IsGeneral c.from.now text.from
   pub not_after : IsGeneral c.to.now text.to
-  pub key : c.key.now ≡ encode_lower text.key.now
-  pub signer : c.signer.now ≡ encode_lower text.signer.now
+  pub key : IsHex c.key.now text.key.now
+  pub signer : IsHex c.signer.now text.signer.now
+
+-- the line has the form of a `cert` line, and this is its description
+pub record IsCertForm (line : List ℕ) (c : CertWords) (text : CertText) : Type 0 where
+  pub words : words_of line ≡ cert_line c
+  pub name : IsName c.name.now
+  pub said : IsSaid c text
 
 -- the octets are those of the certificate that the words describe
 abbrev pub IsMade : CertWords → List ℕ → Type 0
@@ -58,8 +70,30 @@ IsKept known c text after =
     (octets : List ℕ) × IsMade c octets × (octets_named known c.name.now ≡ None) × (after ≡ known ++ (c.name.now, octets) ∷ [])
     × (text ≡ codes "cert " ++ (c.name.now ++ (codes " " ++ (decimal (length octets) ++ codes "\n"))))
 
+-- the words stand in their places, and the name is one
+abbrev pub IsCertLine : List ℕ → CertWords → Type 0
+IsCertLine line c = (words_of line ≡ cert_line c) × IsName c.name.now
+
+-- a `cert` line prints and makes known what its words say
 abbrev pub IsCertSaid : List Entry → List ℕ → List ℕ → List Entry → Type 0
-IsCertSaid known line text after = (c : CertWords) × (line ≡ cert_line c) × IsName c.name.now × IsKept known c text after
+IsCertSaid known line text after = (c : CertWords) × IsCertLine line c × IsKept known c text after
+
+-- why the words of a `cert` line are refused: they describe nothing; they do, but the name is taken; it is not, but the
+-- certificate would be too long
+abbrev pub RefusesWords : List Entry → CertWords → LineFault → Type 0
+RefusesWords known c Form = (text : CertText) → ¬ (IsSaid c text)
+RefusesWords known c Name = (text : CertText) × IsSaid c text × (octets_named known c.name.now ≢ None)
+RefusesWords known c Limit = (octets : List ℕ) × IsMade c octets × (octets_named known c.name.now ≡ None) × (65536 < length octets)
+RefusesWords known c Memory = Unit {0}
+RefusesWords known c Unknown = ⊥
+
+-- why a `cert` line is: it has no words in their places that describe a certificate; it has, but they are refused
+abbrev pub RefusesCert : List Entry → List ℕ → LineFault → Type 0
+RefusesCert known line Form = (c : CertWords) → IsCertLine line c → RefusesWords known c Form
+RefusesCert known line Name = (c : CertWords) × IsCertLine line c × RefusesWords known c Name
+RefusesCert known line Limit = (c : CertWords) × IsCertLine line c × RefusesWords known c Limit
+RefusesCert known line Memory = Unit {0}
+RefusesCert known line Unknown = ⊥
 
 -- what is asked of a chain of one certificate, whose signature is checked by the stand-in
 abbrev pub question : Certificate → Certificate → ℤ → Question
@@ -76,13 +110,36 @@ IsJudged anchor target moment text =
     (a : Certificate) × (c : Certificate) × (v : Verdict) × (certificate_of anchor ≡ Ok a) × (certificate_of target ≡ Ok c)
     × IsVerdict (question a c moment) v × (text ≡ verdict_text v)
 
+-- the names of a `check` line: the anchor, the certificate, and those behind it
+abbrev pub names_of : CheckWords → List (List ℕ)
+names_of c = c.anchor.now ∷ c.target.now ∷ others_of c
+
+-- the words stand in their places, the names are such, and the time is a GeneralizedTime of this moment
+pub record IsCheckLine (line : List ℕ) (c : CheckWords) (moment : ℤ) : Type 0 where
+  pub words : words_of line ≡ check_line c
+  pub names : AllByRecursion IsName (names_of c)
+  pub time : IsGeneral c.time.now moment
+
+-- each name has a certificate
+abbrev pub AreKnown : List Entry → List (List ℕ) → Type 0
+AreKnown known names = AllByRecursion (λ name. octets_named known name ≢ None) names
+
 -- a `check` line prints the verdict on the certificate that it names, under the one that it names as the anchor
 abbrev pub IsCheckSaid : List Entry → List ℕ → List ℕ → Type 0
 IsCheckSaid known line text =
     (c : CheckWords) × (moment : ℤ) × (anchor : List ℕ) × (target : List ℕ)
-    × (line ≡ check_line c) × (c.others.now ≡ []) × IsGeneral c.time.now moment
+    × IsCheckLine line c moment × (others_of c ≡ [])
     × (octets_named known c.anchor.now ≡ Some anchor) × (octets_named known c.target.now ≡ Some target)
     × IsJudged anchor target moment text
+
+-- why a `check` line is refused: it has no words in their places; it has, but a name has no certificate; each has one, but
+-- there is more than one name behind `chain`
+abbrev pub RefusesCheck : List Entry → List ℕ → LineFault → Type 0
+RefusesCheck known line Form = (c : CheckWords) (moment : ℤ) → ¬ (IsCheckLine line c moment)
+RefusesCheck known line Name = (c : CheckWords) × (moment : ℤ) × IsCheckLine line c moment × ¬ (AreKnown known (names_of c))
+RefusesCheck known line Limit = (c : CheckWords) × (moment : ℤ) × IsCheckLine line c moment × AreKnown known (names_of c) × (others_of c ≢ [])
+RefusesCheck known line Memory = Unit {0}
+RefusesCheck known line Unknown = ⊥
 
 -- what a line is by its first word
 pub data Kind : Type 0 where
@@ -98,7 +155,7 @@ kind_of_word word =
 -- empty lines and comments are skipped
 abbrev pub kind_of : List ℕ → Kind
 kind_of [] = skipped
-kind_of (x ∷ xs) = if x == COMMENT then skipped else kind_of_word (word_of (x ∷ xs))
+kind_of (x ∷ xs) = if x == COMMENT then skipped else kind_of_word (first_of (words_of (x ∷ xs)))
 
 -- a line of a kind is answered with the text, and the certificates that are known after it are these
 abbrev pub SaysAs : Kind → List Entry → List ℕ → List ℕ → List Entry → Type 0
@@ -107,21 +164,20 @@ SaysAs cert_kind known line text after = IsCertSaid known line text after
 SaysAs check_kind known line text after = IsCheckSaid known line text × (after ≡ known)
 SaysAs unknown_kind known line text after = ⊥
 
--- a line of a kind may be refused with the fault: a skipped one for want of memory alone
-abbrev pub RefusesAs : LineFault → Kind → Type 0
-RefusesAs Memory kind = Unit {0}
-RefusesAs Unknown kind = kind ≡ unknown_kind
-RefusesAs Form kind = (kind ≡ cert_kind) ⊎ (kind ≡ check_kind)
-RefusesAs Name kind = (kind ≡ cert_kind) ⊎ (kind ≡ check_kind)
-RefusesAs Limit kind = (kind ≡ cert_kind) ⊎ (kind ≡ check_kind)
+-- a line of a kind is refused with the fault: each for want of memory, and a skipped one for nothing else
+abbrev pub RefusesAs : Kind → List Entry → List ℕ → LineFault → Type 0
+RefusesAs skipped known line fault = fault ≡ Memory
+RefusesAs cert_kind known line fault = RefusesCert known line fault
+RefusesAs check_kind known line fault = RefusesCheck known line fault
+RefusesAs unknown_kind known line fault = (fault ≡ Unknown) ⊎ (fault ≡ Memory)
 
 abbrev pub Says : List Entry → List ℕ → List ℕ → List Entry → Type 0
 Says known line text after = SaysAs (kind_of line) known line text after
 
-abbrev pub Refuses : List ℕ → LineFault → Type 0
-Refuses line fault = RefusesAs fault (kind_of line)
+abbrev pub Refuses : List Entry → List ℕ → LineFault → Type 0
+Refuses known line fault = RefusesAs (kind_of line) known line fault
 
 -- what answering a line returned
 abbrev pub Answers : List Entry → List ℕ → Result (String Global) LineFault → List Entry → Type 0
 Answers known line (Ok text) after = Says known line (string_bytes text) after
-Answers known line (Err fault) after = Refuses line fault
+Answers known line (Err fault) after = Refuses known line fault
