@@ -10,7 +10,9 @@ use Rattle.trustd.specs.declared.script.LineFault.{LineFault}
 use Rattle.trustd.specs.declared.script.LineFault.TheVariants.{Unknown, Form, Name, Limit, Memory}
 use Rattle.trustd.specs.Words.{IsName, IsNumber, IsHex, IsDn}
 use Rattle.trustd.specs.Known.{Entry}
-use Rattle.trustd.specs.Says.{cert_line, check_line, IsSaid, IsCertLine, RefusesWords, RefusesCert, IsCheckSaid, RefusesCheck, Answers, check_kind, kind_of, names_of}
+use Rattle.trustd.specs.CertLine.{cert_line, IsSaid, IsCertLine, RefusesWords, RefusesCert}
+use Rattle.trustd.specs.CheckLine.{check_line, IsCheckSaid, RefusesCheck, names_of}
+use Rattle.trustd.specs.Says.{Answers, check_kind, kind_of}
 
 -- two lists of words in the places of a `cert` line say the same
 pub said_again : (v w : CertWords) (text : CertText) → cert_line v ≡ cert_line w → IsSaid v text → IsSaid w text

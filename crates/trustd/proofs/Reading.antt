@@ -7,7 +7,9 @@ use Rattle.trustd.specs.declared.script.TheConstants.{LINE_FEED}
 use Rattle.trustd.specs.declared.scanner.Scanner.{Scanner}
 use Rattle.trustd.specs.Pieces.{onto_first, all_onto_first}
 use Rattle.trustd.specs.Known.{Entry}
-use Rattle.trustd.specs.Says.{Says, Refuses, RefusesAs, RefusesCert, RefusesCheck, Kind, skipped, cert_kind, check_kind, unknown_kind, kind_of}
+use Rattle.trustd.specs.CertLine.{RefusesCert}
+use Rattle.trustd.specs.CheckLine.{RefusesCheck}
+use Rattle.trustd.specs.Says.{Says, Refuses, RefusesAs, Kind, skipped, cert_kind, check_kind, unknown_kind, kind_of}
 use Rattle.trustd.specs.declared.script.LineFault.{LineFault}
 use Rattle.trustd.specs.Script.{lines_of, Run}
 use Rattle.trustd.specs.declared.scanner.Stop.{Stop}

@@ -1,6 +1,6 @@
 //! What a line is answered.
 
-ghost use Rattle.std.specs.Prelude.{◌≡◌, ◌≢◌, ◌++◌, ◌↔◌, ℤ, IfOk, IfErr, IsTrue, MatchOption, OnOk, is_ok, option_map, true, string_bytes, codes};
+ghost use Rattle.std.specs.Prelude.{◌≡◌, ◌≢◌, ◌++◌, ◌↔◌, ◌≤◌, ℤ, length, IfOk, IfErr, IsTrue, MatchOption, OnOk, is_ok, option_map, true, string_bytes, codes};
 ghost use Rattle.std.specs.Fmt.{decimal};
 ghost use Rattle.std.specs.List.{AllByRecursion};
 ghost use Rattle.ts_cert.specs.Reading.{certificate_of};
@@ -8,7 +8,9 @@ ghost use Rattle.trustd.specs.declared.script.LineFault.TheVariants.{Memory};
 ghost use Rattle.trustd.specs.Pieces.{pieces_behind};
 ghost use Rattle.trustd.specs.Words.{IsName, words_of};
 ghost use Rattle.trustd.specs.Known.{known_in, octets_named};
-ghost use Rattle.trustd.specs.Says.{check_line, IsCertLine, IsMade, IsKept, RefusesWords, IsCertSaid, RefusesCert, verdict_text, IsJudged, names_of, IsCheckLine, AreKnown, IsCheckSaid, RefusesCheck, Answers};
+ghost use Rattle.trustd.specs.CertLine.{IsCertLine, IsMade, IsKept, RefusesWords, IsCertSaid, RefusesCert};
+ghost use Rattle.trustd.specs.CheckLine.{check_line, verdict_text, IsJudged, names_of, IsCheckLine, AreKnown, IsCheckSaid, RefusesCheck};
+ghost use Rattle.trustd.specs.Says.{Answers};
 
 use crate::named::Named;
 use crate::script::{COMMENT, LineFault};
@@ -36,7 +38,7 @@ pub struct CertWords<'a> {
 
 impl<'a> CertWords<'a> {
     /// Those of a line.
-    #[tactic(auto, unfolding(crate::specs::Says::cert_line))]
+    #[tactic(auto, unfolding(crate::specs::CertLine::cert_line))]
     fn of(line: &'a [u8]) -> Option<CertWords<'a>>
         ensures { MatchOption result ((c : CertWords) → ¬ (IsCertLine line.now c)) (IsCertLine line.now) }
     {
@@ -66,6 +68,7 @@ impl<'a> CertWords<'a> {
     /// The octets of the certificate that the words say, unless its name is taken.
     fn make(&self, alloc: Global, known: &[Named]) -> Result<Vec<u8>, LineFault>
         ensures made { IfOk result (λ octets. IsMade self.now octets.items) }
+        ensures short { IfOk result (λ octets. length octets.items ≤ 65536) }
         ensures reads { IfOk result (λ octets. is_ok (certificate_of octets.items) ≡ true) }
         ensures free { OnOk result (octets_named (known_in known.now) self.now.name.now ≡ None) }
         ensures fault { IfErr result (RefusesWords (known_in known.now) self.now) }
@@ -175,7 +178,7 @@ pub struct CheckWords<'a> {
 
 impl<'a> CheckWords<'a> {
     /// Those of a line.
-    #[tactic(auto, unfolding(crate::specs::Says::check_line))]
+    #[tactic(auto, unfolding(crate::specs::CheckLine::check_line))]
     fn of(line: &'a [u8]) -> Option<CheckWords<'a>>
         ensures { MatchOption result ((c : CheckWords) → words_of line.now ≢ check_line c) (λ c. words_of line.now ≡ check_line c) }
     {

@@ -2,7 +2,7 @@
 use Rattle.std.proofs.lemmas.Result.{IfErr-weaker}
 use Rattle.trustd.specs.Known.{known_in}
 use Rattle.trustd.specs.Words.{IsName}
-use Rattle.trustd.specs.Says.{RefusesWords, RefusesCert}
+use Rattle.trustd.specs.CertLine.{RefusesWords, RefusesCert}
 use Rattle.trustd.proofs.Answering.{words_refused}
 use Rattle.trustd.proofs.answer.answer_cert.Goals as goal
 

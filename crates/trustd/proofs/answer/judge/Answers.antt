@@ -5,7 +5,7 @@ use Rattle.ts_sig.specs.StandIn.{stand_in_accepts}
 use Rattle.ts_cert.specs.CertView.{cert_in}
 use Rattle.ts_path.specs.Question.{Issuer}
 use Rattle.ts_path.specs.Verdict.{IsVerdict}
-use Rattle.trustd.specs.Says.{verdict_text, IsJudged}
+use Rattle.trustd.specs.CheckLine.{verdict_text, IsJudged}
 use Rattle.trustd.proofs.answer.judge.Goals as goal
 
 pub returns : goal.returns

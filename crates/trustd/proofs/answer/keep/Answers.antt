@@ -2,7 +2,7 @@
 use Rattle.std.proofs.Common.{subst, sym}
 use Rattle.std.proofs.lemmas.Result.{err_from_is_err_and}
 use Rattle.trustd.specs.Known.{known_in}
-use Rattle.trustd.specs.Says.{RefusesWords}
+use Rattle.trustd.specs.CertLine.{RefusesWords}
 use Rattle.trustd.proofs.answer.keep.Goals as goal
 
 pub returns-in_err-octets-clause-fault : goal.returns-in_err-octets-clause-fault

@@ -2,7 +2,7 @@
 use Rattle.std.proofs.Common.{◌≡◌, ◌∷◌, ◌∙◌, [], List, ℕ, codes, sym, subst, true, arith}
 use Rattle.trustd.specs.declared.answer.CertWords.{CertWords}
 use Rattle.trustd.specs.Words.{IsName}
-use Rattle.trustd.specs.Says.{cert_line}
+use Rattle.trustd.specs.CertLine.{cert_line}
 use Rattle.trustd.proofs.Cutting.{behind_two, second_word, behind_some}
 use Rattle.trustd.proofs.answer.CertWords.of.Goals as goal
 use Rattle.trustd.proofs.answer.CertWords.of.Goals.{then-is_some-via-then-is_some, then-is_some-via-else-is_some+then-not-is_name}
