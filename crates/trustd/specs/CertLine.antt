@@ -37,7 +37,8 @@ IsMade c octets =
 -- by its name from then on; before, nothing was
 abbrev pub IsKept : List Entry → CertWords → List ℕ → List Entry → Type 0
 IsKept known c text after =
-    (octets : List ℕ) × IsMade c octets × (length octets ≤ 65536) × (octets_named known c.name.now ≡ None) × (after ≡ known ++ (c.name.now, octets) ∷ [])
+    (octets : List ℕ) × IsMade c octets × (length octets ≤ 65536) × (octets_named known c.name.now ≡ None)
+    × (after ≡ known ++ (c.name.now, octets) ∷ [])
     × (text ≡ codes "cert " ++ (c.name.now ++ (codes " " ++ (decimal (length octets) ++ codes "\n"))))
 
 -- the words stand in their places, and the name is one

@@ -97,6 +97,7 @@ impl<'a> CertWords<'a> {
             Ok(octets) => Ok(octets),
             Err(MakeFault::Memory) => Err(LineFault::Memory),
             Err(MakeFault::TooLong) => Err(LineFault::Limit),
+            // Not reached: a certificate can say the moment of each GeneralizedTime.
             Err(MakeFault::Unreadable(_)) => Err(LineFault::Form),
         }
     }
@@ -132,6 +133,7 @@ fn cert_text(alloc: Global, name: &[u8], count: usize) -> Result<String, LineFau
 {
     match str::from_utf8(name) {
         Ok(name) => Ok(format!(in alloc; "cert {name} {count}\n")?),
+        // Not reached for a name, which is ASCII.
         Err(_) => Err(LineFault::Form),
     }
 }
