@@ -1,5 +1,5 @@
 -- The rules of the values of extensions beside those of DER, in the order in which they count.
-use Rattle.std.specs.Prelude.{ℕ, Bool, true, false, not, ◌&&◌, List, [], ◌∷◌, Option, Some, None, if◌then◌else◌}
+use Rattle.std.specs.Prelude.{ℕ, suc, nat_lt, Bool, true, false, not, ◌&&◌, List, [], ◌∷◌, Option, Some, None, if◌then◌else◌}
 use Rattle.std.specs.List.{list_all}
 use Rattle.std.specs.Str.{bytes_eq}
 use Rattle.ts_name.specs.declared.fault.CertRule.{CertRule}
@@ -45,10 +45,14 @@ has_address_lengths (freshestCRL points) = list_all has_addresses points
 has_address_lengths (authorityKeyIdentifier a) = all_of has_address_length a.authorityCertIssuer
 has_address_lengths other = true
 
+-- how often a policy is stated
+abbrev pub times_stated : List ℕ → List Information → ℕ
+times_stated policy [] = 0
+times_stated policy (p ∷ policies) = if bytes_eq p.policyIdentifier policy then suc (times_stated policy policies) else times_stated policy policies
+
 -- no policy is stated twice (4.2.1.4)
 abbrev pub are_distinct : List Information → Bool
-are_distinct [] = true
-are_distinct (p ∷ policies) = list_all (λ q. not (bytes_eq q.policyIdentifier p.policyIdentifier)) policies && are_distinct policies
+are_distinct policies = list_all (λ p. not (nat_lt 1 (times_stated p.policyIdentifier policies))) policies
 
 abbrev pub states_policies_once : ExtValue → Bool
 states_policies_once (certificatePolicies policies) = are_distinct policies

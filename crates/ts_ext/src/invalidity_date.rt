@@ -16,7 +16,8 @@ use ts_time::{Moment, read_general};
 /// Since when a key was known or believed to be compromised, or a certificate otherwise invalid (RFC 5280 5.3.2).
 #[derive(Clone, Copy, Debug, PartialEq, Eq)]
 pub struct InvalidityDate {
-    pub moment: Moment,
+    /// The seconds of the moment: a type that contracts see as a number can't be copied beside a reference.
+    seconds: i64,
 }
 
 impl InvalidityDate {
@@ -26,20 +27,26 @@ impl InvalidityDate {
     ///
     /// `TimeForm` where the content has another form, or there is no such time.
     pub fn read(element: Element<'_>) -> Result<InvalidityDate, Fault>
-        ensures found { IfOk result (λ d. IsInvalidityDate element.entry.content.now d.moment) }
-        ensures only { (m : ℤ) → IsInvalidityDate element.entry.content.now m → result ≡ Ok (record { moment = m }) }
+        ensures found { IfOk result (λ d. IsInvalidityDate element.entry.content.now d.seconds) }
+        ensures only { (m : ℤ) → IsInvalidityDate element.entry.content.now m → result ≡ Ok (record { seconds = m }) }
         ensures fault { option_map about (refusal result) ≡ inner_fault plain invalidity_date_rules (now element.entry) }
-        ensures exact { Answers (λ d. d.moment) result (invalidity_date_of (now element.entry)) }
+        ensures exact { Answers (λ d. d.seconds) result (invalidity_date_of (now element.entry)) }
     {
         read_invalidity_date(element)
+    }
+
+    /// The date, to the second.
+    pub fn moment(self) -> Moment
+        ensures { result ≡ self.seconds }
+    {
+        Moment(self.seconds)
     }
 }
 
 #[tactic(auto, unfolding(crate::specs::Reading::invalidity_date_of))]
 fn read_invalidity_date(element: Element<'_>) -> Result<InvalidityDate, Fault>
-    ensures { Answers (λ d. d.moment) result (invalidity_date_of (now element.entry)) }
+    ensures { Answers (λ d. d.seconds) result (invalidity_date_of (now element.entry)) }
 {
-    Ok(InvalidityDate {
-        moment: element.located(read_general(element.content))?,
-    })
+    let Moment(seconds) = element.located(read_general(element.content))?;
+    Ok(InvalidityDate { seconds })
 }

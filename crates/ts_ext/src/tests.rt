@@ -120,7 +120,7 @@ fn reasons_have_ten_numbers(rt: HostRuntime) -> Result<(), Fail> {
 #[test]
 fn dates_name_seconds(rt: HostRuntime) -> Result<(), Fail> {
     let new_year = value(b"\x04\x11\x18\x0f20260101000000Z")?;
-    assert_eq!(rt; InvalidityDate::read(new_year)?.moment.0, 1_767_225_600);
+    assert_eq!(rt; InvalidityDate::read(new_year)?.moment().0, 1_767_225_600);
     let no_day = value(b"\x04\x11\x18\x0f20260230000000Z")?;
     assert_eq!(rt;
         refusal(InvalidityDate::read(no_day)),
