@@ -1,5 +1,12 @@
 pub mod Inner
 pub mod Spelling
 pub mod NamedBits
+pub mod Policies
 pub mod Reading
 pub mod Table
+pub mod GeneralNames
+pub mod Points
+pub mod AuthorityKey
+pub mod NameConstraints
+pub mod NameViews
+pub mod View

@@ -3,13 +3,15 @@ use Rattle.std.specs.Prelude.{◌≡◌, ℕ, ◌<◌, ◌^◌, Bool, true, fals
 use Rattle.ts_der.specs.Element.{number, spell}
 use Rattle.ts_der.specs.Boolean.{boolean_content}
 use Rattle.ts_der.specs.Integer.{is_shortest, is_negative}
-use Rattle.ts_name.specs.Fields.{IfAny, IsInteger}
+use Rattle.ts_name.specs.Fields.{Within, IfAny, IsAny, IsOid, IsInteger}
+use Rattle.ts_name.specs.Items.{AreSome}
 use Rattle.ts_time.specs.Text.{IsGeneral}
 use Rattle.ts_ext.specs.declared.reason_code.ReasonCode.{ReasonCode}
 use Rattle.ts_ext.specs.declared.reason_code.ReasonCode.TheVariants.{Unspecified, KeyCompromise, CaCompromise, AffiliationChanged, Superseded, CessationOfOperation, CertificateHold, RemoveFromCrl, PrivilegeWithdrawn, AaCompromise}
 use Rattle.ts_ext.specs.declared.basic_constraints.BasicConstraints.{BasicConstraints}
 use Rattle.ts_ext.specs.declared.policy_constraints.PolicyConstraints.{PolicyConstraints}
 use Rattle.ts_ext.specs.NamedBits.{IsNamedBits}
+use Rattle.ts_ext.specs.Policies.{Qualifier, Information, Mapping}
 
 -- ---- numbers
 
@@ -93,3 +95,44 @@ pub record IsPolicyConstraints (content : List ℕ) (p : PolicyConstraints) : Ty
   pub requireExplicitPolicy : IfAny 0x80 IsSkipCerts explicit p.require_explicit_policy
   pub inhibitPolicyMapping : IfAny 0x81 IsSkipCerts mapping p.inhibit_policy_mapping
   pub fields : content ≡ explicit ++ mapping
+
+-- ---- lists
+
+-- PolicyQualifierInfo ::= SEQUENCE { policyQualifierId OBJECT IDENTIFIER, qualifier ANY DEFINED BY policyQualifierId } (4.2.1.4)
+pub record IsPolicyQualifier (content : List ℕ) (q : Qualifier) : Type 0 where
+  pub id : List ℕ
+  pub policyQualifierId : Within 0x06 IsOid id q.policyQualifierId
+  pub qualifier : IsAny q.qualifier
+  pub fields : content ≡ id ++ q.qualifier
+
+-- SEQUENCE SIZE (1..MAX) OF PolicyQualifierInfo (4.2.1.4)
+abbrev pub ArePolicyQualifiers : List ℕ → List Qualifier → Type 0
+ArePolicyQualifiers = AreSome (Within 0x30 IsPolicyQualifier)
+
+-- PolicyInformation ::= SEQUENCE { policyIdentifier OBJECT IDENTIFIER, policyQualifiers OPTIONAL } (4.2.1.4)
+pub record IsPolicyInformation (content : List ℕ) (p : Information) : Type 0 where
+  pub id : List ℕ
+  pub qualifiers : List ℕ
+  pub policyIdentifier : Within 0x06 IsOid id p.policyIdentifier
+  pub policyQualifiers : IfAny 0x30 ArePolicyQualifiers qualifiers p.policyQualifiers
+  pub fields : content ≡ id ++ qualifiers
+
+-- CertificatePolicies ::= SEQUENCE SIZE (1..MAX) OF PolicyInformation (4.2.1.4)
+abbrev pub AreCertificatePolicies : List ℕ → List Information → Type 0
+AreCertificatePolicies = AreSome (Within 0x30 IsPolicyInformation)
+
+-- SEQUENCE { issuerDomainPolicy OBJECT IDENTIFIER, subjectDomainPolicy OBJECT IDENTIFIER } (4.2.1.5)
+pub record IsPolicyMapping (content : List ℕ) (m : Mapping) : Type 0 where
+  pub issuer : List ℕ
+  pub subject : List ℕ
+  pub issuerDomainPolicy : Within 0x06 IsOid issuer m.issuerDomainPolicy
+  pub subjectDomainPolicy : Within 0x06 IsOid subject m.subjectDomainPolicy
+  pub fields : content ≡ issuer ++ subject
+
+-- PolicyMappings ::= SEQUENCE SIZE (1..MAX) OF (4.2.1.5)
+abbrev pub ArePolicyMappings : List ℕ → List Mapping → Type 0
+ArePolicyMappings = AreSome (Within 0x30 IsPolicyMapping)
+
+-- ExtKeyUsageSyntax ::= SEQUENCE SIZE (1..MAX) OF KeyPurposeId, KeyPurposeId ::= OBJECT IDENTIFIER (4.2.1.12)
+abbrev pub AreKeyPurposes : List ℕ → List (List ℕ) → Type 0
+AreKeyPurposes = AreSome (Within 0x06 IsOid)

@@ -8,7 +8,9 @@ use Rattle.ts_der.specs.Boolean.{boolean_rules, boolean_value}
 use Rattle.ts_der.specs.BitString.{named_bits_rules}
 use Rattle.ts_time.specs.Reading.{general_in}
 use Rattle.ts_name.specs.declared.fault.CertRule.TheVariants.{Der}
-use Rattle.ts_name.specs.Shape.{ContentRules, Row, optional, Shape, nothing, ◌then◌, ◌or_else◌, der_rules, one_rule, primitive}
+use Rattle.ts_name.specs.Names.{some_rules}
+use Rattle.ts_name.specs.Shape.{ContentRules, Row, tagged, no_other, any, optional, Shape, items, nothing, ◌then◌, ◌or_else◌, der_rules, one_rule, primitive, sequence}
+use Rattle.ts_name.specs.Rows.{object_identifier}
 use Rattle.ts_ext.specs.declared.reason_code.ReasonCode.{ReasonCode}
 use Rattle.ts_ext.specs.declared.reason_code.ReasonCode.TheVariants.{Unspecified, KeyCompromise, CaCompromise, AffiliationChanged, Superseded, CessationOfOperation, CertificateHold, RemoveFromCrl, PrivilegeWithdrawn, AaCompromise}
 use Rattle.ts_ext.specs.Spelling.{reason_number}
@@ -87,3 +89,37 @@ basic_constraints_fields = optional (flag 0x01) then optional (primitive 0x02 sm
 -- PolicyConstraints ::= SEQUENCE { requireExplicitPolicy [0] SkipCerts OPTIONAL, inhibitPolicyMapping [1] SkipCerts OPTIONAL } (4.2.1.11)
 abbrev pub policy_constraints_fields : Shape
 policy_constraints_fields = optional (primitive 0x80 skip_certs_rules) then optional (primitive 0x81 skip_certs_rules) then nothing
+
+-- ---- lists
+
+-- SIZE (1..MAX)
+abbrev pub list_rules : ContentRules
+list_rules = der_rules some_rules
+
+-- PolicyQualifierInfo ::= SEQUENCE { policyQualifierId OBJECT IDENTIFIER, qualifier ANY DEFINED BY policyQualifierId } (4.2.1.4)
+abbrev pub policy_qualifier_info : Row
+policy_qualifier_info = sequence (object_identifier then any then nothing)
+
+-- SEQUENCE SIZE (1..MAX) OF PolicyQualifierInfo (4.2.1.4)
+abbrev pub policy_qualifiers : Row
+policy_qualifiers = tagged 0x30 (items policy_qualifier_info) list_rules no_other
+
+-- PolicyInformation ::= SEQUENCE { policyIdentifier OBJECT IDENTIFIER, policyQualifiers OPTIONAL } (4.2.1.4)
+abbrev pub policy_information : Row
+policy_information = sequence (object_identifier then optional policy_qualifiers then nothing)
+
+-- CertificatePolicies ::= SEQUENCE SIZE (1..MAX) OF PolicyInformation (4.2.1.4)
+abbrev pub certificate_policies : Shape
+certificate_policies = items policy_information
+
+-- SEQUENCE { issuerDomainPolicy OBJECT IDENTIFIER, subjectDomainPolicy OBJECT IDENTIFIER } (4.2.1.5)
+abbrev pub policy_mapping : Row
+policy_mapping = sequence (object_identifier then object_identifier then nothing)
+
+-- PolicyMappings ::= SEQUENCE SIZE (1..MAX) OF (4.2.1.5)
+abbrev pub policy_mappings : Shape
+policy_mappings = items policy_mapping
+
+-- ExtKeyUsageSyntax ::= SEQUENCE SIZE (1..MAX) OF KeyPurposeId, KeyPurposeId ::= OBJECT IDENTIFIER (4.2.1.12)
+abbrev pub ext_key_usage : Shape
+ext_key_usage = items object_identifier

@@ -3,24 +3,52 @@
 //! value's element and does not look at its tag.
 #![tactic(auto)]
 
+mod authority_key_identifier;
 mod basic_constraints;
+#[cfg(test)]
+mod bit_tests;
+mod certificate_policies;
+#[cfg(test)]
+mod constraint_tests;
 mod crl_number;
+mod distribution_point;
+mod extended_key_usage;
 mod fields;
 mod invalidity_date;
+mod issuing_distribution_point;
 mod key_usage;
+mod name_constraints;
 mod named_bits;
 mod policy_constraints;
+mod policy_information;
+mod policy_mapping;
+mod policy_mappings;
+mod policy_qualifier;
+#[cfg(test)]
+mod policy_tests;
 mod reason_code;
 mod reason_flag;
 mod reason_flags;
 mod reason_set;
 mod skip_certs;
+#[cfg(test)]
+mod tests;
 
+pub use authority_key_identifier::AuthorityKeyIdentifier;
 pub use basic_constraints::BasicConstraints;
+pub use certificate_policies::CertificatePolicies;
 pub use crl_number::{BaseCrlNumber, CrlNumber};
+pub use distribution_point::{DistributionPoint, PointName};
+pub use extended_key_usage::ExtendedKeyUsage;
 pub use invalidity_date::InvalidityDate;
+pub use issuing_distribution_point::IssuingDistributionPoint;
 pub use key_usage::KeyUsage;
+pub use name_constraints::NameConstraints;
 pub use policy_constraints::PolicyConstraints;
+pub use policy_information::PolicyInformation;
+pub use policy_mapping::PolicyMapping;
+pub use policy_mappings::PolicyMappings;
+pub use policy_qualifier::PolicyQualifier;
 pub use reason_code::ReasonCode;
 pub use reason_flag::ReasonFlag;
 pub use reason_flags::ReasonFlags;

@@ -28,6 +28,7 @@ use Rattle.ts_name.specs.Rows.{name}
 use Rattle.ts_name.specs.Shape.{Shape, ContentRules, nothing, plain, ◌then◌, ◌or_else◌, row_fault, judge, der_rules, no_rules}
 use Rattle.ts_name.proofs.Shapes.{end-ok, end-again}
 use Rattle.ts_name.proofs.Parts.{Part, took}
+use Rattle.ts_name.proofs.ItemParts.{choice-found, choice-judged, form-part}
 use Rattle.ts_name.proofs.FieldParts.{name-part}
 use Rattle.ts_name.proofs.Judging.{Judged, no_more, under, then-judged, ends, Whatever, Reads, next-reads, name-reads}
 
@@ -51,15 +52,6 @@ directory-again e rdns is =
     rw (n, d) refl
 
 -- ---- what is read is spelled so
-
--- an element of this tag, or what is read of others
-choice-found : {A : Type 0} (tag : ℕ) (e : Tlv) (value other : Result A Fault) (P : A → Type 0)
-    → (e.tag ≡ tag → (x : A) → value ≡ Ok x → P x) → ((x : A) → other ≡ Ok x → P x) → (x : A) → cond (eqb e.tag tag) value other ≡ Ok x → P x
-choice-found {A} tag e value other P f g x read = by_tag (eqb e.tag tag) refl read
-  where
-    by_tag : (b : Bool) → eqb e.tag tag ≡ b → cond b value other ≡ Ok x → P x
-    by_tag true t read = f (eqb-true e.tag tag t) x read
-    by_tag false t read = g x read
 
 -- octets that a form keeps as they are
 kept-found : (form : List ℕ → GeneralName) (content : List ℕ) (P : GeneralName → Type 0) → P (form content) → (x : GeneralName) → (let r : Result GeneralName Fault = Ok (form content) in r ≡ Ok x) → P x
@@ -119,38 +111,10 @@ general-again e (uniformResourceIdentifier o) is = rw (is.0, is.1.0, is.1.1) ref
 general-again e (iPAddress o) is = rw is.0 (ap (λ (c : List ℕ). Ok (iPAddress c)) is.1)
 general-again e (registeredID o) is = rw (is.0, is.1.0, is.1.1) refl
 
-general_at-found : (here : Place) (x : GeneralName) (after : Place) → AreOctets here.rest → general_at here ≡ Ok (x, after) → (w : List ℕ) × IsGeneralName w x × (here.rest ≡ w ++ after.rest)
-unfolding each
-general_at-found here x after fits read =
-    let n = bind_ok (next_at here) (λ e. general_of e.0 >>= λ g. Ok (g, e.1)) (x, after) read in
-    let g = bind_ok (general_of n.0.0) (λ g. Ok (g, n.0.1)) (x, after) n.2 in
-    let same : (g.0, n.0.1) ≡ (x, after) = ok_is {A = GeneralName × Place} {E = Fault} (g.0, n.0.1) (x, after) g.2 in
-    let s = next-found here n.0.0 n.0.1 fits n.1 in
-    let inner : AreOctets n.0.0.content = AreOctets-part n.0.0.tag n.0.0.content n.0.1.rest (subst AreOctets (s.whole ∙ ap (λ (w : List ℕ). w ++ n.0.1.rest) s.spelled) fits) in
-    let is : IsGeneralName n.0.0.whole g.0 = record { tag = n.0.0.tag; content = n.0.0.content; fits = s.fits; spelled = s.spelled; form = general-found n.0.0 g.0 inner g.1 } in
-    subst (λ (p : GeneralName × Place). (w : List ℕ) × IsGeneralName w p.0 × (here.rest ≡ w ++ p.1.rest)) same (n.0.0.whole, is, s.whole)
-
-general_at-again : (here : Place) (x : GeneralName) (w rest : List ℕ) → IsGeneralName w x → here.rest ≡ w ++ rest → general_at here ≡ Ok (x, record { rest = rest; at = here.at + length w })
-unfolding each
-general_at-again here x w rest is e =
-    let one = next-only here is.tag is.content rest is.fits (e ∙ ap (λ (o : List ℕ). o ++ rest) is.spelled) in
-    let read = general-again (spelled_at here.at is.tag is.content) x is.form in
-    rw (one, read) (ap (λ (o : List ℕ). Ok (x, record { rest = rest; at = here.at + length o })) (sym is.spelled))
-
 pub general-part : Part general_at IsGeneralName
-general-part = record { found = general_at-found; again = general_at-again }
+general-part = form-part general_of IsForm general-found general-again
 
 -- ---- the first rule that is broken
-
--- a row of one tag, or what the next row says
-choice-judged : (tag : ℕ) (shape : Shape) (rules : ContentRules) (e : Tlv) (value rest : Result GeneralName Fault) (other : Option CertFault)
-    → Judged (der value) (judge shape (inside e) or_else option_map (breaks e.at) (rules e.content)) (λ x. Unit {0}) → Judged (der rest) other (λ x. Unit {0})
-    → Judged (der (cond (eqb e.tag tag) value rest)) (cond (eqb e.tag tag) (judge shape (inside e) or_else option_map (breaks e.at) (rules e.content)) other) (λ x. Unit {0})
-choice-judged tag shape rules e value rest other j k = by_tag (eqb e.tag tag)
-  where
-    by_tag : (b : Bool) → Judged (der (cond b value rest)) (cond b (judge shape (inside e) or_else option_map (breaks e.at) (rules e.content)) other) (λ x. Unit {0})
-    by_tag true = j
-    by_tag false = k
 
 directory-judged : (e : Tlv) → Judged (der (directory_of e)) (judge (name then nothing) (inside e) or_else None) (λ n. Unit {0})
 unfolding directory_of

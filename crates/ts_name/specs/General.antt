@@ -3,14 +3,14 @@ use Rattle.std.specs.Prelude.{◌≡◌, ℕ, ◌==◌, ◌||◌, Bool, true, Li
 use Rattle.ts_der.specs.declared.fault.DerFault.TheVariants.{WrongTag}
 use Rattle.ts_der.specs.declared.fault.Fault.{Fault}
 use Rattle.ts_der.specs.Answer.{◌>>=◌}
-use Rattle.ts_der.specs.Element.{Place, Tlv, Fits, spell, inside}
+use Rattle.ts_der.specs.Element.{Place, Tlv, inside}
 use Rattle.ts_der.specs.ObjectIdentifier.{oid_rules}
 use Rattle.ts_der.specs.Reading.{fault_at, value_at, end_at}
 use Rattle.ts_der.specs.Text.{is_ascii, ascii_rules}
 use Rattle.ts_name.specs.Canon.{Attr}
 use Rattle.ts_name.specs.Fields.{Within, IsOid, name_at}
 use Rattle.ts_name.specs.NameSpelling.{IsName}
-use Rattle.ts_name.specs.Items.{each}
+use Rattle.ts_name.specs.Items.{each, IsChoice}
 
 -- GeneralName, by its content: octets, or the relative distinguished names of a directory name
 pub data GeneralName : Type 0 where
@@ -62,12 +62,8 @@ IsForm tag content (iPAddress octets) = (tag ≡ 0x87) × (content ≡ octets)
 IsForm tag content (registeredID oid) = (tag ≡ 0x88) × IsOid content oid
 
 -- octets that are one element, which is a general name
-pub record IsGeneralName (octets : List ℕ) (x : GeneralName) : Type 0 where
-  pub tag : ℕ
-  pub content : List ℕ
-  pub fits : Fits tag content
-  pub spelled : octets ≡ spell tag content
-  pub form : IsForm tag content x
+abbrev pub IsGeneralName : List ℕ → GeneralName → Type 0
+IsGeneralName = IsChoice IsForm
 
 -- ---- reading
 
