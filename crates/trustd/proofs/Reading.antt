@@ -1,5 +1,5 @@
 -- Lines that are read octet by octet.
-use Rattle.std.proofs.Common.{◌≡◌, ◌∙◌, refl, sym, ap, subst, inl, inr, ℕ, ◌+◌, List, [], ◌∷◌, ◌++◌, Option, None, Some, ◌≢◌, Result, Err, rules}
+use Rattle.std.proofs.Common.{◌≡◌, ◌∙◌, refl, sym, ap, subst, inl, inr, ℕ, ◌+◌, List, [], ◌∷◌, ◌++◌, Option, Some, ◌≢◌, Err, rules}
 use Rattle.std.specs.Io.KnownBytes.{Appends}
 use Rattle.std.proofs.KnownBytes.{Appends-nil, Appends-trans}
 use Rattle.trustd.specs.declared.script.WrongLine.{WrongLine}
@@ -7,13 +7,16 @@ use Rattle.trustd.specs.declared.script.TheConstants.{LINE_FEED}
 use Rattle.trustd.specs.declared.scanner.Scanner.{Scanner}
 use Rattle.trustd.specs.Pieces.{onto_first, all_onto_first}
 use Rattle.trustd.specs.Known.{Entry}
-use Rattle.trustd.specs.Says.{Says, Refuses, RefusesAs, kind_of}
+use Rattle.trustd.specs.CertLine.{RefusesCert}
+use Rattle.trustd.specs.CheckLine.{RefusesCheck}
+use Rattle.trustd.specs.Says.{Says, Refuses, RefusesAs, Kind, skipped, cert_kind, check_kind, unknown_kind, kind_of}
+use Rattle.trustd.specs.declared.script.LineFault.{LineFault}
 use Rattle.trustd.specs.Script.{lines_of, Run}
 use Rattle.trustd.specs.declared.scanner.Stop.{Stop}
 use Rattle.trustd.specs.declared.scanner.Stop.TheVariants.{Wrong, Write}
 use Rattle.trustd.specs.Known.{known_in}
 use Rattle.trustd.specs.declared.script.LineFault.TheVariants.{Memory}
-use Rattle.trustd.specs.Scanner.{Ends, Owes, Scans, Finishes, HasSaid, HasRefused}
+use Rattle.trustd.specs.Scanner.{Ends, Owes, Scans, Finishes, HasSaid}
 
 -- a line that has ended
 pub line_ended : (line : List ℕ) (lines : List (List ℕ)) → all_onto_first line ([] ∷ lines) ≡ line ∷ lines
@@ -46,7 +49,7 @@ ends_said n known after line said before mid says written rest whole wrong e = (
 )
 
 -- the line has ended and is refused
-pub ends_refused : (known : List Entry) (line : List ℕ) (contents : Option (List ℕ)) (w : WrongLine) → Refuses line w.fault
+pub ends_refused : (known : List Entry) (line : List ℕ) (contents : Option (List ℕ)) (w : WrongLine) → Refuses known line w.fault
     → (rest : List ℕ) → Ends w.number known line contents (LINE_FEED ∷ rest) contents (Some w)
 unfolding Ends
 ends_refused known line contents w refuses rest = (
@@ -81,6 +84,13 @@ unfolding Ends
 scans_begun n known line x other before rest whole wrong e =
     (e.0, subst (λ lines. Run n known lines e.0 wrong) (line_begun line x (lines_of rest) ∙ ap (all_onto_first line) (sym (begun_lines x rest other))) e.1, e.2)
 
+-- any line may be refused for want of memory
+forgotten : (kind : Kind) (known : List Entry) (line : List ℕ) (fault : LineFault) → fault ≡ Memory → RefusesAs kind known line fault
+forgotten skipped known line fault is = is
+forgotten cert_kind known line fault is = subst (RefusesCert known line) (sym is) tt
+forgotten check_kind known line fault is = subst (RefusesCheck known line) (sym is) tt
+forgotten unknown_kind known line fault is = inr is
+
 -- the octets of a line that no memory was had for
 pub scans_forgotten : (n : ℕ) (known : List Entry) (line : List ℕ) (x : ℕ) → (x ≢ LINE_FEED) → (before : Option (List ℕ)) (w : WrongLine) → w.number ≡ n → w.fault ≡ Memory
     → (rest : List ℕ) → Ends n known line before (x ∷ rest) before (Some w)
@@ -88,5 +98,5 @@ unfolding Ends
 scans_forgotten n known line x other before w number fault rest =
     let first = first_exists line x (lines_of rest) in
     let lines = ap (all_onto_first line) (begun_lines x rest other) ∙ first.2 in
-    let refuses : Refuses first.0 w.fault = subst (λ f. RefusesAs f (kind_of first.0)) (sym fault) tt in
+    let refuses = forgotten (kind_of first.0) known first.0 w.fault fault in
     ([], subst (λ ls. Run n known ls [] (Some w)) (sym lines) (inl (w, refl, number, refuses, refl)), Appends-nil before)

@@ -1,5 +1,5 @@
 -- Scanning piece by piece.
-use Rattle.std.proofs.Common.{◌≡◌, ◌≢◌, ◌∙◌, refl, sym, ap, subst, ℕ, ◌+◌, List, [], ◌∷◌, ◌++◌, drop, Option, None, Some, Result, Ok, Err, OnOk, IfErr, IfOk, IfSome, inl, inr, append-nil}
+use Rattle.std.proofs.Common.{◌≡◌, ◌≢◌, ◌∙◌, refl, sym, ap, subst, ℕ, List, [], ◌∷◌, ◌++◌, Option, None, Some, Result, Ok, Err, OnOk, IfErr, IfSome, inl, inr, append-nil}
 use Rattle.std.specs.Io.KnownBytes.{Appends, Consumes, IsAtEnd, Keeps}
 use Rattle.std.proofs.KnownBytes.{Appends-nil}
 use Rattle.trustd.specs.declared.script.WrongLine.{WrongLine}
@@ -15,8 +15,8 @@ use Rattle.trustd.specs.Pieces.{onto_first, all_onto_first}
 use Rattle.trustd.specs.Lab.{IsRead, IsStep, done_in, fed_in}
 use Rattle.trustd.specs.declared.lab.StreamFault.{StreamFault}
 use Rattle.trustd.specs.declared.scanner.Step.{Step}
-use Rattle.trustd.specs.declared.scanner.Step.TheVariants.{More, Done}
-use Rattle.trustd.specs.Scanner.{Ends, Owes, Scans, Finishes, HasSaid, HasRefused, Closes, IsScanOf}
+use Rattle.trustd.specs.declared.scanner.Step.TheVariants.{More}
+use Rattle.trustd.specs.Scanner.{Ends, Owes, Scans, Finishes, Closes, IsScanOf}
 use Rattle.trustd.proofs.Reading.{scans_begun, scans_forgotten}
 
 -- an octet was taken, or there was no memory for it
@@ -54,7 +54,7 @@ ends_last n known after (x ∷ xs) said before mid says written =
     (said, subst (λ ls. Run n known ls said None) (sym (line_last x xs)) (inr (after, said, [], says, (refl, refl), sym (append-nil said))), written)
 
 -- or is refused
-pub ends_last_refused : (known : List Entry) (line : List ℕ) (contents : Option (List ℕ)) (w : WrongLine) → Refuses line w.fault → (line ≢ [])
+pub ends_last_refused : (known : List Entry) (line : List ℕ) (contents : Option (List ℕ)) (w : WrongLine) → Refuses known line w.fault → (line ≢ [])
     → Ends w.number known line contents [] contents (Some w)
 unfolding Ends
 ends_last_refused known [] contents w refuses some = absurd (some refl)

@@ -2,6 +2,8 @@ pub mod Pieces
 pub mod Words
 pub mod Known
 pub mod Wrong
+pub mod CertLine
+pub mod CheckLine
 pub mod Says
 pub mod Script
 pub mod Scanner

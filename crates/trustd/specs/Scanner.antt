@@ -1,5 +1,5 @@
 -- A script of which some octets have been taken, and others are to come.
-use Rattle.std.specs.Prelude.{◌≡◌, ℕ, ◌+◌, List, [], ◌∷◌, ◌++◌, Option, None, Some, Result, Ok, Err}
+use Rattle.std.specs.Prelude.{◌≡◌, ℕ, List, [], ◌++◌, Option, None, Some, Result, Ok, Err}
 use Rattle.std.specs.Io.KnownBytes.{Appends}
 use Rattle.trustd.specs.declared.script.WrongLine.{WrongLine}
 use Rattle.trustd.specs.declared.scanner.Scanner.{Scanner}
@@ -37,7 +37,7 @@ pub record HasSaid (old new : Scanner) (before after : Option (List ℕ)) : Type
 -- it is refused, and nothing is written
 pub record HasRefused (old : Scanner) (before after : Option (List ℕ)) (w : WrongLine) : Type 0 where
   pub number : w.number ≡ old.number
-  pub refuses : Refuses old.line.items w.fault
+  pub refuses : Refuses (known_in old.known.items) old.line.items w.fault
   pub silent : after ≡ before
 
 abbrev pub Finishes : {T : Type 0} → Scanner → Scanner → Option (List ℕ) → Option (List ℕ) → Result T Stop → Type 0

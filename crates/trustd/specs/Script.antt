@@ -15,5 +15,5 @@ lines_of (x ∷ xs) = if x == LINE_FEED then [] ∷ lines_of xs else onto_first 
 abbrev pub Run : ℕ → List Entry → List (List ℕ) → List ℕ → Option WrongLine → Type 0
 Run n known [] text wrong = (text ≡ []) × (wrong ≡ None)
 Run n known (line ∷ lines) text wrong =
-    ((w : WrongLine) × (wrong ≡ Some w) × (w.number ≡ n) × Refuses line w.fault × (text ≡ []))
+    ((w : WrongLine) × (wrong ≡ Some w) × (w.number ≡ n) × Refuses known line w.fault × (text ≡ []))
     ⊎ ((after : List Entry) × (said : List ℕ) × (rest : List ℕ) × Says known line said after × Run (n + 1) after lines rest wrong × (text ≡ said ++ rest))

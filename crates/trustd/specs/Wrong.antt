@@ -1,6 +1,8 @@
 -- What is printed of a wrong line.
 use Rattle.std.specs.Prelude.{ℕ, List, [], ◌∷◌, ◌++◌, Option, None, Some, codes}
 use Rattle.std.specs.Fmt.{decimal}
+use Rattle.hex.specs.declared.error.FromHexError.{FromHexError}
+use Rattle.hex.specs.declared.error.FromHexError.TheVariants.{InvalidHexCharacter, OddLength, InvalidStringLength, OutOfMemory}
 use Rattle.trustd.specs.declared.script.LineFault.{LineFault}
 use Rattle.trustd.specs.declared.script.LineFault.TheVariants.{Unknown, Form, Name, Limit, Memory}
 use Rattle.trustd.specs.declared.script.WrongLine.{WrongLine}
@@ -13,6 +15,13 @@ fault_word Form = codes "form"
 fault_word Name = codes "name"
 fault_word Limit = codes "limit"
 fault_word Memory = codes "memory"
+
+-- a word whose octets can't be read is of no form, unless memory ran out
+abbrev pub hex_fault : FromHexError → LineFault
+hex_fault OutOfMemory = Memory
+hex_fault OddLength = Form
+hex_fault InvalidStringLength = Form
+hex_fault (InvalidHexCharacter c index) = Form
 
 -- what is printed of a wrong line, before the line feed
 abbrev pub wrong_line_text : WrongLine → List ℕ

@@ -1,19 +1,23 @@
 //! What a line is answered.
 
-ghost use Rattle.std.specs.Prelude.{◌≡◌, ◌≢◌, ◌++◌, IfOk, IfErr, IfSome, OnOk, false, string_bytes, codes};
-ghost use Rattle.trustd.specs.Known.{known_in};
-ghost use Rattle.trustd.specs.Says.{cert_line, check_line, IsMade, IsKept, IsVerdictText, IsJudged, IsCertSaid, IsCheckSaid, Answers};
-ghost use Rattle.trustd.specs.declared.script.LineFault.TheVariants.{Unknown};
+ghost use Rattle.std.specs.Prelude.{◌≡◌, ◌≢◌, ◌++◌, ◌↔◌, ◌≤◌, ℤ, length, IfOk, IfErr, IsTrue, MatchOption, OnOk, is_ok, option_map, true, string_bytes, codes};
 ghost use Rattle.std.specs.Fmt.{decimal};
-ghost use Rattle.ts_cert.specs.CertView.{cert_in};
+ghost use Rattle.std.specs.List.{AllByRecursion};
 ghost use Rattle.ts_cert.specs.Reading.{certificate_of};
-ghost use Rattle.trustd.specs.Words.{IsName};
+ghost use Rattle.trustd.specs.declared.script.LineFault.TheVariants.{Memory};
+ghost use Rattle.trustd.specs.Pieces.{pieces_behind};
+ghost use Rattle.trustd.specs.Words.{IsName, words_of};
+ghost use Rattle.trustd.specs.Known.{known_in, octets_named};
+ghost use Rattle.trustd.specs.CertLine.{IsCertLine, IsMade, IsKept, RefusesWords, IsCertSaid, RefusesCert};
+ghost use Rattle.trustd.specs.CheckLine.{check_line, verdict_text, IsJudged, names_of, IsCheckLine, AreKnown, IsCheckSaid, RefusesCheck};
+ghost use Rattle.trustd.specs.Says.{Answers};
 
-use crate::named::{Named, find};
+use crate::named::Named;
 use crate::script::{COMMENT, LineFault};
-use crate::words::{first_word, is_name, moment_of, number_of, octets_of, pieces, rdns_of, skip};
-use std::alloc::Global;
-use ts_cert::Cert;
+use crate::words::{
+    SPACE, are_names, first_piece, is_name, moment_of, number_of, octets_of, rdns_of, word_behind,
+};
+use std::alloc::{AllocError, Global};
 use ts_make::{CertText, MakeFault, make_cert};
 use ts_path::{Anchor, Inputs, Verdict, validate};
 use ts_sig::DigestCheck;
@@ -34,20 +38,19 @@ pub struct CertWords<'a> {
 
 impl<'a> CertWords<'a> {
     /// Those of a line.
-    #[tactic(auto, unfolding(crate::specs::Says::cert_line))]
+    #[tactic(auto, unfolding(crate::specs::CertLine::cert_line))]
     fn of(line: &'a [u8]) -> Option<CertWords<'a>>
-        ensures found { IfSome result (λ c. line.now ≡ cert_line c) }
-        ensures name { IfSome result (λ c. IsName c.name.now) }
+        ensures { MatchOption result ((c : CertWords) → ¬ (IsCertLine line.now c)) (IsCertLine line.now) }
     {
-        let (name, rest) = first_word(skip(line, b"cert ")?);
-        let (serial, rest) = first_word(skip(rest, b" serial ")?);
-        let (issuer, rest) = first_word(skip(rest, b" issuer ")?);
-        let (subject, rest) = first_word(skip(rest, b" subject ")?);
-        let (from, rest) = first_word(skip(rest, b" from ")?);
-        let (to, rest) = first_word(skip(rest, b" to ")?);
-        let (key, rest) = first_word(skip(rest, b" key ")?);
-        let signer = skip(rest, b" signer ")?;
-        if !is_name(name) {
+        let (name, rest) = word_behind(Some(line), b"cert")?;
+        let (serial, rest) = word_behind(rest, b"serial")?;
+        let (issuer, rest) = word_behind(rest, b"issuer")?;
+        let (subject, rest) = word_behind(rest, b"subject")?;
+        let (from, rest) = word_behind(rest, b"from")?;
+        let (to, rest) = word_behind(rest, b"to")?;
+        let (key, rest) = word_behind(rest, b"key")?;
+        let (signer, rest) = word_behind(rest, b"signer")?;
+        if rest.is_some() || !is_name(name) {
             return None;
         }
         Some(CertWords {
@@ -63,21 +66,20 @@ impl<'a> CertWords<'a> {
     }
 
     /// The octets of the certificate that the words say, unless its name is taken.
-    fn make(&self, alloc: Global, is_taken: bool) -> Result<Vec<u8>, LineFault>
+    fn make(&self, alloc: Global, known: &[Named]) -> Result<Vec<u8>, LineFault>
         ensures made { IfOk result (λ octets. IsMade self.now octets.items) }
-        ensures free { OnOk result (is_taken ≡ false) }
-        ensures fault { IfErr result (λ fault. fault ≢ Unknown) }
+        ensures short { IfOk result (λ octets. length octets.items ≤ 65536) }
+        ensures reads { IfOk result (λ octets. is_ok (certificate_of octets.items) ≡ true) }
+        ensures free { OnOk result (octets_named (known_in known.now) self.now.name.now ≡ None) }
+        ensures fault { IfErr result (RefusesWords (known_in known.now) self.now) }
     {
         let serial = number_of(self.serial).ok_or(LineFault::Form)?;
-        let issuer = rdns_of(alloc, self.issuer)?;
-        let subject = rdns_of(alloc, self.subject)?;
         let from = moment_of(self.from).ok_or(LineFault::Form)?;
         let to = moment_of(self.to).ok_or(LineFault::Form)?;
+        let issuer = rdns_of(alloc, self.issuer)?;
+        let subject = rdns_of(alloc, self.subject)?;
         let key = octets_of(alloc, self.key)?;
         let signer = octets_of(alloc, self.signer)?;
-        if is_taken {
-            return Err(LineFault::Name);
-        }
         let text = CertText {
             serial,
             issuer: &issuer,
@@ -88,10 +90,14 @@ impl<'a> CertWords<'a> {
             signer: &signer,
             extensions: &[],
         };
+        if Named::find(known, self.name).is_some() {
+            return Err(LineFault::Name);
+        }
         match make_cert(alloc, &text) {
             Ok(octets) => Ok(octets),
             Err(MakeFault::Memory) => Err(LineFault::Memory),
             Err(MakeFault::TooLong) => Err(LineFault::Limit),
+            // Not reached: a certificate can say the moment of each GeneralizedTime.
             Err(MakeFault::Unreadable(_)) => Err(LineFault::Form),
         }
     }
@@ -100,21 +106,20 @@ impl<'a> CertWords<'a> {
 /// Answers a `cert` line, and keeps its certificate.
 fn answer_cert(alloc: Global, known: &mut Vec<Named>, line: &[u8]) -> Result<String, LineFault>
     ensures said { IfOk result (λ text. IsCertSaid (known_in known.old.items) line.now (string_bytes text) (known_in known.new.items)) }
-    ensures fault { IfErr result (λ fault. fault ≢ Unknown) }
+    ensures fault { IfErr result (RefusesCert (known_in known.old.items) line.now) }
 {
     let Some(words) = CertWords::of(line) else {
         return Err(LineFault::Form);
     };
-    Ok(keep(alloc, known, &words)?)
+    keep(alloc, known, &words)
 }
 
 /// Keeps the certificate that the words of a `cert` line say, and answers the line.
 fn keep(alloc: Global, known: &mut Vec<Named>, words: &CertWords<'_>) -> Result<String, LineFault>
     ensures said { IfOk result (λ text. IsKept (known_in known.old.items) words.now (string_bytes text) (known_in known.new.items)) }
-    ensures fault { IfErr result (λ fault. fault ≢ Unknown) }
+    ensures fault { IfErr result (λ fault. IsName words.now.name.now → RefusesWords (known_in known.old.items) words.now fault) }
 {
-    let is_taken = find(known, words.name).is_some();
-    let octets = words.make(alloc, is_taken)?;
+    let octets = words.make(alloc, known)?;
     let name = Vec::from_slice(alloc, words.name)?;
     let text = cert_text(alloc, words.name, octets.len())?;
     known.push(Named { name, octets })?;
@@ -124,53 +129,43 @@ fn keep(alloc: Global, known: &mut Vec<Named>, words: &CertWords<'_>) -> Result<
 /// The text for a certificate of so many octets.
 fn cert_text(alloc: Global, name: &[u8], count: usize) -> Result<String, LineFault>
     ensures said { IfOk result (λ text. string_bytes text ≡ codes "cert " ++ (name.now ++ (codes " " ++ (decimal count ++ codes "\n")))) }
-    ensures fault { IfErr result (λ fault. fault ≢ Unknown) }
+    ensures fault { IfErr result (λ fault. IsName name.now → fault ≡ Memory) }
 {
     match str::from_utf8(name) {
         Ok(name) => Ok(format!(in alloc; "cert {name} {count}\n")?),
-        Err(_) => Err(LineFault::Form),
-    }
-}
-
-/// The certificate of octets that were made as one.
-fn read(octets: &[u8]) -> Result<Cert<'_>, LineFault>
-    ensures exact { IfOk result (λ cert. certificate_of octets.now ≡ Ok (cert_in cert)) }
-    ensures fault { IfErr result (λ fault. fault ≢ Unknown) }
-{
-    match Cert::read(octets) {
-        Ok(cert) => Ok(cert),
+        // Not reached for a name, which is ASCII.
         Err(_) => Err(LineFault::Form),
     }
 }
 
 /// The text of a verdict.
-fn verdict_text(alloc: Global, verdict: &Verdict<'_>) -> Result<String, LineFault>
-    ensures said { IfOk result (λ text. IsVerdictText verdict.now (string_bytes text)) }
-    ensures fault { IfErr result (λ fault. fault ≢ Unknown) }
+fn print_verdict(alloc: Global, verdict: &Verdict<'_>) -> Result<String, AllocError>
+    ensures { IfOk result (λ text. string_bytes text ≡ verdict_text verdict.now) }
 {
     match verdict {
-        Verdict::Valid => Ok(String::from_str(alloc, "check valid -\n")?),
-        Verdict::Invalid { position, reason } => {
-            let word = format!(in alloc; "{reason}")?;
-            Ok(format!(in alloc; "check invalid {position} {word}\n")?)
-        }
+        Verdict::Valid => String::from_str(alloc, "check valid -\n"),
+        Verdict::Invalid { position, reason } => format!(in alloc;
+            "check invalid {position} {reason}\n"
+        ),
     }
 }
 
-/// Judges a certificate under another as the anchor, each by its octets.
-fn judge(alloc: Global, anchor: &[u8], target: &[u8], moment: Moment) -> Result<String, LineFault>
-    ensures said { IfOk result (λ text. IsJudged anchor.now target.now moment (string_bytes text)) }
-    ensures fault { IfErr result (λ fault. fault ≢ Unknown) }
+/// Judges a certificate under another as the anchor.
+fn judge(
+    alloc: Global,
+    anchor: &Named,
+    target: &Named,
+    moment: Moment,
+) -> Result<String, AllocError>
+    ensures { IfOk result (λ text. IsJudged anchor.now.octets.items target.now.octets.items moment (string_bytes text)) }
 {
-    let anchor = read(anchor)?;
-    let target = read(target)?;
     let verdict = validate(
-        &Anchor::of(&anchor),
-        &[target],
+        &Anchor::of(&anchor.cert()),
+        &[target.cert()],
         &Inputs { moment },
         &DigestCheck,
     );
-    Ok(verdict_text(alloc, &verdict)?)
+    print_verdict(alloc, &verdict)
 }
 
 /// The words of a `check` line that say something.
@@ -179,19 +174,19 @@ pub struct CheckWords<'a> {
     pub anchor: &'a [u8],
     pub time: &'a [u8],
     pub target: &'a [u8],
-    /// The names behind the target, each after a space.
-    pub others: &'a [u8],
+    /// The names behind the target.
+    pub others: Option<&'a [u8]>,
 }
 
 impl<'a> CheckWords<'a> {
     /// Those of a line.
-    #[tactic(auto, unfolding(crate::specs::Says::check_line))]
+    #[tactic(auto, unfolding(crate::specs::CheckLine::check_line))]
     fn of(line: &'a [u8]) -> Option<CheckWords<'a>>
-        ensures { IfSome result (λ c. line.now ≡ check_line c) }
+        ensures { MatchOption result ((c : CheckWords) → words_of line.now ≢ check_line c) (λ c. words_of line.now ≡ check_line c) }
     {
-        let (anchor, rest) = first_word(skip(line, b"check ")?);
-        let (time, rest) = first_word(skip(rest, b" at ")?);
-        let (target, others) = first_word(skip(rest, b" chain ")?);
+        let (anchor, rest) = word_behind(Some(line), b"check")?;
+        let (time, rest) = word_behind(rest, b"at")?;
+        let (target, others) = word_behind(rest, b"chain")?;
         Some(CheckWords {
             anchor,
             time,
@@ -199,54 +194,60 @@ impl<'a> CheckWords<'a> {
             others,
         })
     }
+
+    /// Those of a line, and their moment, where its names and its time are such.
+    fn read(line: &'a [u8]) -> Option<(CheckWords<'a>, Moment)>
+        ensures { MatchOption result ((c : CheckWords) (moment : ℤ) → ¬ (IsCheckLine line.now c moment)) (λ found. IsCheckLine line.now found.0 found.1) }
+    {
+        let words = CheckWords::of(line)?;
+        let moment = moment_of(words.time)?;
+        if !words.are_names() {
+            return None;
+        }
+        Some((words, moment))
+    }
+
+    /// Whether its names are such.
+    fn are_names(&self) -> bool
+        ensures { IsTrue result ↔ AllByRecursion IsName (names_of self.now) }
+    {
+        is_name(self.anchor) && is_name(self.target) && are_names(self.others)
+    }
 }
 
-/// Refuses names of which one is none.
-fn see_form(names: &[&[u8]]) -> Result<(), LineFault>
-    ensures { IfErr result (λ fault. fault ≢ Unknown) }
+/// Whether each of the names has a certificate.
+fn are_known(known: &[Named], names: Option<&[u8]>) -> bool
+    ensures { IsTrue result ↔ AreKnown (known_in known.now) (pieces_behind 32 (option_map (λ rest. rest.now) names.entry)) }
 {
-    for name in names {
-        if !is_name(name) {
-            return Err(LineFault::Form);
+    let mut rest = names;
+    while let Some(left) = rest {
+        let (name, behind) = first_piece(left, SPACE);
+        if Named::find(known, name).is_none() {
+            return false;
         }
+        rest = behind;
     }
-    Ok(())
-}
-
-/// Refuses names of which one is not defined.
-fn see_known(known: &[Named], names: &[&[u8]]) -> Result<(), LineFault>
-    ensures { IfErr result (λ fault. fault ≢ Unknown) }
-{
-    for name in names {
-        if find(known, name).is_none() {
-            return Err(LineFault::Name);
-        }
-    }
-    Ok(())
+    true
 }
 
 /// Answers a `check` line.
 fn answer_check(alloc: Global, known: &[Named], line: &[u8]) -> Result<String, LineFault>
     ensures said { IfOk result (λ text. IsCheckSaid (known_in known.now) line.now (string_bytes text)) }
-    ensures fault { IfErr result (λ fault. fault ≢ Unknown) }
+    ensures fault { IfErr result (RefusesCheck (known_in known.now) line.now) }
 {
-    let Some(words) = CheckWords::of(line) else {
+    let Some((words, moment)) = CheckWords::read(line) else {
         return Err(LineFault::Form);
     };
-    let Some(moment) = moment_of(words.time) else {
-        return Err(LineFault::Form);
-    };
-    let names = pieces(alloc, words.others, b' ')?;
-    if !is_name(words.anchor) || !is_name(words.target) {
-        return Err(LineFault::Form);
-    }
-    let others = names.get(1..).unwrap_or(&[]);
-    see_form(others)?;
-    let (Some(anchor), Some(target)) = (find(known, words.anchor), find(known, words.target)) else {
+    let (Some(anchor), Some(target)) = (
+        Named::find(known, words.anchor),
+        Named::find(known, words.target),
+    ) else {
         return Err(LineFault::Name);
     };
-    see_known(known, others)?;
-    if !words.others.is_empty() {
+    if !are_known(known, words.others) {
+        return Err(LineFault::Name);
+    }
+    if words.others.is_some() {
         return Err(LineFault::Limit);
     }
     Ok(judge(alloc, anchor, target, moment)?)
@@ -266,7 +267,7 @@ pub fn answer_line(alloc: Global, known: &mut Vec<Named>, line: &[u8]) -> Result
     if first == COMMENT {
         return Ok(String::new(alloc));
     }
-    let (word, _rest) = first_word(line);
+    let (word, _rest) = first_piece(line, SPACE);
     if word == b"cert".as_slice() {
         answer_cert(alloc, known, line)
     } else if word == b"check".as_slice() {

@@ -6,6 +6,7 @@ ghost use Rattle.std.specs.Prelude.{◌≤◌};
 mod answer;
 mod command_line;
 mod lab;
+mod laws;
 mod named;
 mod scanner;
 mod script;

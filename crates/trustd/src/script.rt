@@ -1,9 +1,10 @@
 //! The lines of a script that are refused.
 
 ghost use Rattle.std.specs.Prelude.{◌≡◌, Some};
-ghost use Rattle.trustd.specs.Wrong.{fault_word, wrong_line_text};
+ghost use Rattle.trustd.specs.Wrong.{fault_word, hex_fault, wrong_line_text};
 ghost use Rattle.trustd.specs.declared.script.LineFault.TheVariants.{Memory};
 
+use hex::FromHexError;
 use std::alloc::{AllocError, AllocFailed};
 use std::fmt;
 
@@ -55,6 +56,18 @@ impl<T: Drop> From<AllocFailed<T>> for LineFault {
 
     fn from(_error: AllocFailed<T>) -> LineFault {
         LineFault::Memory
+    }
+}
+
+/// A word with other octets than hexadecimal digits in pairs has the wrong form.
+impl From<FromHexError> for LineFault {
+    ghost from_gives = { λ error fault. fault ≡ hex_fault error };
+
+    fn from(error: FromHexError) -> LineFault {
+        match error {
+            FromHexError::OutOfMemory => LineFault::Memory,
+            _ => LineFault::Form,
+        }
     }
 }
 

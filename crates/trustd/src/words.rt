@@ -1,40 +1,55 @@
 //! The words of a line, and what they mean.
 
-ghost use Rattle.std.specs.Prelude.{◌≡◌, ◌≢◌, ◌++◌, IsTrue, [], IfOk, IfErr, IfSome};
-ghost use Rattle.std.specs.Fmt.{decimal};
-ghost use Rattle.hex.specs.Hex.{encode_lower};
+ghost use Rattle.std.specs.Prelude.{◌≡◌, ◌≢◌, ◌∷◌, ◌↔◌, ℕ, ℤ, List, IsTrue, IfOk, IfErr, MatchOption, option_map};
+ghost use Rattle.std.specs.List.{AllByRecursion};
+ghost use Rattle.ts_make.specs.declared.description.RdnText.{RdnText};
 ghost use Rattle.ts_time.specs.Text.{IsGeneral};
-ghost use Rattle.trustd.specs.Words.{IsName, word_of, rdn_word};
-ghost use Rattle.trustd.specs.declared.script.LineFault.TheVariants.{Memory, Unknown};
+ghost use Rattle.trustd.specs.Pieces.{pieces_of, pieces_behind};
+ghost use Rattle.trustd.specs.Words.{IsName, IsNumber, IsHex, IsRdn, IsDn, RefusesWord};
 
 use crate::script::LineFault;
-use hex::FromHexError;
 use std::alloc::Global;
 use ts_make::{AttributeType, RdnText};
 use ts_time::{Moment, read_general};
 
+/// Stands between two words.
+pub const SPACE: u8 = b' ';
+
 /// Stands between two relative distinguished names.
 const SLASH: u8 = b'/';
 
-/// The pieces of octets between these marks.
-pub fn pieces(alloc: Global, octets: &[u8], mark: u8) -> Result<Vec<&[u8]>, LineFault>
-    ensures { IfErr result (λ e. e ≡ Memory) }
+/// The octets up to the first mark, and those behind it where there is one.
+pub fn first_piece(octets: &[u8], mark: u8) -> (&[u8], Option<&[u8]>)
+    ensures { pieces_of mark octets.now ≡ result.0.now ∷ pieces_behind mark (option_map (λ rest. rest.now) result.1) }
 {
-    let mut found = Vec::new(alloc);
-    let mut start = 0;
     for at in 0..octets.len() {
         if octets[at] == mark {
-            found.push(&octets[start..at])?;
-            start = at + 1;
+            return (&octets[..at], Some(&octets[at + 1..]));
         }
     }
-    found.push(&octets[start..])?;
-    Ok(found)
+    (octets, None)
+}
+
+/// The word behind a keyword with which these words begin, and what follows the two.
+pub fn word_behind<'a>(
+    words: Option<&'a [u8]>,
+    keyword: &[u8],
+) -> Option<(&'a [u8], Option<&'a [u8]>)>
+    ensures { MatchOption result
+        ((word : List ℕ) (others : List (List ℕ)) → pieces_behind 32 (option_map (λ rest. rest.now) words.entry) ≢ keyword.now ∷ word ∷ others)
+        (λ found. pieces_behind 32 (option_map (λ rest. rest.now) words.entry)
+        ≡ keyword.now ∷ found.0.now ∷ pieces_behind 32 (option_map (λ rest. rest.now) found.1)) }
+{
+    let (first, rest) = first_piece(words?, SPACE);
+    if first != keyword {
+        return None;
+    }
+    Some(first_piece(rest?, SPACE))
 }
 
 /// Whether a word is one or more ASCII letters and digits.
 pub fn is_name(word: &[u8]) -> bool
-    ensures { IsTrue result → IsName word.now }
+    ensures { IsTrue result ↔ IsName word.now }
 {
     for octet in word {
         if !octet.is_ascii_alphanumeric() {
@@ -44,30 +59,24 @@ pub fn is_name(word: &[u8]) -> bool
     !word.is_empty()
 }
 
-/// The octets up to the first space or the end, and the rest.
-pub fn first_word(octets: &[u8]) -> (&[u8], &[u8])
-    ensures whole { octets.now ≡ result.0.now ++ result.1.now }
-    ensures word { result.0.now ≡ word_of octets.now }
+/// Whether each of these words is a name.
+pub fn are_names(words: Option<&[u8]>) -> bool
+    ensures { IsTrue result ↔ AllByRecursion IsName (pieces_behind 32 (option_map (λ rest. rest.now) words.entry)) }
 {
-    for at in 0..octets.len() {
-        if octets[at] == b' ' {
-            return octets.split_at(at);
+    let mut rest = words;
+    while let Some(left) = rest {
+        let (word, behind) = first_piece(left, SPACE);
+        if !is_name(word) {
+            return false;
         }
+        rest = behind;
     }
-    (octets, &[])
-}
-
-/// What follows these octets, where the others begin with them.
-pub fn skip<'a>(octets: &'a [u8], front: &[u8]) -> Option<&'a [u8]>
-    ensures { IfSome result (λ rest. octets.now ≡ front.now ++ rest.now) }
-{
-    let (head, rest) = octets.split_at_checked(front.len())?;
-    if head == front { Some(rest) } else { None }
+    true
 }
 
 /// The number that a word writes in decimal, without leading zeros.
 pub fn number_of(word: &[u8]) -> Option<u32>
-    ensures found { IfSome result (λ n. word.now ≡ decimal n) }
+    ensures { MatchOption result ((n : ℕ) → ¬ (IsNumber word.now n)) (IsNumber word.now) }
 {
     let number: u32 = str::from_utf8(word).ok()?.parse().ok()?;
     let mut spelling = itoa::Buffer::new();
@@ -76,21 +85,17 @@ pub fn number_of(word: &[u8]) -> Option<u32>
 
 /// The moment that a word names as a GeneralizedTime.
 pub fn moment_of(word: &[u8]) -> Option<Moment>
-    ensures found { IfSome result (IsGeneral word.now) }
+    ensures { MatchOption result ((m : ℤ) → ¬ (IsGeneral word.now m)) (IsGeneral word.now) }
 {
     read_general(word).ok()
 }
 
 /// The octets that a word writes in lower-case hexadecimal digits, one or more.
 pub fn octets_of(alloc: Global, word: &[u8]) -> Result<Vec<u8>, LineFault>
-    ensures found { IfOk result (λ octets. (word.now ≡ encode_lower octets.items) × (octets.items ≢ [])) }
-    ensures fault { IfErr result (λ fault. fault ≢ Unknown) }
+    ensures found { IfOk result (λ octets. IsHex word.now octets.items) }
+    ensures fault { IfErr result (RefusesWord ((octets : List ℕ) → ¬ (IsHex word.now octets))) }
 {
-    let octets = match hex::decode(alloc, word) {
-        Ok(octets) => octets,
-        Err(FromHexError::OutOfMemory) => return Err(LineFault::Memory),
-        Err(_) => return Err(LineFault::Form),
-    };
+    let octets = hex::decode(alloc, word)?;
     let spelling = hex::encode(alloc, octets.as_slice())?;
     if spelling.as_bytes() != word || octets.is_empty() {
         return Err(LineFault::Form);
@@ -99,31 +104,32 @@ pub fn octets_of(alloc: Global, word: &[u8]) -> Result<Vec<u8>, LineFault>
 }
 
 /// The relative distinguished name that a piece writes, as `CN=text` or `O=text`.
-fn rdn_of(piece: &[u8]) -> Result<RdnText<'_>, LineFault>
-    ensures found { IfOk result (λ rdn. piece.now ≡ rdn_word rdn) }
-    ensures fault { IfErr result (λ fault. fault ≢ Unknown) }
+fn rdn_of(piece: &[u8]) -> Option<RdnText<'_>>
+    ensures { MatchOption result ((rdn : RdnText) → ¬ (IsRdn piece.now rdn)) (IsRdn piece.now) }
 {
     let (kind, text) = if let Some(text) = piece.strip_prefix(b"CN=") {
         (AttributeType::CommonName, text)
-    } else if let Some(text) = piece.strip_prefix(b"O=") {
-        (AttributeType::OrganizationName, text)
     } else {
-        return Err(LineFault::Form);
+        (AttributeType::OrganizationName, piece.strip_prefix(b"O=")?)
     };
-    match str::from_utf8(text) {
-        Ok(text) => Ok(RdnText { kind, text }),
-        Err(_) => Err(LineFault::Form),
-    }
+    let text = str::from_utf8(text).ok()?;
+    Some(RdnText { kind, text })
 }
 
 /// The distinguished name that a word writes, its relative ones joined by `/`.
 pub fn rdns_of(alloc: Global, word: &[u8]) -> Result<Vec<RdnText<'_>>, LineFault>
-    ensures { IfErr result (λ fault. fault ≢ Unknown) }
+    ensures found { IfOk result (λ rdns. IsDn word.now rdns.items) }
+    ensures fault { IfErr result (RefusesWord ((rdns : List RdnText) → ¬ (IsDn word.now rdns))) }
 {
-    let pieces = pieces(alloc, word, SLASH)?;
     let mut rdns = Vec::new(alloc);
-    for piece in &pieces {
-        rdns.push(rdn_of(piece)?)?;
+    let mut rest = Some(word);
+    while let Some(left) = rest {
+        let (piece, behind) = first_piece(left, SLASH);
+        let Some(rdn) = rdn_of(piece) else {
+            return Err(LineFault::Form);
+        };
+        rdns.push(rdn)?;
+        rest = behind;
     }
     Ok(rdns)
 }

@@ -30,7 +30,7 @@ use Rattle.ts_ext.specs.Reading.{base_crl_number_of}
 
 -- ---- the key of an authority
 
-octets-format : Format octets_of AreOctetsOf plain no_rules
+pub octets-format : Format octets_of AreOctetsOf plain no_rules
 octets-format = record { found = λ e x fits read. ok_is {E = Fault} e.content x read; again = λ e x is. ap (λ (o : List ℕ). Ok o) is; judged = λ e. (refl, tt) }
 
 serial-format : Format serial_of IsInteger plain (der_rules integer_rules)

@@ -9,3 +9,4 @@ pub mod Points
 pub mod KeyAndConstraints
 pub mod Lists
 pub mod Policies
+pub mod Exts

@@ -17,13 +17,14 @@ use Rattle.ts_name.proofs.OptionalParts.{begins-if-any, optional-found, optional
 use Rattle.ts_name.proofs.Shapes.{end-ok, end-again}
 use Rattle.ts_ext.specs.Spelling.{IfTrue, AreReasonFlags}
 use Rattle.ts_ext.specs.Reading.{reason_flags_of}
-use Rattle.ts_ext.specs.Table.{flag, reason_flags_rules}
+use Rattle.ts_ext.specs.Table.{flag, reason_flags_rules, list_rules}
+use Rattle.ts_ext.proofs.Lists.{list-format}
 use Rattle.ts_ext.specs.GeneralNames.{AreGeneralNames, general_names_of, general_names_items, general_names}
 use Rattle.ts_ext.proofs.Formats.{Format, value_of, by_der_rules}
 use Rattle.ts_ext.proofs.NamedBits.{reason_flags-format}
 use Rattle.ts_ext.proofs.Flags.{flag-spelled, flag-again, flag-judged}
 use Rattle.ts_ext.proofs.Names.{begins-last, general_names-format, subtrees-format, wrapped_name-format}
-use Rattle.ts_ext.specs.Points.{PointName, Point, ListScope, IsPointName, IsPoint, IsIssuingPoint, wrapped_name_of, point_of, issuing_point_of, point_name, wrapped_name, point_fields, issuing_point_fields}
+use Rattle.ts_ext.specs.Points.{PointName, Point, ListScope, IsPointName, IsPoint, IsIssuingPoint, wrapped_name_of, point_of, issuing_point_of, point_name, wrapped_name, point_fields, ArePoints, points_of, points_items, issuing_point_fields}
 
 -- ---- distribution points
 
@@ -81,6 +82,9 @@ point-format =
           under (optional_of 0xA2 general_names_of at2) _ _ _
           (optional-judged 0xA2 general_names_items (der_rules some_rules) nothing at2 general_names_of _ Whatever _ general_names-format.judged (λ issuer behind. ends behind _ _ (λ h. tt))))))));
     }
+
+pub points-format : Format points_of ArePoints points_items list_rules
+points-format = list-format 0x30 point-format
 
 -- ---- what a list covers
 

@@ -10,3 +10,7 @@ pub mod AuthorityKey
 pub mod NameConstraints
 pub mod NameViews
 pub mod View
+pub mod Known
+pub mod Ext
+pub mod ExtView
+pub mod Rules

@@ -16,7 +16,9 @@ use Rattle.ts_ext.specs.declared.distribution_point.DistributionPoint as lent_po
 use Rattle.ts_ext.specs.declared.issuing_distribution_point.IssuingDistributionPoint as lent_scope
 use Rattle.ts_ext.specs.declared.authority_key_identifier.AuthorityKeyIdentifier as lent_key
 use Rattle.ts_ext.specs.declared.name_constraints.NameConstraints as lent_constraints
-use Rattle.ts_ext.specs.Points.{PointName, fullName, nameRelativeToCRLIssuer, Point, ListScope}
+use Rattle.ts_ext.specs.declared.alternative_names.AlternativeNames as lent_names
+use Rattle.ts_ext.specs.declared.distribution_points.DistributionPoints as lent_points
+use Rattle.ts_ext.specs.Points.{PointName, fullName, nameRelativeToCRLIssuer, Point, ListScope, point_item}
 use Rattle.ts_ext.specs.AuthorityKey.{AuthorityKey}
 use Rattle.ts_ext.specs.NameConstraints.{Constraints}
 
@@ -70,3 +72,11 @@ name_constraints_in n =
       permittedSubtrees = option_map subtrees_in n.permitted;
       excludedSubtrees = option_map subtrees_in n.excluded;
     }
+
+-- names of a subject or an issuer
+abbrev pub alternatives_in : lent_names.AlternativeNames → List GeneralName
+alternatives_in a = names_in a.list
+
+-- distribution points
+abbrev pub points_in : lent_points.DistributionPoints → List Point
+points_in p = items_at point_item (inside (now p.list.element))

@@ -18,7 +18,7 @@ use Rattle.ts_name.specs.GeneralTable.{general_name}
 use Rattle.ts_name.specs.Subtree.{GeneralSubtree, IsSubtree, subtree_of}
 use Rattle.ts_name.specs.SubtreeTable.{general_subtree}
 use Rattle.ts_name.specs.Rows.{set_rules, attribute_type_and_value}
-use Rattle.ts_name.specs.Shape.{Row, Shape, tagged, no_other, optional, items, nothing, plain, ◌then◌, ◌or◌, der_rules, no_rules, primitive}
+use Rattle.ts_name.specs.Shape.{Row, Shape, tagged, no_other, optional, items, nothing, plain, ◌then◌, ◌or◌, der_rules, no_rules, primitive, sequence}
 use Rattle.ts_ext.specs.Spelling.{IfTrue, AreReasonFlags}
 use Rattle.ts_ext.specs.Reading.{reason_flags_of}
 use Rattle.ts_ext.specs.Table.{flag, reason_flags_rules}
@@ -89,6 +89,20 @@ point_of e = do
 
 abbrev pub point_fields : Shape
 point_fields = optional wrapped_name then optional (primitive 0x81 reason_flags_rules) then optional (general_names 0xA2) then nothing
+
+-- DistributionPoint, in a SEQUENCE
+abbrev pub point_item : Tlv → Result Point Fault
+point_item = of_tag 0x30 point_of
+
+-- CRLDistributionPoints ::= SEQUENCE SIZE (1..MAX) OF DistributionPoint (4.2.1.13); FreshestCRL is the same (4.2.1.15, 5.2.6)
+abbrev pub ArePoints : List ℕ → List Point → Type 0
+ArePoints = AreSome (Within 0x30 IsPoint)
+
+abbrev pub points_of : Tlv → Result (List Point) Fault
+points_of = some_of point_item
+
+abbrev pub points_items : Shape
+points_items = items (sequence point_fields)
 
 -- ---- the scope of a list
 

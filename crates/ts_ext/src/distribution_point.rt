@@ -118,15 +118,14 @@ fn read_point<'a>(element: Element<'a>) -> Result<DistributionPoint<'a>, Fault>
 }
 
 impl<'a> FromElement<'a> for DistributionPoint<'a> {
-    ghost use Rattle.ts_name.specs.Items.{of_tag};
-    ghost use Rattle.ts_ext.specs.Points.{Point, point_of};
+    ghost use Rattle.ts_ext.specs.Points.{Point, point_item};
     ghost use Rattle.ts_ext.specs.NameViews.{point_in};
 
     ghost Record = { Point };
 
     ghost record_of = { point_in };
 
-    ghost reading = { of_tag 0x30 point_of };
+    ghost reading = { point_item };
 
     #[tactic(auto, unfolding(ts_name::specs::Items::of_tag))]
     fn read(element: Element<'a>) -> Result<DistributionPoint<'a>, Fault> {

@@ -3,6 +3,7 @@
 //! value's element and does not look at its tag.
 #![tactic(auto)]
 
+mod alternative_names;
 mod authority_key_identifier;
 mod basic_constraints;
 #[cfg(test)]
@@ -12,11 +13,14 @@ mod certificate_policies;
 mod constraint_tests;
 mod crl_number;
 mod distribution_point;
+mod distribution_points;
+mod ext;
 mod extended_key_usage;
 mod fields;
 mod invalidity_date;
 mod issuing_distribution_point;
 mod key_usage;
+mod known;
 mod name_constraints;
 mod named_bits;
 mod policy_constraints;
@@ -30,19 +34,24 @@ mod reason_code;
 mod reason_flag;
 mod reason_flags;
 mod reason_set;
+mod rules;
 mod skip_certs;
 #[cfg(test)]
 mod tests;
 
+pub use alternative_names::AlternativeNames;
 pub use authority_key_identifier::AuthorityKeyIdentifier;
 pub use basic_constraints::BasicConstraints;
 pub use certificate_policies::CertificatePolicies;
 pub use crl_number::{BaseCrlNumber, CrlNumber};
 pub use distribution_point::{DistributionPoint, PointName};
+pub use distribution_points::DistributionPoints;
+pub use ext::Ext;
 pub use extended_key_usage::ExtendedKeyUsage;
 pub use invalidity_date::InvalidityDate;
 pub use issuing_distribution_point::IssuingDistributionPoint;
 pub use key_usage::KeyUsage;
+pub use known::{Holder, Known};
 pub use name_constraints::NameConstraints;
 pub use policy_constraints::PolicyConstraints;
 pub use policy_information::PolicyInformation;

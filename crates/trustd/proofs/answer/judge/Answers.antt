@@ -1,19 +1,18 @@
 -- The verdict of the two certificates that the octets are.
-use Rattle.std.proofs.Common.{◌≡◌, subst, [], ◌∷◌}
+use Rattle.std.proofs.Common.{◌≡◌, subst, [], ◌∷◌, string_bytes}
+use Rattle.std.proofs.lemmas.Result.{IfOk-weaker}
 use Rattle.ts_sig.specs.StandIn.{stand_in_accepts}
 use Rattle.ts_cert.specs.CertView.{cert_in}
 use Rattle.ts_path.specs.Question.{Issuer}
 use Rattle.ts_path.specs.Verdict.{IsVerdict}
+use Rattle.trustd.specs.CheckLine.{verdict_text, IsJudged}
 use Rattle.trustd.proofs.answer.judge.Goals as goal
 
-pub returns-clause-said : goal.returns-clause-said
-returns-clause-said c =
-    let target = cert_in c.in_ok-target.target in (
-      cert_in c.in_ok-anchor.anchor,
-      target,
-      c.validate-verdict.result,
-      c.in_ok-anchor.ensures.exact,
-      c.in_ok-target.ensures.exact,
-      subst (λ (i : Issuer). IsVerdict (record { anchor = i; chain = target ∷ []; moment = c.args.moment; good = stand_in_accepts }) c.validate-verdict.result) c.of.ensures c.validate-verdict.ensures,
-      c.in_ok-verdict_text.ensures.said,
-    )
+pub returns : goal.returns
+returns c =
+    let target = cert_in c.cert-2.result in
+    let verdict = c.validate-verdict.result in
+    let judged = subst (λ (i : Issuer). IsVerdict (record { anchor = i; chain = target ∷ []; moment = c.args.moment; good = stand_in_accepts }) verdict) c.of.ensures c.validate-verdict.ensures in
+    IfOk-weaker c.print_verdict.result (λ text. string_bytes text ≡ verdict_text verdict)
+    (λ text. IsJudged c.args.anchor.now.octets.items c.args.target.now.octets.items c.args.moment (string_bytes text))
+    (λ text said. (cert_in c.cert.result, target, verdict, c.cert.ensures, c.cert-2.ensures, judged, said)) c.print_verdict.ensures

@@ -1,5 +1,5 @@
 -- What was read is answered.
-use Rattle.std.proofs.Common.{rules, ◌≡◌, ◌<◌, ℕ, length, take, Result, subst, arith}
+use Rattle.std.proofs.Common.{◌<◌, ℕ, length, take, subst, arith}
 use Rattle.std.specs.Io.KnownBytes.{Consumes, ReadConsumes}
 use Rattle.trustd.proofs.Scanning.{step_done, step_fed}
 use Rattle.trustd.proofs.lab.step.Goals as goal

@@ -1,17 +1,10 @@
 -- The script ended where a line would begin, or its last line is answered.
-use Rattle.std.proofs.Common.{◌≡◌, ◌≢◌, ◌∙◌, ℕ, List, [], ◌∷◌, length, refl, sym, arith, vec_len}
+use Rattle.std.proofs.Common.{◌≡◌, ◌∙◌, length, sym, arith, vec_len}
 use Rattle.std.proofs.lemmas.Bool.{eqb-true, eqb-false}
 use Rattle.trustd.specs.Known.{known_in}
+use Rattle.trustd.proofs.Cutting.{no_items, some_items}
 use Rattle.trustd.proofs.Scanning.{closes, closes_empty}
 use Rattle.trustd.proofs.scanner.Scanner.end.Goals as goal
-
-no_items : (xs : List ℕ) → length xs ≡ 0 → xs ≡ []
-no_items [] e = refl
-no_items (x ∷ xs) e = absurd (omega arith)
-
-some_items : (xs : List ℕ) → length xs ≢ 0 → xs ≢ []
-some_items [] e = absurd (e refl)
-some_items (x ∷ xs) e = λ none. absurd cc
 
 pub returns-then-is_empty-clause-closes : goal.returns-then-is_empty-clause-closes
 returns-then-is_empty-clause-closes g c =

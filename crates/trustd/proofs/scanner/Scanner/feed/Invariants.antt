@@ -1,5 +1,5 @@
 -- The scanner at the start owes of all what the scanner now owes of what follows the octets that it took.
-use Rattle.std.proofs.Common.{◌≡◌, ◌+◌, ◌≤◌, ◌++◌, List, ℕ, drop, Option}
+use Rattle.std.proofs.Common.{◌+◌, ◌≤◌, ◌++◌, List, ℕ, drop, Option}
 use Rattle.trustd.specs.declared.script.WrongLine.{WrongLine}
 use Rattle.trustd.specs.Scanner.{Owes}
 use Rattle.trustd.proofs.scanner.Scanner.feed.Given as goal

@@ -1,5 +1,5 @@
 -- The line said its text, or was refused.
-use Rattle.std.proofs.Common.{◌≡◌, ℕ, ◌+◌, refl, ap, subst, Result, Ok, Err}
+use Rattle.std.proofs.Common.{ℕ, ◌+◌, refl, ap, subst, Result}
 use Rattle.trustd.specs.declared.scanner.Scanner.{Scanner}
 use Rattle.trustd.specs.declared.scanner.Stop.{Stop}
 use Rattle.trustd.specs.Scanner.{Finishes}

@@ -1,0 +1,75 @@
+-- What answers a line, or refuses it.
+use Rattle.std.proofs.Common.{◌≡◌, ◌≢◌, ◌∙◌, refl, sym, subst, ℕ, List, Option, None, Some, is_some, option_map, MatchOption, ok_or, true, Result, Ok, Err, IfOk, IfErr, string_bytes}
+use Rattle.std.specs.declared.string.String.{String}
+use Rattle.std.specs.declared.alloc.Global.{Global}
+use Rattle.ts_time.specs.Text.{IsGeneral}
+use Rattle.ts_make.specs.declared.description.CertText.{CertText}
+use Rattle.trustd.specs.declared.answer.CertWords.{CertWords}
+use Rattle.trustd.specs.declared.answer.CheckWords.{CheckWords}
+use Rattle.trustd.specs.declared.script.LineFault.{LineFault}
+use Rattle.trustd.specs.declared.script.LineFault.TheVariants.{Unknown, Form, Name, Limit, Memory}
+use Rattle.trustd.specs.Words.{IsName, IsNumber, IsHex, IsDn}
+use Rattle.trustd.specs.Known.{Entry}
+use Rattle.trustd.specs.CertLine.{cert_line, IsSaid, IsCertLine, RefusesWords, RefusesCert}
+use Rattle.trustd.specs.CheckLine.{check_line, IsCheckSaid, RefusesCheck, names_of}
+use Rattle.trustd.specs.Says.{Answers, check_kind, kind_of}
+
+-- two lists of words in the places of a `cert` line say the same
+pub said_again : (v w : CertWords) (text : CertText) → cert_line v ≡ cert_line w → IsSaid v text → IsSaid w text
+unfolding cert_line
+said_again v w text same said =
+    let serial : v.serial.now ≡ w.serial.now = cc in
+    let issuer : v.issuer.now ≡ w.issuer.now = cc in
+    let subject : v.subject.now ≡ w.subject.now = cc in
+    let from : v.from.now ≡ w.from.now = cc in
+    let to : v.to.now ≡ w.to.now = cc in
+    let key : v.key.now ≡ w.key.now = cc in
+    let signer : v.signer.now ≡ w.signer.now = cc in
+    record {
+      serial = subst (λ x. IsNumber x text.serial) serial said.serial;
+      issuer = subst (λ x. IsDn x text.issuer.now) issuer said.issuer;
+      subject = subst (λ x. IsDn x text.subject.now) subject said.subject;
+      not_before = subst (λ x. IsGeneral x text.from) from said.not_before;
+      not_after = subst (λ x. IsGeneral x text.to) to said.not_after;
+      key = subst (λ x. IsHex x text.key.now) key said.key;
+      signer = subst (λ x. IsHex x text.signer.now) signer said.signer;
+    }
+
+-- a line is refused as its words are
+pub words_refused : (known : List Entry) (line : List ℕ) (c : CertWords) (fault : LineFault) → IsCertLine line c
+    → (IsName c.name.now → RefusesWords known c fault) → RefusesCert known line fault
+words_refused known line c Form is refused = λ d stands text said. refused is.1 text (said_again d c text (sym stands.0 ∙ is.0) said)
+words_refused known line c Name is refused = (c, is, refused is.1)
+words_refused known line c Limit is refused = (c, is, refused is.1)
+words_refused known line c Memory is refused = tt
+words_refused known line c Unknown is refused = refused is.1
+
+-- the times of two `check` lines
+pub same_time : (v w : CheckWords) → check_line v ≡ check_line w → v.time.now ≡ w.time.now
+unfolding check_line
+same_time v w same = cc
+
+-- and their names
+pub same_names : (v w : CheckWords) → check_line v ≡ check_line w → names_of v ≡ names_of w
+unfolding check_line
+same_names v w same = cc
+
+-- what a `check` line is answered
+pub check_answered : (known : List Entry) (line : List ℕ) (r : Result (String Global) LineFault) → kind_of line ≡ check_kind
+    → IfOk r (λ text. IsCheckSaid known line (string_bytes text)) → IfErr r (RefusesCheck known line) → Answers known line r known
+check_answered known line (Ok text) kind said refused = rw kind (said, refl)
+check_answered known line (Err fault) kind said refused = rw kind refused
+
+-- a reader that answered nothing is refused for its form
+pub form_of_none : {T : Type 0} (P : Type 0) (Q : T → Type 0) (o : Option T) (fault : LineFault) → Err fault ≡ ok_or o Form → MatchOption o P Q → (fault ≡ Form) × P
+form_of_none P Q None fault is h = (cc is, h)
+form_of_none P Q (Some x) fault is h = cc is
+
+pub some_of_ok : {T : Type 0} (P : Type 0) (Q : T → Type 0) (o : Option T) (x : T) → Ok x ≡ ok_or o Form → MatchOption o P Q → Q x
+some_of_ok P Q None x is h = cc is
+some_of_ok P Q (Some y) x is h = let same : y ≡ x = cc is in subst Q same h
+
+-- what was found is there
+pub found_some : {T : Type 0} (f : T → List ℕ) (o : Option T) (q : Option (List ℕ)) → is_some o ≡ true → option_map f o ≡ q → q ≢ None
+found_some f None q is same = cc is
+found_some f (Some x) q is same = λ none. cc (same ∙ none)

@@ -1,0 +1,13 @@
+-- A `check` line is answered as one.
+use Rattle.std.proofs.Common.{rules, ◌≡◌, arith}
+use Rattle.std.proofs.lemmas.Grind.{common_steps}
+use Rattle.trustd.specs.Known.{known_in}
+use Rattle.trustd.specs.Says.{kind_of, check_kind}
+use Rattle.trustd.proofs.Answering.{check_answered}
+use Rattle.trustd.proofs.answer.answer_line.Goals as goal
+
+pub returns-then-eq-2 : goal.returns-then-eq-2
+returns-then-eq-2 c =
+    let kind : kind_of c.args.line.now ≡ check_kind = first_of (search rules, grind (arith, common_steps)) in
+    let known = c.deref.ensures.value in
+    check_answered (known_in c.args.known.now.items) c.args.line.now c.answer_check.result kind (rw known at c.answer_check.ensures.said) (rw known at c.answer_check.ensures.fault)

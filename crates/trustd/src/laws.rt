@@ -1,0 +1,15 @@
+//! Laws about what a script says. Each stands on a function that does nothing.
+
+ghost use Rattle.std.specs.Prelude.{◌≡◌, ◌≢◌, ℕ, List};
+ghost use Rattle.trustd.specs.declared.script.LineFault.{LineFault};
+ghost use Rattle.trustd.specs.declared.script.LineFault.TheVariants.{Memory};
+ghost use Rattle.trustd.specs.Known.{Entry};
+ghost use Rattle.trustd.specs.Says.{Says, Refuses};
+
+/// A line is answered, or refused with one word: only `memory` may stand for any other.
+pub fn one_word()
+    ensures answered { (known after : List Entry) (line text : List ℕ) (fault : LineFault)
+        → Says known line text after → Refuses known line fault → fault ≡ Memory }
+    ensures refused { (known : List Entry) (line : List ℕ) (fault other : LineFault)
+        → Refuses known line fault → Refuses known line other → fault ≢ Memory → other ≢ Memory → fault ≡ other }
+{}
