@@ -102,7 +102,7 @@ subtree-again e s is =
     let d = end-again (e.start + length is.named + length is.least + length is.most) in
     rw (b, m, x, d) (ap (λ (y : List ℕ). Ok (record { base = s.base; minimum = y; maximum = s.maximum })) (sym is.minimum.value))
 
-subtree-value : Value 0x30 subtree_of IsSubtree
+pub subtree-value : Value 0x30 subtree_of IsSubtree
 subtree-value = record { found = λ e s fits w read. subtree-found e s fits read; again = λ e s w is. subtree-again e s is }
 
 -- ---- the octets of a constraint

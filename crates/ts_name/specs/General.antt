@@ -67,7 +67,7 @@ IsGeneralName = IsChoice IsForm
 
 -- ---- reading
 
--- [4] EXPLICIT Name
+-- directoryName [4] EXPLICIT Name: one name, and nothing behind it
 unfoldable pub directory_of : Tlv → Result (List (List Attr)) Fault
 directory_of e = do
   name ← name_at (inside e)
@@ -88,5 +88,6 @@ general_of e =
     else (if e.tag == 0x88 then (value_at oid_rules (λ c. c) e >>= λ oid. Ok (registeredID oid))
     else Err (fault_at e.at WrongTag)))))))))
 
+-- the general name that stands next
 abbrev pub general_at : Place → Result (GeneralName × Place) Fault
 general_at = each general_of

@@ -19,7 +19,7 @@ pub record GeneralSubtree : Type 0 where
   pub minimum : List ℕ
   pub maximum : Option (List ℕ)
 
--- the content of INTEGER 0
+-- the content of INTEGER 0 (X.690 8.3)
 abbrev pub is_zero : List ℕ → Bool
 is_zero (octet ∷ []) = octet == 0
 is_zero content = false
@@ -58,13 +58,15 @@ pub record IsConstraint (octets : List ℕ) (s : GeneralSubtree) : Type 0 where
 
 -- ---- reading
 
--- an INTEGER, and not the default
+-- an INTEGER, and then not the default (X.690 8.3.2, 11.5)
 abbrev pub minimum_rules : List Rule
 minimum_rules = rule IntegerForm (λ c. not (is_shortest c)) ∷ rule DefaultEncoded (λ c. is_zero c) ∷ []
 
+-- minimum [0], where it is encoded
 abbrev pub minimum_of : Tlv → Result (List ℕ) Fault
 minimum_of = value_at minimum_rules (λ c. c)
 
+-- maximum [1]
 abbrev pub maximum_of : Tlv → Result (List ℕ) Fault
 maximum_of = value_at integer_rules (λ c. c)
 
