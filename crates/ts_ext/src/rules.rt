@@ -1,20 +1,26 @@
 //! The rules of the values of extensions beside those of DER.
 
-ghost use Rattle.std.specs.Prelude.{◌≡◌, option_map, nat_lt};
+ghost use Rattle.std.specs.Prelude.{◌≡◌, option_map, nat_lt, Some, None, if◌then◌else◌};
 ghost use Rattle.std.specs.List.{list_all};
 ghost use Rattle.ts_name.specs.General.{has_address_length, has_range_length};
 ghost use Rattle.ts_name.specs.Subtree.{is_unbounded};
 ghost use Rattle.ts_ext.specs.ExtView.{ext_in};
 ghost use Rattle.ts_ext.specs.NameViews.{names_in, subtrees_in, point_name_in, point_in, points_in, name_constraints_in};
-ghost use Rattle.ts_ext.specs.Rules.{all_of, all_subtrees, is_bounded_by_none, has_point_addresses, has_addresses, has_address_lengths, times_stated, are_distinct, states_policies_once, broken_rule};
-ghost use Rattle.ts_ext.specs.View.{policies_in};
+ghost use Rattle.ts_ext.specs.Rules.{all_of, has_point_addresses, has_addresses, times_stated, are_distinct, broken_rule};
+ghost use Rattle.ts_ext.specs.Ext.{nameConstraints};
+ghost use Rattle.ts_ext.specs.Reading.{policy_information_in};
+ghost use Rattle.ts_der.specs.Element.{inside};
+ghost use Rattle.ts_der.specs.View.{now};
+ghost use Rattle.ts_name.specs.Items.{items_at};
+ghost use Rattle.ts_name.specs.declared.fault.CertRule.TheVariants.{AddressLength};
 
-use crate::certificate_policies::CertificatePolicies;
 use crate::distribution_point::{DistributionPoint, PointName};
 use crate::distribution_points::DistributionPoints;
 use crate::ext::Ext;
 use crate::name_constraints::NameConstraints;
-use ts_name::{CertRule, GeneralNames, SequenceOf, Subtree};
+use crate::policy_information::PolicyInformation;
+use ts_der::Element;
+use ts_name::{CertRule, GeneralNames, SequenceItems, SequenceOf, Subtree};
 
 /// Whether each IP address among names has 4 octets or 16.
 fn have_address_length(names: GeneralNames<'_>) -> bool
@@ -54,7 +60,9 @@ fn points_have_address_length(points: DistributionPoints<'_>) -> bool
 {
     for point in points.iter() {
         let DistributionPoint {
-            name, crl_issuer, ..
+            name,
+            crl_issuer,
+            ..
         } = point;
         if !point_has_address_length(name) || !have_address_length_if_any(crl_issuer) {
             return false;
@@ -63,42 +71,40 @@ fn points_have_address_length(points: DistributionPoints<'_>) -> bool
     true
 }
 
-/// Whether each subtree has minimum zero and no maximum.
-fn are_unbounded<'a>(subtrees: Option<SequenceOf<'a, Subtree<'a>>>) -> bool
-    ensures { result ≡ all_of is_unbounded (option_map subtrees_in subtrees.entry) }
-{
-    let Some(subtrees) = subtrees else {
-        return true;
-    };
-    for subtree in subtrees.iter() {
-        if !subtree.is_unbounded() {
-            return false;
-        }
-    }
-    true
+/// What the subtrees of a list keep to.
+#[derive(Clone, Copy)]
+struct Bounds {
+    /// Each has minimum zero and no maximum.
+    are_unbounded: bool,
+    /// Each IP address among their bases has 8 octets or 32.
+    have_range_length: bool,
 }
 
-/// Whether each IP address among the bases of subtrees has 8 octets or 32.
-fn have_range_length<'a>(subtrees: Option<SequenceOf<'a, Subtree<'a>>>) -> bool
-    ensures { result ≡ all_of (λ s. has_range_length s.base) (option_map subtrees_in subtrees.entry) }
+/// What the subtrees of a list, if there is one, keep to.
+fn bounds_of<'a>(subtrees: Option<SequenceOf<'a, Subtree<'a>>>) -> Bounds
+    ensures unbounded { result.are_unbounded ≡ all_of is_unbounded (option_map subtrees_in subtrees.entry) }
+    ensures range { result.have_range_length ≡ all_of (λ s. has_range_length s.base) (option_map subtrees_in subtrees.entry) }
 {
+    let mut bounds = Bounds {
+        are_unbounded: true,
+        have_range_length: true,
+    };
     let Some(subtrees) = subtrees else {
-        return true;
+        return bounds;
     };
     for subtree in subtrees.iter() {
-        if !subtree.has_address_length() {
-            return false;
-        }
+        bounds.are_unbounded = bounds.are_unbounded && subtree.is_unbounded();
+        bounds.have_range_length = bounds.have_range_length && subtree.has_address_length();
     }
-    true
+    bounds
 }
 
-/// Whether a policy is stated more than once.
-fn is_stated_twice(policies: &CertificatePolicies<'_>, policy: &[u8]) -> bool
-    ensures { result ≡ nat_lt 1 (times_stated policy.now (policies_in policies.now)) }
+/// Whether a policy is stated more than once among those within an element.
+fn is_stated_twice(policies: Element<'_>, policy: &[u8]) -> bool
+    ensures { result ≡ nat_lt 1 (times_stated policy.now (items_at policy_information_in (inside (now policies.entry)))) }
 {
     let mut is_stated = false;
-    for other in policies.iter() {
+    for other in SequenceItems::<PolicyInformation>::within(policies) {
         if other.policy_identifier.content == policy {
             if is_stated {
                 return true;
@@ -110,10 +116,10 @@ fn is_stated_twice(policies: &CertificatePolicies<'_>, policy: &[u8]) -> bool
 }
 
 /// Whether no policy is stated twice. Without memory each is compared with each.
-fn are_distinct_policies(policies: &CertificatePolicies<'_>) -> bool
-    ensures { result ≡ are_distinct (policies_in policies.now) }
+fn are_distinct_policies(policies: Element<'_>) -> bool
+    ensures { result ≡ are_distinct (items_at policy_information_in (inside (now policies.entry))) }
 {
-    for policy in policies.iter() {
+    for policy in SequenceItems::<PolicyInformation>::within(policies) {
         if is_stated_twice(policies, policy.policy_identifier.content) {
             return false;
         }
@@ -121,64 +127,53 @@ fn are_distinct_policies(policies: &CertificatePolicies<'_>) -> bool
     true
 }
 
+/// `AddressLength`, unless each address has its length.
+fn length_rule(has_lengths: bool) -> Option<CertRule>
+    ensures { result ≡ (if has_lengths then None else Some AddressLength) }
+{
+    (!has_lengths).then_some(CertRule::AddressLength)
+}
+
+/// The first of the rules that name constraints break.
+fn constraints_rule(constraints: NameConstraints<'_>) -> Option<CertRule>
+    ensures { result ≡ broken_rule (nameConstraints (name_constraints_in constraints.entry)) }
+{
+    let permitted = bounds_of(constraints.permitted);
+    let excluded = bounds_of(constraints.excluded);
+    if !permitted.are_unbounded || !excluded.are_unbounded {
+        Some(CertRule::SubtreeBounds)
+    } else if !permitted.have_range_length || !excluded.have_range_length {
+        Some(CertRule::AddressLength)
+    } else {
+        None
+    }
+}
+
 impl<'a> Ext<'a> {
     /// The first of the rules beside those of DER that the value breaks: `SubtreeBounds` where a subtree of name
     /// constraints has a minimum other than 0 or a maximum (RFC 5280 4.2.1.10); `AddressLength` where an IP address has
     /// not 4 octets or 16 (4.2.1.6), in a constraint 8 or 32; `DuplicatePolicy` where a policy is stated twice (4.2.1.4).
-    pub fn broken_rule(&self) -> Option<CertRule>
-        ensures { result ≡ broken_rule (ext_in self.now) }
-    {
-        if !self.is_bounded_by_none() {
-            Some(CertRule::SubtreeBounds)
-        } else if !self.has_address_lengths() {
-            Some(CertRule::AddressLength)
-        } else if !self.states_policies_once() {
-            Some(CertRule::DuplicatePolicy)
-        } else {
-            None
-        }
-    }
-
-    fn is_bounded_by_none(&self) -> bool
-        ensures { result ≡ is_bounded_by_none (ext_in self.now) }
+    pub fn broken_rule(self) -> Option<CertRule>
+        ensures { result ≡ broken_rule (ext_in self.entry) }
     {
         match self {
-            Ext::NameConstraints(NameConstraints {
-                permitted,
-                excluded,
-            }) => are_unbounded(*permitted) && are_unbounded(*excluded),
-            _ => true,
-        }
-    }
-
-    fn has_address_lengths(&self) -> bool
-        ensures { result ≡ has_address_lengths (ext_in self.now) }
-    {
-        match self {
+            Ext::NameConstraints(constraints) => constraints_rule(constraints),
+            Ext::CertificatePolicies(policies) => {
+                (!are_distinct_policies(policies.list.element)).then_some(CertRule::DuplicatePolicy)
+            }
             Ext::SubjectAltName(names)
             | Ext::IssuerAltName(names)
-            | Ext::CertificateIssuer(names) => have_address_length(names.list),
-            Ext::IssuingDistributionPoint(point) => point_has_address_length(point.name),
-            Ext::NameConstraints(NameConstraints {
-                permitted,
-                excluded,
-            }) => have_range_length(*permitted) && have_range_length(*excluded),
+            | Ext::CertificateIssuer(names) => length_rule(have_address_length(names.list)),
+            Ext::IssuingDistributionPoint(point) => {
+                length_rule(point_has_address_length(point.name))
+            }
             Ext::CrlDistributionPoints(points) | Ext::FreshestCrl(points) => {
-                points_have_address_length(*points)
+                length_rule(points_have_address_length(points))
             }
             Ext::AuthorityKeyIdentifier(key) => {
-                have_address_length_if_any(key.authority_cert_issuer)
+                length_rule(have_address_length_if_any(key.authority_cert_issuer))
             }
-            _ => true,
-        }
-    }
-
-    fn states_policies_once(&self) -> bool
-        ensures { result ≡ states_policies_once (ext_in self.now) }
-    {
-        match self {
-            Ext::CertificatePolicies(policies) => are_distinct_policies(policies),
-            _ => true,
+            _ => None,
         }
     }
 }

@@ -82,6 +82,18 @@ pub struct SequenceItems<'a, T> {
     item: PhantomData<T>,
 }
 
+impl<'a, T> SequenceItems<'a, T> {
+    /// The items within an element, up to the first that can't be read.
+    pub fn within(element: Element<'a>) -> SequenceItems<'a, T>
+        ensures { result.rest ≡ inside (now element.entry) }
+    {
+        SequenceItems {
+            rest: element.reader(),
+            item: PhantomData,
+        }
+    }
+}
+
 impl<'a, T: FromElement<'a>> Iterator for SequenceItems<'a, T> {
     type Item = T;
 
@@ -120,10 +132,7 @@ impl<'a, T: FromElement<'a>> SequenceOf<'a, T> {
     pub fn iter(self) -> SequenceItems<'a, T>
         ensures { result.rest ≡ inside (now self.entry.element) }
     {
-        SequenceItems {
-            rest: self.element.reader(),
-            item: PhantomData,
-        }
+        SequenceItems::within(self.element)
     }
 }
 

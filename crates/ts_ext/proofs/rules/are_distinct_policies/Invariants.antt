@@ -1,15 +1,16 @@
-use Rattle.std.proofs.Common.{◌≡◌, ℕ, ◌+◌, cond, List}
+use Rattle.std.proofs.Common.{◌≡◌, ℕ, ◌+◌, ◌&&◌, cond, List}
 use Rattle.std.specs.Prelude.{option_map, nat_lt, not}
 use Rattle.std.specs.List.{list_all}
+use Rattle.ts_der.specs.Element.{inside}
+use Rattle.ts_der.specs.View.{now}
 use Rattle.ts_name.specs.Items.{items_at, of_tag}
 use Rattle.ts_name.specs.Subtree.{is_unbounded, subtree_of}
 use Rattle.ts_name.specs.General.{has_range_length}
-use Rattle.ts_ext.specs.NameViews.{points_in, subtrees_in}
-use Rattle.ts_ext.specs.View.{policies_in}
-use Rattle.ts_ext.specs.Points.{point_item}
+use Rattle.ts_ext.specs.NameViews.{subtrees_in}
 use Rattle.ts_ext.specs.Reading.{policy_information_in}
-use Rattle.ts_ext.specs.Rules.{all_of, has_addresses, times_stated, are_distinct}
+use Rattle.ts_ext.specs.Rules.{all_of, times_stated, are_distinct}
 use Rattle.ts_ext.proofs.rules.are_distinct_policies.Given as goal
 
 abbrev pub invariant-loop-policy : goal.invariant-loop-policy
-invariant-loop-policy l = are_distinct (policies_in l.fn.policies.now) ≡ list_all (λ p. not (nat_lt 1 (times_stated p.policyIdentifier (policies_in l.fn.policies.now)))) (items_at policy_information_in l.policy-iterator.rest)
+invariant-loop-policy l =
+    are_distinct (items_at policy_information_in (inside (now l.fn.policies))) ≡ list_all (λ p. not (nat_lt 1 (times_stated p.policyIdentifier (items_at policy_information_in (inside (now l.fn.policies)))))) (items_at policy_information_in l.policy-iterator.rest)
