@@ -4,5 +4,8 @@ pub mod BitPlaces
 pub mod NamedBits
 pub mod Flags
 pub mod Constraints
+pub mod Names
+pub mod Points
+pub mod KeyAndConstraints
 pub mod Lists
 pub mod Policies

@@ -4,4 +4,10 @@ pub mod NamedBits
 pub mod Policies
 pub mod Reading
 pub mod Table
+pub mod GeneralNames
+pub mod Points
+pub mod AuthorityKey
+pub mod NameConstraints
+pub mod NameViews
 pub mod View
+pub mod Known

@@ -1,10 +1,16 @@
 //! Fields that more than one SEQUENCE has. Each reads the element that stands next, which the reader has then passed.
 
 ghost use Rattle.ts_name.specs.Steps.{Takes};
+ghost use Rattle.std.specs.Prelude.{option_map};
+ghost use Rattle.ts_der.specs.BitsView.{bits_in};
 ghost use Rattle.ts_name.specs.Fields.{oid_at, optional_of};
-ghost use Rattle.ts_ext.specs.Reading.{small_of};
+ghost use Rattle.ts_ext.specs.Reading.{small_of, reason_flags_of};
+ghost use Rattle.ts_ext.specs.GeneralNames.{general_names_of};
+ghost use Rattle.ts_ext.specs.NameViews.{names_in};
 
+use crate::reason_flags::ReasonFlags;
 use ts_der::{Fault, OidRef, Reader};
+use ts_name::{GeneralNames, SequenceOf};
 
 pub(crate) const BOOLEAN: u8 = 0x01;
 
@@ -29,6 +35,34 @@ pub(crate) fn next_small_if_any(fields: &mut Reader<'_>, tag: u8) -> Result<Opti
 {
     match fields.optional(tag)? {
         Some(element) => Ok(Some(element.small()?)),
+        None => Ok(None),
+    }
+}
+
+/// Named bits of reasons, where an element of this tag stands.
+#[tactic(auto, unfolding(ts_name::specs::Fields::optional_of, ts_der::specs::Reading::optional_at))]
+pub(crate) fn next_flags_if_any<'a>(
+    fields: &mut Reader<'a>,
+    tag: u8,
+) -> Result<Option<ReasonFlags<'a>>, Fault>
+    ensures { Takes (option_map (λ f. bits_in f.bits)) fields.new result (optional_of tag reason_flags_of fields.old) }
+{
+    match fields.optional(tag)? {
+        Some(element) => Ok(Some(ReasonFlags::read(element)?)),
+        None => Ok(None),
+    }
+}
+
+/// General names, where an element of this tag stands.
+#[tactic(auto, unfolding(ts_name::specs::Fields::optional_of, ts_der::specs::Reading::optional_at))]
+pub(crate) fn next_names_if_any<'a>(
+    fields: &mut Reader<'a>,
+    tag: u8,
+) -> Result<Option<GeneralNames<'a>>, Fault>
+    ensures { Takes (option_map names_in) fields.new result (optional_of tag general_names_of fields.old) }
+{
+    match fields.optional(tag)? {
+        Some(element) => Ok(Some(SequenceOf::read(element)?)),
         None => Ok(None),
     }
 }

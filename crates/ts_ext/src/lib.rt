@@ -3,6 +3,7 @@
 //! value's element and does not look at its tag.
 #![tactic(auto)]
 
+mod authority_key_identifier;
 mod basic_constraints;
 #[cfg(test)]
 mod bit_tests;
@@ -10,10 +11,14 @@ mod certificate_policies;
 #[cfg(test)]
 mod constraint_tests;
 mod crl_number;
+mod distribution_point;
 mod extended_key_usage;
 mod fields;
 mod invalidity_date;
+mod issuing_distribution_point;
 mod key_usage;
+mod known;
+mod name_constraints;
 mod named_bits;
 mod policy_constraints;
 mod policy_information;
@@ -30,12 +35,17 @@ mod skip_certs;
 #[cfg(test)]
 mod tests;
 
+pub use authority_key_identifier::AuthorityKeyIdentifier;
 pub use basic_constraints::BasicConstraints;
 pub use certificate_policies::CertificatePolicies;
 pub use crl_number::{BaseCrlNumber, CrlNumber};
+pub use distribution_point::{DistributionPoint, PointName};
 pub use extended_key_usage::ExtendedKeyUsage;
 pub use invalidity_date::InvalidityDate;
+pub use issuing_distribution_point::IssuingDistributionPoint;
 pub use key_usage::KeyUsage;
+pub use known::{Holder, Known};
+pub use name_constraints::NameConstraints;
 pub use policy_constraints::PolicyConstraints;
 pub use policy_information::PolicyInformation;
 pub use policy_mapping::PolicyMapping;

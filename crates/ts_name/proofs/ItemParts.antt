@@ -1,26 +1,29 @@
 -- Items one after another: what is read is spelled so, what is spelled so is read, the first rule that is broken, and walks.
-use Rattle.std.proofs.Common.{◌≡◌, ◌≢◌, ℕ, zero, suc, ◌+◌, ◌<◌, ◌≤◌, Bool, true, false, cond, eqb, List, [], ◌∷◌, ◌++◌, length, Some, None, Result, Ok, Err, refl, sym, ap, subst, ◌∙◌, arith}
+use Rattle.std.proofs.Common.{◌≡◌, ◌≢◌, ℕ, zero, suc, ◌+◌, ◌<◌, ◌≤◌, Bool, true, false, cond, eqb, List, [], ◌∷◌, ◌++◌, length, Option, Some, None, Result, Ok, Err, refl, sym, ap, subst, ◌∙◌, arith}
 use Rattle.std.specs.Prelude.{option_map}
 use Rattle.std.proofs.lemmas.Bool.{eqb-true, eqb-false}
+use Rattle.std.proofs.lemmas.List.{append-nil}
 use Rattle.ts_der.specs.declared.fault.Fault.{Fault}
 use Rattle.ts_der.specs.declared.fault.DerFault.TheVariants.{Empty, WrongTag}
 use Rattle.ts_der.specs.Octets.{AreOctets}
 use Rattle.ts_der.specs.Answer.{◌>>=◌, refusal}
 use Rattle.ts_der.specs.Rules.{value_unless}
-use Rattle.ts_der.specs.Element.{Place, Tlv, inside}
-use Rattle.ts_der.specs.Reading.{fault_at, is_end, next_at, element_at, element_of, behind, located, value_at, many_from, many}
-use Rattle.ts_der.proofs.Laws.{bind_ok, ok_is}
+use Rattle.ts_der.specs.Element.{Place, Tlv, inside, spelled_at}
+use Rattle.ts_der.specs.Reading.{fault_at, is_end, next_at, element_at, element_of, behind, located, value_at, end_at, many_from, many}
+use Rattle.ts_der.proofs.Elements.{next-found}
+use Rattle.ts_der.proofs.Laws.{bind_ok, ok_is, next-only}
 use Rattle.ts_der.proofs.Many.{Consumes, is_end-length, many-end, many-step}
 use Rattle.ts_der.proofs.Sets.{next-consumes}
-use Rattle.ts_der.proofs.OctetLists.{AreOctets-back}
+use Rattle.ts_der.proofs.OctetLists.{AreOctets-part, AreOctets-back}
 use Rattle.ts_name.specs.Names.{within, some_rules}
 use Rattle.ts_name.specs.Fields.{Within}
-use Rattle.ts_name.specs.Items.{each, tagged_as, of_tag, some_of, AreItems, AreSome, first_then, upto_from, items_at}
+use Rattle.ts_name.specs.Items.{each, alone, tagged_as, of_tag, IsChoice, some_of, AreItems, AreSome, first_then, upto_from, items_at}
 use Rattle.ts_name.specs.declared.fault.CertFault.{CertFault}
 use Rattle.ts_name.specs.Fault.{der, breaks}
-use Rattle.ts_name.specs.Shape.{Row, Shape, ContentRules, tagged, no_other, items, ◌or_else◌, header_fault, row_fault, judge, der_rules}
+use Rattle.ts_name.specs.Shape.{Row, Shape, ContentRules, tagged, no_other, items, nothing, ◌then◌, ◌or_else◌, is_absent, header_fault, row_fault, judge, der_rules}
+use Rattle.ts_name.proofs.Shapes.{end-ok, end-again}
 use Rattle.ts_name.proofs.Parts.{Value, Part, within-part}
-use Rattle.ts_name.proofs.Judging.{Judged, bind-der, no_less, Headed, Reads, within-reads, items-judged, value-judged, next-reads}
+use Rattle.ts_name.proofs.Judging.{Judged, bind-der, no_more, no_less, Headed, Reads, under, then-judged, ends, within-reads, items-judged, value-judged, next-reads}
 
 pub each-consumes : {A : Type 0} (value : Tlv → Result A Fault) → Consumes (each value)
 unfolding each
@@ -64,6 +67,45 @@ pub tag-reads : {A : Type 0} (tag : ℕ) (shape : Shape) (rules : ContentRules) 
 tag-reads {A} tag shape rules value P j here =
     subst (λ (r : Result (A × Place) Fault). Judged (der r) (header_fault here or_else row_fault (tagged tag shape rules no_other) (element_of here)) (λ x. Headed here × (x.1 ≡ behind here) × P (element_of here) x.0))
     (sym (each-tag tag value here)) (within-reads tag shape rules value P j here)
+
+-- ---- one of several forms, by the tag
+
+-- an element of this tag, or what is read of others
+pub choice-found : {A : Type 0} (tag : ℕ) (e : Tlv) (value other : Result A Fault) (P : A → Type 0)
+    → (e.tag ≡ tag → (x : A) → value ≡ Ok x → P x) → ((x : A) → other ≡ Ok x → P x) → (x : A) → cond (eqb e.tag tag) value other ≡ Ok x → P x
+choice-found {A} tag e value other P f g x read = by_tag (eqb e.tag tag) refl read
+  where
+    by_tag : (b : Bool) → eqb e.tag tag ≡ b → cond b value other ≡ Ok x → P x
+    by_tag true t read = f (eqb-true e.tag tag t) x read
+    by_tag false t read = g x read
+
+-- an element of any form: what is read is spelled so, and what is spelled so is read
+pub form-part : {A : Type 0} (value : Tlv → Result A Fault) (Is : ℕ → List ℕ → A → Type 0)
+    → ((e : Tlv) (x : A) → AreOctets e.content → value e ≡ Ok x → Is e.tag e.content x) → ((e : Tlv) (x : A) → Is e.tag e.content x → value e ≡ Ok x) → Part (each value) (IsChoice Is)
+unfolding each
+form-part {A} value Is found again = record { found = part-found; again = part-again }
+  where
+    beside : Place → A → Result (A × Place) Fault
+    beside p x = Ok (x, p)
+
+    spelled : (here : Place) (e : Tlv) (x : A) (after : Place) → AreOctets here.rest → next_at here ≡ Ok (e, after) → value e ≡ Ok x → (w : List ℕ) × IsChoice Is w x × (here.rest ≡ w ++ after.rest)
+    spelled here e x after fits n v =
+        let s = next-found here e after fits n in
+        let inner : AreOctets e.content = AreOctets-part e.tag e.content after.rest (subst AreOctets (s.whole ∙ ap (λ (w : List ℕ). w ++ after.rest) s.spelled) fits) in
+        (e.whole, record { tag = e.tag; content = e.content; fits = s.fits; spelled = s.spelled; form = found e x inner v }, s.whole)
+
+    part-found : (here : Place) (x : A) (after : Place) → AreOctets here.rest → each value here ≡ Ok (x, after) → (w : List ℕ) × IsChoice Is w x × (here.rest ≡ w ++ after.rest)
+    part-found here x after fits read =
+        let b = bind_ok (next_at here) (λ e. value e.0 >>= beside e.1) (x, after) read in
+        let v = bind_ok (value b.0.0) (beside b.0.1) (x, after) b.2 in
+        subst (λ (p : A × Place). (w : List ℕ) × IsChoice Is w p.0 × (here.rest ≡ w ++ p.1.rest)) (ok_is {A = A × Place} {E = Fault} (v.0, b.0.1) (x, after) v.2)
+        (spelled here b.0.0 v.0 b.0.1 fits b.1 v.1)
+
+    part-again : (here : Place) (x : A) (w rest : List ℕ) → IsChoice Is w x → here.rest ≡ w ++ rest → each value here ≡ Ok (x, record { rest = rest; at = here.at + length w })
+    part-again here x w rest is e =
+        let one = next-only here is.tag is.content rest is.fits (e ∙ ap (λ (o : List ℕ). o ++ rest) is.spelled) in
+        let read = again (spelled_at here.at is.tag is.content) x is.form in
+        rw (one, read) (ap (λ (o : List ℕ). Ok (x, record { rest = rest; at = here.at + length o })) (sym is.spelled))
 
 -- ---- walks
 
@@ -254,6 +296,16 @@ some-walked {A} value e ok = by_items (many (each value) (inside e)) refl ok
 
 -- ---- the first rule that is broken
 
+-- a row of one tag, or what the next row says
+pub choice-judged : {A : Type 0} (tag : ℕ) (shape : Shape) (rules : ContentRules) (e : Tlv) (value rest : Result A Fault) (other : Option CertFault)
+    → Judged (der value) (judge shape (inside e) or_else option_map (breaks e.at) (rules e.content)) (λ x. Unit {0}) → Judged (der rest) other (λ x. Unit {0})
+    → Judged (der (cond (eqb e.tag tag) value rest)) (cond (eqb e.tag tag) (judge shape (inside e) or_else option_map (breaks e.at) (rules e.content)) other) (λ x. Unit {0})
+choice-judged {A} tag shape rules e value rest other j k = by_tag (eqb e.tag tag)
+  where
+    by_tag : (b : Bool) → Judged (der (cond b value rest)) (cond b (judge shape (inside e) or_else option_map (breaks e.at) (rules e.content)) other) (λ x. Unit {0})
+    by_tag true = j
+    by_tag false = k
+
 -- items of a row, and then that there is one
 pub some-judged : {A : Type 0} (row : Row) (value : Tlv → Result A Fault) (P : Tlv → A → Type 0) → Reads row (λ here. der (each value here)) P
     → (e : Tlv) → Judged (der (some_of value e)) (judge (items row) (inside e) or_else option_map (breaks e.at) (der_rules some_rules e.content)) (λ xs. Unit {0})
@@ -267,3 +319,32 @@ some-judged {A} row value P j e =
 pub each-reads : {A : Type 0} (row : Row) (value : Tlv → Result A Fault) (P : Tlv → A → Type 0) → ((e : Tlv) → Judged (der (value e)) (row_fault row e) (P e)) → Reads row (λ here. der (each value here)) P
 unfolding each
 each-reads row value P j = next-reads row value P j
+
+-- ---- one element within another
+
+-- what is read is spelled so
+pub alone-found : {A : Type 0} (value : Tlv → Result A Fault) (Spells : List ℕ → A → Type 0) → Part (each value) Spells → (e : Tlv) (x : A) → AreOctets e.content → alone value e ≡ Ok x → Spells e.content x
+unfolding alone
+alone-found {A} value Spells part e x fits read =
+    let a = bind_ok (each value (inside e)) _ x read in
+    let d = bind_ok (end_at a.0.1) _ x a.2 in
+    let f = part.found (inside e) a.0.0 a.0.1 fits a.1 in
+    let whole : e.content ≡ f.0 = f.2 ∙ (ap (λ (rest : List ℕ). f.0 ++ rest) (end-ok a.0.1 d.0 d.1) ∙ append-nil f.0) in
+    subst (λ (o : List ℕ). Spells o x) (sym whole) (subst (λ (y : A). Spells f.0 y) (ok_is {E = Fault} a.0.0 x d.2) f.1)
+
+-- and what is spelled so is read
+pub alone-again : {A : Type 0} (value : Tlv → Result A Fault) (Spells : List ℕ → A → Type 0) → Part (each value) Spells → (e : Tlv) (x : A) → Spells e.content x → alone value e ≡ Ok x
+unfolding alone
+alone-again value Spells part e x is =
+    let a = part.again (inside e) x e.content [] is (sym (append-nil e.content)) in
+    let d = end-again (e.start + length e.content) in
+    rw (a, d) refl
+
+-- the first rule that is broken: of the element within, and then that nothing is behind it
+pub alone-judged : {A : Type 0} (row : Row) (value : Tlv → Result A Fault) (P : Tlv → A → Type 0) → ((octets : List ℕ) → is_absent row octets ≡ false) → Reads row (λ here. der (each value here)) P
+    → (e : Tlv) → Judged (der (alone value e)) (judge (row then nothing) (inside e) or_else None) (λ x. Unit {0})
+unfolding alone
+alone-judged row value P stands j e =
+    no_more _ _ _
+    (under (each value (inside e)) _ _ _
+    (then-judged row nothing (inside e) (λ here. der (each value here)) _ P _ (stands e.content) j (λ x p. ends _ _ _ (λ h. tt))))

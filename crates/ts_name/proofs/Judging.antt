@@ -5,7 +5,7 @@ use Rattle.std.proofs.lemmas.Bool.{eqb-true}
 use Rattle.ts_der.specs.declared.fault.DerFault.{DerFault}
 use Rattle.ts_der.specs.declared.fault.DerFault.TheVariants.{WrongTag, Empty, SetOrder}
 use Rattle.ts_der.specs.declared.fault.Fault.{Fault}
-use Rattle.ts_der.specs.Answer.{◌>>=◌, refusal}
+use Rattle.ts_der.specs.Answer.{◌>>=◌, Answers, refusal}
 use Rattle.ts_der.specs.Rules.{Rule, first_broken, value_unless}
 use Rattle.ts_der.specs.Element.{Place, Tlv, inside}
 use Rattle.ts_der.specs.Header.{header_rules}
@@ -19,7 +19,7 @@ use Rattle.ts_name.specs.declared.fault.CertRule.TheVariants.{Der}
 use Rattle.ts_name.specs.declared.fault.CertFault.{CertFault}
 use Rattle.ts_name.specs.Canon.{Attr}
 use Rattle.ts_name.specs.Names.{within, text_rules, some_rules, attribute_of, attribute_at, rdn_of, rdn_at, name_of}
-use Rattle.ts_name.specs.Fault.{der, breaks}
+use Rattle.ts_name.specs.Fault.{about, der, breaks}
 use Rattle.ts_name.specs.Fields.{oid_at, integer_at, bits_at, name_at}
 use Rattle.ts_name.specs.Rows.{object_identifier, integer, bit_string, attribute_value, attribute_type_and_value, set_rules, relative_distinguished_name, name, elements_of}
 use Rattle.ts_name.specs.Shape.{Row, tagged, no_other, Shape, items, nothing, plain, ◌then◌, ◌or_else◌, is_absent, header_fault, each_fault, row_fault, judge, ContentRules, der_rules, no_rules}
@@ -305,3 +305,9 @@ name-judged e = no_more _ _ _ (weaker _ _ _ _ (λ x p. tt) (items-judged relativ
 pub name-reads : Reads name (λ here. der (name_at here)) Whatever
 unfolding name_at
 name-reads = within-reads 0x30 (items relative_distinguished_name) no_rules name_of Whatever name-judged
+
+-- what a call refuses, as a fault of a certificate
+pub about-judged : {X Y : Type 0} (view : X → Y) (result : Result X Fault) (reading : Result Y Fault) (o : Option CertFault) (P : Y → Type 0)
+    → Answers view result reading → Judged (der reading) o P → option_map about (refusal result) ≡ o
+about-judged {X} {Y} view (Ok x) reading o P a j = sym ((subst (λ (r : Result Y Fault). Judged (der r) o P) a j).0)
+about-judged {X} {Y} view (Err f) reading o P a j = sym (subst (λ (r : Result Y Fault). Judged (der r) o P) a j)

@@ -15,3 +15,6 @@ pub mod FieldParts
 pub mod Judging
 pub mod OptionalParts
 pub mod ItemParts
+pub mod OptionalReads
+pub mod Generals
+pub mod Subtrees

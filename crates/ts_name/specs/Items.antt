@@ -3,13 +3,20 @@ use Rattle.std.specs.Prelude.{◌≡◌, ◌≢◌, ℕ, zero, suc, ◌==◌, Li
 use Rattle.ts_der.specs.declared.fault.DerFault.TheVariants.{WrongTag}
 use Rattle.ts_der.specs.declared.fault.Fault.{Fault}
 use Rattle.ts_der.specs.Answer.{◌>>=◌}
-use Rattle.ts_der.specs.Element.{Place, Tlv, inside}
-use Rattle.ts_der.specs.Reading.{fault_at, is_end, next_at, value_at, many}
+use Rattle.ts_der.specs.Element.{Place, Tlv, Fits, spell, inside}
+use Rattle.ts_der.specs.Reading.{fault_at, is_end, next_at, value_at, end_at, many}
 use Rattle.ts_name.specs.Names.{some_rules}
 
 -- the element that stands next, and what it is read as
 unfoldable pub each : {A : Type 0} → (Tlv → Result A Fault) → Place → Result (A × Place) Fault
 each value here = next_at here >>= λ e. value e.0 >>= λ x. Ok (x, e.1)
+
+-- what the one element within another is read as, and nothing behind it
+unfoldable pub alone : {A : Type 0} → (Tlv → Result A Fault) → Tlv → Result A Fault
+alone value e = do
+  x ← each value (inside e)
+  done ← end_at x.1
+  Ok x.0
 
 -- an element, if it has this tag
 unfoldable pub tagged_as : ℕ → Tlv → Result Tlv Fault
@@ -22,6 +29,14 @@ of_tag tag value e = tagged_as tag e >>= value
 -- the items within an element, of which there is one or more
 unfoldable pub some_of : {A : Type 0} → (Tlv → Result A Fault) → Tlv → Result (List A) Fault
 some_of value e = many (each value) (inside e) >>= λ xs. value_at some_rules (λ c. c) e >>= λ some. Ok xs
+
+-- octets that are one element of a CHOICE (X.680 29), by its tag and content
+pub record IsChoice {A : Type 0} (Is : ℕ → List ℕ → A → Type 0) (octets : List ℕ) (x : A) : Type 0 where
+  pub tag : ℕ
+  pub content : List ℕ
+  pub fits : Fits tag content
+  pub spelled : octets ≡ spell tag content
+  pub form : Is tag content x
 
 -- octets that are items one after another
 abbrev pub AreItems : {A : Type 0} → (List ℕ → A → Type 0) → List ℕ → List A → Type 0

@@ -12,5 +12,11 @@ pub mod Shape
 pub mod Rows
 pub mod Fields
 pub mod Items
+pub mod General
+pub mod GeneralTable
+pub mod GeneralView
+pub mod Subtree
+pub mod SubtreeTable
+pub mod SubtreeView
 pub mod Sameness
 pub mod Printed

@@ -34,6 +34,10 @@ pub record IsRdn (attributes : List Attr) : Type 0 where
   pub each : AllByRecursion (λ a. IsAttribute a × Fits 0x30 (attribute_content a)) attributes
   pub ordered : ascends (map spelled_attribute attributes) ≡ true
 
+-- the content of a relative distinguished name that is these attributes
+abbrev pub IsRdnContent : List ℕ → List Attr → Type 0
+IsRdnContent content attributes = (content ≡ rdn_content attributes) × IsRdn attributes
+
 -- the content of a name that is these relative distinguished names
 pub record IsName (content : List ℕ) (rdns : List (List Attr)) : Type 0 where
   pub each : AllByRecursion (λ r. IsRdn r × Fits 0x31 (rdn_content r)) rdns

@@ -1,7 +1,8 @@
 -- The rows of elements that more than one format has, and of names.
-use Rattle.std.specs.Prelude.{ℕ, zero, suc, ◌+◌, not, List, [], ◌∷◌, take, drop, length, if◌then◌else◌}
+use Rattle.std.specs.Prelude.{ℕ, zero, suc, ◌+◌, not, List, [], ◌∷◌, take, drop, length, Option, option_map, if◌then◌else◌}
 use Rattle.ts_der.specs.declared.fault.DerFault.TheVariants.{Empty, SetOrder}
 use Rattle.ts_der.specs.Rules.{Rule, rule}
+use Rattle.ts_der.specs.Element.{Tlv, inside}
 use Rattle.ts_der.specs.Header.{header_size, length_of}
 use Rattle.ts_der.specs.Reading.{is_end}
 use Rattle.ts_der.specs.Integer.{integer_rules}
@@ -9,7 +10,9 @@ use Rattle.ts_der.specs.BitString.{whole_octets_rules}
 use Rattle.ts_der.specs.ObjectIdentifier.{oid_rules}
 use Rattle.ts_der.specs.SetOf.{ascends}
 use Rattle.ts_der.specs.Text.{utf8_rules, ascii_rules}
-use Rattle.ts_name.specs.Shape.{Row, any, tagged, no_other, items, nothing, ◌then◌, der_rules, primitive, sequence, ◌or◌}
+use Rattle.ts_name.specs.declared.fault.CertFault.{CertFault}
+use Rattle.ts_name.specs.Fault.{breaks}
+use Rattle.ts_name.specs.Shape.{Row, any, tagged, no_other, items, nothing, ◌then◌, ◌or_else◌, judge, der_rules, primitive, sequence, ◌or◌}
 
 -- ---- elements that hold no others
 
@@ -65,6 +68,10 @@ attribute_type_and_value = sequence (object_identifier then attribute_value then
 -- RelativeDistinguishedName ::= SET SIZE (1..MAX) OF AttributeTypeAndValue
 abbrev pub relative_distinguished_name : Row
 relative_distinguished_name = set_of attribute_type_and_value
+
+-- the first rule that an element breaks as a relative distinguished name, whatever its tag is
+abbrev pub rdn_fault : Tlv → Option CertFault
+rdn_fault e = judge (items attribute_type_and_value) (inside e) or_else option_map (breaks e.at) (der_rules set_rules e.content)
 
 -- Name ::= CHOICE { rdnSequence RDNSequence }, RDNSequence ::= SEQUENCE OF RelativeDistinguishedName
 abbrev pub name : Row

@@ -1,4 +1,5 @@
-//! Distinguished names: their attributes and the canonical form in which two of them are compared (RFC 5280 7.1).
+//! Names: distinguished names with their attributes and the canonical form in which two of them are compared (RFC 5280
+//! 7.1), and general names with their subtrees (4.2.1.6, 4.2.1.10).
 #![tactic(auto)]
 
 mod attribute;
@@ -6,6 +7,10 @@ mod canon;
 mod canonical;
 mod fault;
 mod folded;
+mod general;
+mod general_reading;
+#[cfg(test)]
+mod general_tests;
 pub mod laws;
 mod name;
 mod name_items;
@@ -17,6 +22,10 @@ mod sameness;
 mod sequence_of;
 #[cfg(test)]
 mod sequence_tests;
+mod subtree;
+mod subtree_reading;
+#[cfg(test)]
+mod subtree_tests;
 #[cfg(test)]
 mod tests;
 
@@ -24,7 +33,10 @@ pub use attribute::{Attribute, IA5_STRING, PRINTABLE_STRING, UTF8_STRING};
 pub use canon::{Canon, CanonAttribute, CanonRdn, canon_attribute};
 pub use fault::{CertFault, CertRule};
 pub use folded::same_text;
+pub use general::General;
+pub use general_reading::GeneralNames;
 pub use name::Name;
 pub use name_items::{Attributes, Rdns};
 pub use rdn::Rdn;
 pub use sequence_of::{FromElement, SequenceItems, SequenceOf, tagged_as};
+pub use subtree::Subtree;

@@ -1,6 +1,6 @@
 //! Reading a distinguished name.
 
-ghost use Rattle.std.specs.Prelude.{◌≡◌, List, IfOk, IsOkAnd};
+ghost use Rattle.std.specs.Prelude.{◌≡◌, List, IfOk, IsOkAnd, option_map};
 ghost use Rattle.ts_der.specs.Answer.{Answers, refusal};
 ghost use Rattle.ts_der.specs.Element.{inside};
 ghost use Rattle.ts_der.specs.View.{now};
@@ -8,12 +8,16 @@ ghost use Rattle.ts_der.specs.Reading.{value_at, many};
 ghost use Rattle.ts_name.specs.Names.{attribute_of, attribute_at, rdn_of, rdn_at, name_of, text_rules};
 ghost use Rattle.ts_name.specs.Steps.{Takes, Passes};
 ghost use Rattle.ts_name.specs.Canon.{Attr};
-ghost use Rattle.ts_name.specs.NameSpelling.{IsName};
-ghost use Rattle.ts_name.specs.NameView.{rdns_in};
+ghost use Rattle.ts_name.specs.Fault.{about};
+ghost use Rattle.ts_name.specs.NameSpelling.{IsRdnContent, IsName};
+ghost use Rattle.ts_name.specs.NameView.{rdns_in, attributes_in};
+ghost use Rattle.ts_name.specs.Rows.{relative_distinguished_name, rdn_fault};
+ghost use Rattle.ts_name.specs.Shape.{items, judge};
 ghost use Rattle.ts_name.specs.View.{attr_of};
 
 use crate::attribute::{Attribute, IA5_STRING, PRINTABLE_STRING, UTF8_STRING};
 use crate::name::Name;
+use crate::rdn::Rdn;
 use ts_der::{DerFault, Element, Fault, Reader};
 
 const OBJECT_IDENTIFIER: u8 = 0x06;
@@ -115,7 +119,7 @@ impl<'a> Name<'a> {
     pub fn read(element: Element<'a>) -> Result<Name<'a>, Fault>
         ensures found { IfOk result (λ name. IsName element.entry.content.now (rdns_in name)) }
         ensures only { (rdns : List (List Attr)) → IsName element.entry.content.now rdns → IsOkAnd result (λ name. rdns_in name ≡ rdns) }
-        ensures fault { refusal result ≡ refusal (name_of (now element.entry)) }
+        ensures fault { option_map about (refusal result) ≡ judge (items relative_distinguished_name) (inside (now element.entry)) }
         ensures exact { Answers rdns_in result (name_of (now element.entry)) }
     {
         read_name(element)
@@ -127,4 +131,24 @@ fn read_name<'a>(element: Element<'a>) -> Result<Name<'a>, Fault>
 {
     check_rdns(element)?;
     Ok(Name { element })
+}
+
+impl<'a> Rdn<'a> {
+    /// The relative distinguished name that a SET's content is, or the first rule that is broken, at its place. The tag
+    /// is not looked at. The rules are those of `Name::read` within one SET.
+    pub fn read(element: Element<'a>) -> Result<Rdn<'a>, Fault>
+        ensures found { IfOk result (λ rdn. IsRdnContent element.entry.content.now (attributes_in rdn)) }
+        ensures only { (attributes : List Attr) → IsRdnContent element.entry.content.now attributes → IsOkAnd result (λ rdn. attributes_in rdn ≡ attributes) }
+        ensures fault { option_map about (refusal result) ≡ rdn_fault (now element.entry) }
+        ensures exact { Answers attributes_in result (rdn_of (now element.entry)) }
+    {
+        read_rdn(element)
+    }
+}
+
+fn read_rdn<'a>(element: Element<'a>) -> Result<Rdn<'a>, Fault>
+    ensures { Answers attributes_in result (rdn_of (now element.entry)) }
+{
+    check_rdn(element)?;
+    Ok(Rdn { element })
 }

@@ -3,6 +3,7 @@ use Rattle.ts_der.specs.View.{now}
 use Rattle.ts_name.specs.NameSpelling.{IsName}
 use Rattle.ts_name.specs.NameView.{rdns_in}
 use Rattle.ts_name.proofs.Walks.{IfOk-answers, IsOkAnd-answers}
+use Rattle.ts_name.proofs.Judging.{about-judged, no_less, name-judged}
 use Rattle.ts_name.proofs.Shapes.{name-found, name-again}
 use Rattle.ts_name.proofs.name.Name.read.Goals as goal
 
@@ -13,3 +14,6 @@ returns-clause-found c =
 
 pub returns-clause-only : goal.returns-clause-only
 returns-clause-only c = λ rdns is. IsOkAnd-answers rdns_in c.read_name.result _ rdns (λ names. names ≡ rdns) c.read_name.ensures (name-again (now c.args.element) rdns is) refl
+
+pub returns-clause-fault : goal.returns-clause-fault
+returns-clause-fault c = about-judged rdns_in c.read_name.result _ _ (λ rdns. Unit {0}) c.read_name.ensures (no_less _ _ _ (name-judged (now c.args.element)))

@@ -1,0 +1,63 @@
+-- The key that signs (RFC 5280 4.2.1.1).
+use Rattle.std.specs.Prelude.{◌≡◌, ℕ, ◌++◌, ◌==◌, Bool, List, Option, option_map, Result, Ok, Err, if◌then◌else◌}
+use Rattle.ts_der.specs.declared.fault.DerFault.TheVariants.{WrongTag}
+use Rattle.ts_der.specs.declared.fault.Fault.{Fault}
+use Rattle.ts_der.specs.Answer.{◌>>=◌}
+use Rattle.ts_der.specs.Element.{Place, Tlv, inside}
+use Rattle.ts_der.specs.Reading.{fault_at, end_at}
+use Rattle.ts_der.specs.Default.{flag_at}
+use Rattle.ts_der.specs.Integer.{integer_rules}
+use Rattle.ts_der.specs.Reading.{value_at}
+use Rattle.ts_name.specs.Canon.{Attr}
+use Rattle.ts_name.specs.Names.{some_rules, rdn_of}
+use Rattle.ts_name.specs.NameSpelling.{IsRdnContent}
+use Rattle.ts_name.specs.Fields.{Within, IfAny, IsInteger, optional_of}
+use Rattle.ts_name.specs.Items.{alone, of_tag, some_of, AreSome, IsChoice}
+use Rattle.ts_name.specs.General.{GeneralName, IsGeneralName, general_of}
+use Rattle.ts_name.specs.GeneralTable.{general_name}
+use Rattle.ts_name.specs.Subtree.{GeneralSubtree, IsSubtree, subtree_of}
+use Rattle.ts_name.specs.SubtreeTable.{general_subtree}
+use Rattle.ts_name.specs.Rows.{set_rules, attribute_type_and_value}
+use Rattle.ts_name.specs.Shape.{Row, Shape, tagged, no_other, optional, items, nothing, plain, ◌then◌, ◌or◌, der_rules, no_rules, primitive}
+use Rattle.ts_ext.specs.Spelling.{IfTrue, AreReasonFlags}
+use Rattle.ts_ext.specs.Reading.{reason_flags_of}
+use Rattle.ts_ext.specs.Table.{flag, reason_flags_rules}
+use Rattle.ts_ext.specs.GeneralNames.{AreGeneralNames, general_names_of, general_names_items, general_names}
+
+pub record AuthorityKey : Type 0 where
+  pub keyIdentifier : Option (List ℕ)
+  pub authorityCertIssuer : Option (List GeneralName)
+  pub authorityCertSerialNumber : Option (List ℕ)
+
+-- OCTET STRING, by its content
+abbrev pub AreOctetsOf : List ℕ → List ℕ → Type 0
+AreOctetsOf content octets = content ≡ octets
+
+abbrev pub octets_of : Tlv → Result (List ℕ) Fault
+octets_of e = Ok e.content
+
+-- CertificateSerialNumber ::= INTEGER
+abbrev pub serial_of : Tlv → Result (List ℕ) Fault
+serial_of = value_at integer_rules (λ c. c)
+
+-- AuthorityKeyIdentifier ::= SEQUENCE { keyIdentifier [0] KeyIdentifier OPTIONAL, authorityCertIssuer [1] GeneralNames OPTIONAL,
+-- authorityCertSerialNumber [2] CertificateSerialNumber OPTIONAL } (4.2.1.1)
+pub record IsAuthorityKey (content : List ℕ) (a : AuthorityKey) : Type 0 where
+  pub key : List ℕ
+  pub issuer : List ℕ
+  pub serial : List ℕ
+  pub keyIdentifier : IfAny 0x80 AreOctetsOf key a.keyIdentifier
+  pub authorityCertIssuer : IfAny 0xA1 AreGeneralNames issuer a.authorityCertIssuer
+  pub authorityCertSerialNumber : IfAny 0x82 IsInteger serial a.authorityCertSerialNumber
+  pub fields : content ≡ key ++ (issuer ++ serial)
+
+unfoldable pub authority_key_of : Tlv → Result AuthorityKey Fault
+authority_key_of e = do
+  key ← optional_of 0x80 octets_of (inside e)
+  issuer ← optional_of 0xA1 general_names_of key.1
+  serial ← optional_of 0x82 serial_of issuer.1
+  done ← end_at serial.1
+  Ok (record { keyIdentifier = key.0; authorityCertIssuer = issuer.0; authorityCertSerialNumber = serial.0 })
+
+abbrev pub authority_key_fields : Shape
+authority_key_fields = optional (primitive 0x80 no_rules) then optional (general_names 0xA1) then optional (primitive 0x82 (der_rules integer_rules)) then nothing
