@@ -39,3 +39,17 @@ holds CessationOfOperation s = s.cessation_of_operation
 holds CertificateHold s = s.certificate_hold
 holds PrivilegeWithdrawn s = s.privilege_withdrawn
 holds AaCompromise s = s.aa_compromise
+
+-- the set that holds no reason
+abbrev pub no_reasons : ReasonSet
+no_reasons =
+    record {
+      key_compromise = false;
+      ca_compromise = false;
+      affiliation_changed = false;
+      superseded = false;
+      cessation_of_operation = false;
+      certificate_hold = false;
+      privilege_withdrawn = false;
+      aa_compromise = false;
+    }
