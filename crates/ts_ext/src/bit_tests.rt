@@ -77,3 +77,18 @@ fn bits_of_reason_flags(rt: HostRuntime) -> Result<(), Fail> {
     assert_eq!(rt; ReasonFlag::AaCompromise.number(), 8);
     Ok(())
 }
+
+#[test]
+fn sets_of_reasons(rt: HostRuntime) -> Result<(), Fail> {
+    let first = ReasonFlags::read(value(b"\x04\x04\x03\x02\x06\x40")?)?.reasons();
+    let last = ReasonFlags::read(value(b"\x04\x05\x03\x03\x07\x00\x80")?)?.reasons();
+    assert!(rt; first.intersection(last).is_empty());
+    assert_eq!(rt; first.intersection(ReasonSet::all()), first);
+    let both = first.union(last);
+    assert!(rt;
+        both.contains(ReasonFlag::KeyCompromise) && both.contains(ReasonFlag::AaCompromise)
+    );
+    assert!(rt; !both.contains(ReasonFlag::Superseded));
+    assert_eq!(rt; first.union(ReasonSet::none()), first);
+    Ok(())
+}
