@@ -10,3 +10,4 @@ pub mod KeyAndConstraints
 pub mod Lists
 pub mod Policies
 pub mod Exts
+pub mod OneSpelling

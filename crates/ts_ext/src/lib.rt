@@ -21,6 +21,7 @@ mod invalidity_date;
 mod issuing_distribution_point;
 mod key_usage;
 mod known;
+pub mod laws;
 mod name_constraints;
 mod named_bits;
 mod policy_constraints;
