@@ -15,6 +15,8 @@ mod crl_number;
 mod distribution_point;
 mod distribution_points;
 mod ext;
+#[cfg(test)]
+mod ext_tests;
 mod extended_key_usage;
 mod fields;
 mod invalidity_date;
@@ -22,6 +24,8 @@ mod issuing_distribution_point;
 mod key_usage;
 mod known;
 mod name_constraints;
+#[cfg(test)]
+mod name_value_tests;
 mod named_bits;
 mod policy_constraints;
 mod policy_information;
