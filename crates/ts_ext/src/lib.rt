@@ -15,6 +15,8 @@ mod crl_number;
 mod distribution_point;
 mod distribution_points;
 mod ext;
+#[cfg(test)]
+mod ext_tests;
 mod extended_key_usage;
 mod fields;
 mod invalidity_date;
@@ -23,6 +25,8 @@ mod key_usage;
 mod known;
 pub mod laws;
 mod name_constraints;
+#[cfg(test)]
+mod name_value_tests;
 mod named_bits;
 mod policy_constraints;
 mod policy_information;
