@@ -170,6 +170,56 @@ fn identifiers_under_id_ce_alone(rt: HostRuntime) -> Result<(), Fail> {
 }
 
 #[test]
+fn names_in_certificates(rt: HostRuntime) -> Result<(), Fail> {
+    let Ext::SubjectAltName(names) = of_certificate(SUBJECT_ALT_NAME, HOST)? else {
+        return Err("no names of a subject".into());
+    };
+    assert!(rt; are_host(names.list));
+    let Ext::IssuerAltName(names) = of_certificate(ISSUER_ALT_NAME, HOST)? else {
+        return Err("no names of an issuer".into());
+    };
+    assert!(rt; are_host(names.list));
+    let Ext::NameConstraints(constraints) = of_certificate(
+        NAME_CONSTRAINTS,
+        b"\x04\x09\x30\x07\xa0\x05\x30\x03\x82\x01\x61",
+    )?
+    else {
+        return Err("no constraints".into());
+    };
+    let NameConstraints {
+        permitted,
+        excluded,
+    } = constraints;
+    assert!(rt; permitted.is_some() && excluded.is_none());
+    Ok(())
+}
+
+#[test]
+fn points_and_keys_in_certificates(rt: HostRuntime) -> Result<(), Fail> {
+    let Ext::CrlDistributionPoints(points) = of_certificate(
+        CRL_DISTRIBUTION_POINTS,
+        b"\x04\x04\x30\x02\x30\x00",
+    )?
+    else {
+        return Err("no points".into());
+    };
+    assert!(rt; points.iter().next().is_some());
+    let Ext::FreshestCrl(points) = of_certificate(FRESHEST_CRL, b"\x04\x04\x30\x02\x30\x00")? else {
+        return Err("no points of changes".into());
+    };
+    assert!(rt; points.iter().next().is_some());
+    let Ext::AuthorityKeyIdentifier(key) = of_certificate(
+        AUTHORITY_KEY_IDENTIFIER,
+        b"\x04\x05\x30\x03\x80\x01\x07",
+    )?
+    else {
+        return Err("no key".into());
+    };
+    assert!(rt; key.key_identifier.is_some());
+    Ok(())
+}
+
+#[test]
 fn values_of_certificates(rt: HostRuntime) -> Result<(), Fail> {
     assert!(rt;
         matches!(of_certificate(SUBJECT_KEY_IDENTIFIER, b"\x04\x04\x04\x02\x01\x02")?, Ext::SubjectKeyIdentifier(key) if key == b"\x01\x02".as_slice())
@@ -178,28 +228,10 @@ fn values_of_certificates(rt: HostRuntime) -> Result<(), Fail> {
         matches!(of_certificate(KEY_USAGE, b"\x04\x04\x03\x02\x02\x04")?, Ext::KeyUsage(usage) if usage.key_cert_sign() && !usage.crl_sign())
     );
     assert!(rt;
-        matches!(of_certificate(SUBJECT_ALT_NAME, HOST)?, Ext::SubjectAltName(names) if are_host(names.list))
-    );
-    assert!(rt;
-        matches!(of_certificate(ISSUER_ALT_NAME, HOST)?, Ext::IssuerAltName(names) if are_host(names.list))
-    );
-    assert!(rt;
         matches!(of_certificate(BASIC_CONSTRAINTS, b"\x04\x05\x30\x03\x01\x01\xff")?, Ext::BasicConstraints(constraints) if constraints.ca)
     );
     assert!(rt;
-        matches!(of_certificate(NAME_CONSTRAINTS, b"\x04\x09\x30\x07\xa0\x05\x30\x03\x82\x01\x61")?, Ext::NameConstraints(constraints) if constraints.permitted.is_some() && constraints.excluded.is_none())
-    );
-    assert!(rt;
-        matches!(of_certificate(CRL_DISTRIBUTION_POINTS, b"\x04\x04\x30\x02\x30\x00")?, Ext::CrlDistributionPoints(points) if points.iter().next().is_some())
-    );
-    assert!(rt;
         matches!(of_certificate(POLICY_CONSTRAINTS, b"\x04\x05\x30\x03\x80\x01\x02")?, Ext::PolicyConstraints(constraints) if constraints.require_explicit_policy == Some(2))
-    );
-    assert!(rt;
-        matches!(of_certificate(AUTHORITY_KEY_IDENTIFIER, b"\x04\x05\x30\x03\x80\x01\x07")?, Ext::AuthorityKeyIdentifier(key) if key.key_identifier.is_some())
-    );
-    assert!(rt;
-        matches!(of_certificate(FRESHEST_CRL, b"\x04\x04\x30\x02\x30\x00")?, Ext::FreshestCrl(points) if points.iter().next().is_some())
     );
     assert!(rt;
         matches!(of_certificate(INHIBIT_ANY_POLICY, b"\x04\x03\x02\x01\x03")?, Ext::InhibitAnyPolicy(certs) if certs.0 == 3)

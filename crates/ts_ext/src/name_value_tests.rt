@@ -85,18 +85,22 @@ fn names_are_refused_at_the_first_fault(rt: HostRuntime) -> Result<(), Fail> {
 #[test]
 fn a_point_with_a_full_name_and_reasons(rt: HostRuntime) -> Result<(), Fail> {
     let mut list = points(POINT)?.iter();
-    let point = list.next().ok_or("one")?;
+    let DistributionPoint {
+        name,
+        reasons,
+        crl_issuer,
+    } = list.next().ok_or("one")?;
     assert!(rt; list.next().is_none());
-    let Some(PointName::FullName(full)) = point.name else {
+    assert!(rt; crl_issuer.is_none());
+    let reasons = reasons.ok_or("reasons")?;
+    assert!(rt; reasons.contains(ReasonFlag::KeyCompromise));
+    assert!(rt; !reasons.contains(ReasonFlag::CaCompromise));
+    let Some(PointName::FullName(full)) = name else {
         return Err("no full name".into());
     };
     let mut ways = full.iter();
     assert!(rt; is_uri(ways.next().ok_or("a way")?));
     assert!(rt; ways.next().is_none());
-    let reasons = point.reasons.ok_or("reasons")?;
-    assert!(rt; reasons.contains(ReasonFlag::KeyCompromise));
-    assert!(rt; !reasons.contains(ReasonFlag::CaCompromise));
-    assert!(rt; point.crl_issuer.is_none());
     Ok(())
 }
 
@@ -174,6 +178,13 @@ fn points_are_refused_at_the_first_fault(rt: HostRuntime) -> Result<(), Fail> {
     Ok(())
 }
 
+/// What a list covers, without any field.
+const NOTHING: &[u8] = b"\x04\x02\x30\x00";
+
+/// A full name, certificates of authorities alone, key compromise alone, and certificates of other issuers.
+const COVERS: &[u8] =
+    b"\x04\x13\x30\x11\xa0\x05\xa0\x03\x86\x01\x61\x82\x01\xff\x83\x02\x06\x40\x84\x01\xff";
+
 #[test]
 fn each_flag_of_a_list(rt: HostRuntime) -> Result<(), Fail> {
     assert_eq!(rt;
@@ -192,25 +203,31 @@ fn each_flag_of_a_list(rt: HostRuntime) -> Result<(), Fail> {
         flags(scope(b"\x04\x05\x30\x03\x85\x01\xff")?),
         (false, false, false, true)
     );
-    let nothing = scope(b"\x04\x02\x30\x00")?;
-    assert_eq!(rt; flags(nothing), (false, false, false, false));
-    assert!(rt; nothing.name.is_none() && nothing.only_some_reasons.is_none());
+    assert_eq!(rt; flags(scope(NOTHING)?), (false, false, false, false));
+    let IssuingDistributionPoint {
+        name,
+        only_some_reasons,
+        ..
+    } = scope(NOTHING)?;
+    assert!(rt; name.is_none() && only_some_reasons.is_none());
     Ok(())
 }
 
 #[test]
 fn what_a_list_covers(rt: HostRuntime) -> Result<(), Fail> {
-    let covers = scope(
-        b"\x04\x13\x30\x11\xa0\x05\xa0\x03\x86\x01\x61\x82\x01\xff\x83\x02\x06\x40\x84\x01\xff",
-    )?;
-    assert_eq!(rt; flags(covers), (false, true, true, false));
-    let Some(PointName::FullName(full)) = covers.name else {
+    assert_eq!(rt; flags(scope(COVERS)?), (false, true, true, false));
+    let IssuingDistributionPoint {
+        name,
+        only_some_reasons,
+        ..
+    } = scope(COVERS)?;
+    let reasons = only_some_reasons.ok_or("reasons")?;
+    assert!(rt; reasons.contains(ReasonFlag::KeyCompromise));
+    assert!(rt; !reasons.contains(ReasonFlag::AaCompromise));
+    let Some(PointName::FullName(full)) = name else {
         return Err("no full name".into());
     };
     assert!(rt; is_uri(full.iter().next().ok_or("a way")?));
-    let reasons = covers.only_some_reasons.ok_or("reasons")?;
-    assert!(rt; reasons.contains(ReasonFlag::KeyCompromise));
-    assert!(rt; !reasons.contains(ReasonFlag::AaCompromise));
     Ok(())
 }
 
