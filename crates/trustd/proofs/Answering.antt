@@ -58,7 +58,7 @@ same_names v w same = cc
 pub check_answered : (known : List Entry) (line : List ℕ) (r : Result (String Global) LineFault) → kind_of line ≡ check_kind
     → IfOk r (λ text. IsCheckSaid known line (string_bytes text)) → IfErr r (RefusesCheck known line) → Answers known line r known
 check_answered known line (Ok text) kind said refused = rw kind (said, refl)
-check_answered known line (Err fault) kind said refused = rw kind refused
+check_answered known line (Err fault) kind said refused = rw kind (refused, refl)
 
 -- a reader that answered nothing is refused for its form
 pub form_of_none : {T : Type 0} (P : Type 0) (Q : T → Type 0) (o : Option T) (fault : LineFault) → Err fault ≡ ok_or o Form → MatchOption o P Q → (fault ≡ Form) × P

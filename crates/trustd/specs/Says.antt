@@ -47,7 +47,7 @@ Says known line text after = SaysAs (kind_of line) known line text after
 abbrev pub Refuses : List Entry → List ℕ → LineFault → Type 0
 Refuses known line fault = RefusesAs (kind_of line) known line fault
 
--- what answering a line returned
+-- what answering a line returned; a line that is refused makes nothing known
 abbrev pub Answers : List Entry → List ℕ → Result (String Global) LineFault → List Entry → Type 0
 Answers known line (Ok text) after = Says known line (string_bytes text) after
-Answers known line (Err fault) after = Refuses known line fault
+Answers known line (Err fault) after = Refuses known line fault × (after ≡ known)

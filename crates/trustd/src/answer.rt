@@ -1,6 +1,6 @@
 //! What a line is answered.
 
-ghost use Rattle.std.specs.Prelude.{◌≡◌, ◌≢◌, ◌++◌, ◌↔◌, ◌≤◌, ℤ, length, IfOk, IfErr, IsTrue, MatchOption, OnOk, is_ok, option_map, true, string_bytes, codes};
+ghost use Rattle.std.specs.Prelude.{◌≡◌, ◌≢◌, ◌++◌, ◌↔◌, ◌≤◌, ℤ, length, IfOk, IfErr, IsTrue, MatchOption, OnOk, OnErr, is_ok, option_map, true, string_bytes, codes};
 ghost use Rattle.std.specs.Fmt.{decimal};
 ghost use Rattle.std.specs.List.{AllByRecursion};
 ghost use Rattle.ts_cert.specs.Reading.{certificate_of};
@@ -107,6 +107,7 @@ impl<'a> CertWords<'a> {
 fn answer_cert(alloc: Global, known: &mut Vec<Named>, line: &[u8]) -> Result<String, LineFault>
     ensures said { IfOk result (λ text. IsCertSaid (known_in known.old.items) line.now (string_bytes text) (known_in known.new.items)) }
     ensures fault { IfErr result (RefusesCert (known_in known.old.items) line.now) }
+    ensures unchanged { OnErr result (known_in known.new.items ≡ known_in known.old.items) }
 {
     let Some(words) = CertWords::of(line) else {
         return Err(LineFault::Form);
@@ -118,6 +119,7 @@ fn answer_cert(alloc: Global, known: &mut Vec<Named>, line: &[u8]) -> Result<Str
 fn keep(alloc: Global, known: &mut Vec<Named>, words: &CertWords<'_>) -> Result<String, LineFault>
     ensures said { IfOk result (λ text. IsKept (known_in known.old.items) words.now (string_bytes text) (known_in known.new.items)) }
     ensures fault { IfErr result (λ fault. IsName words.now.name.now → RefusesWords (known_in known.old.items) words.now fault) }
+    ensures unchanged { OnErr result (known_in known.new.items ≡ known_in known.old.items) }
 {
     let octets = words.make(alloc, known)?;
     let name = Vec::from_slice(alloc, words.name)?;
