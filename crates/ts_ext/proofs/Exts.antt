@@ -1,18 +1,16 @@
 -- The value of each extension, as it is read, spelled and refused.
-use Rattle.std.proofs.Common.{◌≡◌, ℕ, ◌+◌, Bool, true, false, List, ◌++◌, length, Option, Some, None, Result, Ok, Err, refl, sym, ap, subst, ◌∙◌}
+use Rattle.std.proofs.Common.{◌≡◌, ℕ, List, Option, Some, None, Result, Ok, Err, refl, sym, ap, ◌∙◌}
 use Rattle.ts_der.specs.declared.fault.Fault.{Fault}
 use Rattle.ts_der.specs.Octets.{AreOctets}
 use Rattle.ts_der.specs.Answer.{◌>>=◌}
-use Rattle.ts_der.specs.Element.{Place, Tlv, inside}
+use Rattle.ts_der.specs.Element.{Tlv}
 use Rattle.ts_der.proofs.Laws.{bind_ok, ok_is}
 use Rattle.ts_name.specs.declared.fault.CertFault.{CertFault}
 use Rattle.ts_name.specs.Fault.{der}
-use Rattle.ts_name.specs.Fields.{Within}
-use Rattle.ts_name.specs.Items.{each, alone, of_tag}
-use Rattle.ts_der.specs.Reading.{next_at, element_of, behind}
-use Rattle.ts_name.specs.Shape.{Row, Shape, ContentRules, header_fault, tagged, no_other, plain, nothing, ◌then◌, ◌or_else◌, is_absent, row_fault, judge, no_rules}
+use Rattle.ts_name.specs.Items.{each}
+use Rattle.ts_name.specs.Shape.{Shape, ContentRules}
 use Rattle.ts_name.proofs.Parts.{Part}
-use Rattle.ts_name.proofs.Judging.{Judged, no_less, Headed, Whatever, Reads}
+use Rattle.ts_name.proofs.Judging.{Judged, no_less, Whatever, Reads}
 use Rattle.ts_name.proofs.ItemParts.{tag-part, tag-reads, alone-found, alone-again, alone-judged}
 use Rattle.ts_ext.specs.declared.known.Known.{Known}
 use Rattle.ts_ext.specs.declared.known.Known.TheVariants as extension

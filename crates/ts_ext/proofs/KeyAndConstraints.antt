@@ -1,28 +1,22 @@
 -- The key of an authority and name constraints, as they are read, spelled and refused.
-use Rattle.std.proofs.Common.{◌≡◌, ◌≢◌, ℕ, ◌+◌, ◌<◌, ◌%◌, Bool, true, false, eqb, List, [], ◌++◌, length, Option, Ok, refl, sym, ap, subst, ◌∙◌, arith}
+use Rattle.std.proofs.Common.{◌≡◌, ℕ, ◌+◌, false, List, [], ◌++◌, length, Ok, refl, sym, ap, subst, ◌∙◌}
 use Rattle.std.proofs.lemmas.List.{append-nil}
 use Rattle.ts_der.specs.declared.fault.Fault.{Fault}
 use Rattle.ts_der.specs.Octets.{AreOctets}
-use Rattle.ts_der.specs.Element.{Place, Tlv, inside}
-use Rattle.ts_der.specs.Default.{flag_at}
+use Rattle.ts_der.specs.Element.{Tlv, inside}
 use Rattle.ts_der.specs.Integer.{integer_rules}
 use Rattle.ts_der.specs.Reading.{begins_with, end_at}
 use Rattle.ts_der.proofs.Laws.{bind_ok, ok_is}
 use Rattle.ts_name.specs.Names.{some_rules}
-use Rattle.ts_name.specs.Fields.{IfAny, IsInteger, optional_of}
-use Rattle.ts_name.specs.Shape.{Shape, optional, items, plain, nothing, ◌then◌, der_rules, no_rules, primitive}
+use Rattle.ts_name.specs.Fields.{IsInteger, optional_of}
+use Rattle.ts_name.specs.Shape.{optional, items, plain, nothing, ◌then◌, der_rules, no_rules, primitive}
 use Rattle.ts_name.specs.SubtreeTable.{general_subtree}
 use Rattle.ts_name.proofs.Judging.{no_more, under, ends, Whatever}
 use Rattle.ts_name.proofs.OptionalParts.{begins-if-any, optional-found, optional-again, optional-judged}
 use Rattle.ts_name.proofs.Shapes.{end-ok, end-again}
-use Rattle.ts_ext.specs.Spelling.{IfTrue, AreReasonFlags}
-use Rattle.ts_ext.specs.Reading.{reason_flags_of}
-use Rattle.ts_ext.specs.Table.{flag, reason_flags_rules}
 use Rattle.ts_ext.specs.GeneralNames.{AreGeneralNames, general_names_of, general_names_items, general_names}
-use Rattle.ts_ext.proofs.Formats.{Format, value_of, by_der_rules}
-use Rattle.ts_ext.proofs.NamedBits.{reason_flags-format}
-use Rattle.ts_ext.proofs.Flags.{flag-spelled, flag-again, flag-judged}
-use Rattle.ts_ext.proofs.Names.{begins-last, general_names-format, subtrees-format, wrapped_name-format}
+use Rattle.ts_ext.proofs.Formats.{Format, value_of}
+use Rattle.ts_ext.proofs.Names.{begins-last, general_names-format, subtrees-format}
 use Rattle.ts_ext.specs.AuthorityKey.{AuthorityKey, AreOctetsOf, IsAuthorityKey, octets_of, serial_of, authority_key_of, authority_key_fields}
 use Rattle.ts_ext.specs.NameConstraints.{Constraints, AreSubtrees, AreConstraints, subtrees_of, general_subtrees, name_constraints_of, name_constraints_fields}
 use Rattle.ts_ext.proofs.Values.{base_crl_number-format}

@@ -1,29 +1,27 @@
 -- General names, names of distribution points and subtrees, as they are read, spelled and refused.
-use Rattle.std.proofs.Common.{◌≡◌, ℕ, ◌+◌, Bool, true, false, eqb, List, [], ◌++◌, length, Option, Some, None, Result, Ok, Err, refl, sym, ap, subst, ◌∙◌, arith}
+use Rattle.std.proofs.Common.{◌≡◌, ℕ, false, eqb, List, [], Option, Result, Ok, Err, refl, sym, ap, subst, ◌∙◌}
 use Rattle.std.proofs.lemmas.List.{append-nil}
 use Rattle.ts_der.specs.declared.fault.Fault.{Fault}
 use Rattle.ts_der.specs.Octets.{AreOctets}
 use Rattle.ts_der.specs.Answer.{◌>>=◌}
-use Rattle.ts_der.specs.Element.{Place, Tlv, inside}
-use Rattle.ts_der.specs.Reading.{begins_with, end_at}
+use Rattle.ts_der.specs.Element.{Tlv}
+use Rattle.ts_der.specs.Reading.{begins_with}
 use Rattle.ts_der.proofs.Laws.{bind_ok, ok_is}
-use Rattle.ts_name.specs.Canon.{Attr}
 use Rattle.ts_name.specs.Names.{some_rules, rdn_of}
-use Rattle.ts_name.specs.NameSpelling.{IsRdnContent}
-use Rattle.ts_name.specs.Fields.{Within, IfAny}
+use Rattle.ts_name.specs.Fields.{IfAny}
 use Rattle.ts_name.specs.Rows.{set_rules, attribute_type_and_value}
 use Rattle.ts_name.specs.declared.fault.CertFault.{CertFault}
 use Rattle.ts_name.specs.Fault.{der}
-use Rattle.ts_name.specs.Shape.{Shape, items, nothing, ◌then◌, ◌or_else◌, judge, row_fault, der_rules, no_rules}
-use Rattle.ts_name.specs.Items.{each, alone, of_tag, some_of, IsChoice}
-use Rattle.ts_name.specs.General.{GeneralName, IsGeneralName, general_of}
+use Rattle.ts_name.specs.Shape.{items, nothing, ◌then◌, row_fault, der_rules, no_rules}
+use Rattle.ts_name.specs.Items.{each}
+use Rattle.ts_name.specs.General.{IsGeneralName, general_of}
 use Rattle.ts_name.specs.GeneralTable.{general_name}
-use Rattle.ts_name.specs.Subtree.{GeneralSubtree, IsSubtree, subtree_of}
+use Rattle.ts_name.specs.Subtree.{IsSubtree, subtree_of}
 use Rattle.ts_name.specs.SubtreeTable.{general_subtree, subtree_fields}
-use Rattle.ts_name.proofs.Parts.{Value, Part}
-use Rattle.ts_name.proofs.Judging.{Judged, weaker, bind-der, no_less, Whatever, Reads, rdn-judged}
+use Rattle.ts_name.proofs.Parts.{Part}
+use Rattle.ts_name.proofs.Judging.{Judged, weaker, Whatever, rdn-judged}
 use Rattle.ts_name.proofs.Shapes.{rdn-codec}
-use Rattle.ts_name.proofs.ItemParts.{choice-found, choice-judged, form-part, tag-part, tag-reads, each-reads, some-found, some-again, some-judged, alone-found, alone-again, alone-judged}
+use Rattle.ts_name.proofs.ItemParts.{choice-found, choice-judged, form-part, each-reads, some-found, some-again, some-judged, alone-found, alone-again, alone-judged}
 use Rattle.ts_name.proofs.Generals.{general-part, general-reads}
 use Rattle.ts_name.proofs.Subtrees.{subtree-found, subtree-again, subtree-judged}
 use Rattle.ts_name.proofs.OptionalParts.{begins-if-any}
@@ -31,6 +29,7 @@ use Rattle.ts_ext.specs.GeneralNames.{AreGeneralNames, general_names_of, general
 use Rattle.ts_ext.specs.Points.{PointName, fullName, nameRelativeToCRLIssuer, IsPointForm, IsPointName, point_name_of, wrapped_name_of, point_name}
 use Rattle.ts_ext.specs.NameConstraints.{AreSubtrees, subtrees_of}
 use Rattle.ts_ext.proofs.Formats.{Format}
+use Rattle.ts_ext.proofs.Lists.{list-format}
 
 -- octets of the last field do not begin with another tag
 pub begins-last : {A : Type 0} (tag : ℕ) (Spells : List ℕ → A → Type 0) (other : ℕ) (w : List ℕ) (x : Option A) → IfAny tag Spells w x → eqb tag other ≡ false → begins_with other w ≡ false
@@ -48,22 +47,16 @@ general_names-format =
 
 -- ---- subtrees
 
-subtree-value : Value 0x30 subtree_of IsSubtree
-subtree-value = record { found = λ e s fits w read. subtree-found e s fits read; again = λ e s w is. subtree-again e s is }
-
-subtree-part : Part (each (of_tag 0x30 subtree_of)) (Within 0x30 IsSubtree)
-subtree-part = tag-part 0x30 subtree_of IsSubtree subtree-value
-
-subtree-reads : Reads general_subtree (λ here. der (each (of_tag 0x30 subtree_of) here)) Whatever
-subtree-reads = tag-reads 0x30 subtree_fields no_rules subtree_of Whatever (λ e. weaker _ _ _ _ (λ x p. tt) (subtree-judged e))
+subtree-format : Format subtree_of IsSubtree subtree_fields no_rules
+subtree-format =
+    record {
+      found = subtree-found;
+      again = subtree-again;
+      judged = λ e. weaker _ _ _ _ (λ x p. tt) (subtree-judged e);
+    }
 
 pub subtrees-format : Format subtrees_of AreSubtrees (items general_subtree) (der_rules some_rules)
-subtrees-format =
-    record {
-      found = some-found (of_tag 0x30 subtree_of) (Within 0x30 IsSubtree) subtree-part;
-      again = some-again (of_tag 0x30 subtree_of) (Within 0x30 IsSubtree) subtree-part;
-      judged = some-judged general_subtree (of_tag 0x30 subtree_of) Whatever subtree-reads;
-    }
+subtrees-format = list-format 0x30 subtree-format
 
 -- ---- names of distribution points
 

@@ -1,5 +1,5 @@
 -- No two contents spell one value of an extension, and no content spells two.
-use Rattle.std.proofs.Common.{◌≡◌, ℕ, true, false, List, [], ◌∷◌, ◌++◌, Option, Some, None, Ok, refl, sym, ap, subst, ◌∙◌}
+use Rattle.std.proofs.Common.{◌≡◌, ℕ, true, false, List, [], ◌∷◌, ◌++◌, Option, Some, None, refl, sym, ap, subst, ◌∙◌}
 use Rattle.std.specs.Prelude.{unwrap_or, pos}
 use Rattle.std.proofs.lemmas.List.{append-nil}
 use Rattle.ts_der.specs.declared.fault.Fault.{Fault}
@@ -14,7 +14,7 @@ use Rattle.ts_name.specs.NameSpelling.{IsName}
 use Rattle.ts_name.specs.Fields.{Within, IfAny, IsOid}
 use Rattle.ts_name.specs.Items.{AreItems, AreSome, IsChoice}
 use Rattle.ts_name.specs.General.{GeneralName, otherName, rfc822Name, dNSName, x400Address, directoryName, ediPartyName, uniformResourceIdentifier, iPAddress, registeredID, IsForm, IsGeneralName}
-use Rattle.ts_name.specs.Subtree.{is_zero, IsDistance, IsMinimum, IsSubtree}
+use Rattle.ts_name.specs.Subtree.{is_zero, IsDistance, IsSubtree}
 use Rattle.ts_time.proofs.TextLemmas.{IsGeneral-one_text}
 use Rattle.ts_ext.specs.declared.known.Known.{Known}
 use Rattle.ts_ext.specs.declared.known.Known.TheVariants as extension
@@ -24,7 +24,7 @@ use Rattle.ts_ext.specs.GeneralNames.{AreGeneralNames}
 use Rattle.ts_ext.specs.Points.{PointName, fullName, nameRelativeToCRLIssuer, IsPointForm, IsPointName, IsPoint, ArePoints, IsIssuingPoint}
 use Rattle.ts_ext.specs.AuthorityKey.{AreOctetsOf, IsAuthorityKey}
 use Rattle.ts_ext.specs.NameConstraints.{AreConstraints}
-use Rattle.ts_ext.specs.Ext.{ExtValue, subjectKeyIdentifier, keyUsage, subjectAltName, issuerAltName, basicConstraints, cRLNumber, reasonCode, invalidityDate, deltaCRLIndicator, issuingDistributionPoint, certificateIssuer, nameConstraints, cRLDistributionPoints, certificatePolicies, policyMappings, authorityKeyIdentifier, policyConstraints, extKeyUsage, freshestCRL, inhibitAnyPolicy, unknown, As, IsContent, IsExt, layout_of, ext_of}
+use Rattle.ts_ext.specs.Ext.{ExtValue, subjectKeyIdentifier, keyUsage, subjectAltName, issuerAltName, basicConstraints, cRLNumber, reasonCode, invalidityDate, deltaCRLIndicator, issuingDistributionPoint, certificateIssuer, nameConstraints, cRLDistributionPoints, certificatePolicies, policyMappings, authorityKeyIdentifier, policyConstraints, extKeyUsage, freshestCRL, inhibitAnyPolicy, unknown, As, IsContent, IsExt, layout_of}
 use Rattle.ts_ext.proofs.Exts.{ext-again}
 
 -- one content for each value

@@ -7,7 +7,6 @@ use Rattle.ts_name.specs.declared.fault.CertFault.{CertFault}
 use Rattle.ts_name.specs.Fields.{Within}
 use Rattle.ts_name.specs.Items.{alone, of_tag}
 use Rattle.ts_name.specs.Shape.{Row, Shape, ContentRules, tagged, no_other, plain, nothing, ◌then◌, no_rules, judge}
-use Rattle.ts_ext.specs.declared.known.Holder.{Holder}
 use Rattle.ts_ext.specs.declared.known.Known.{Known}
 use Rattle.ts_ext.specs.declared.known.Known.TheVariants as extension
 use Rattle.ts_ext.specs.declared.basic_constraints.BasicConstraints.{BasicConstraints}
@@ -22,7 +21,6 @@ use Rattle.ts_ext.specs.GeneralNames.{AreGeneralNames, general_names_of, general
 use Rattle.ts_ext.specs.Points.{Point, ListScope, ArePoints, points_of, points_items, IsIssuingPoint, issuing_point_of, issuing_point_fields}
 use Rattle.ts_ext.specs.AuthorityKey.{AuthorityKey, AreOctetsOf, octets_of, IsAuthorityKey, authority_key_of, authority_key_fields}
 use Rattle.ts_ext.specs.NameConstraints.{Constraints, AreConstraints, name_constraints_of, name_constraints_fields}
-use Rattle.ts_ext.specs.Known.{known_at}
 
 -- the value of an extension; of one that is not read here its octets
 pub data ExtValue : Type 0 where

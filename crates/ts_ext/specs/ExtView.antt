@@ -1,5 +1,4 @@
 -- What contracts see of the value of an extension that a reader lends.
-use Rattle.std.specs.Prelude.{List}
 use Rattle.ts_der.specs.BitsView.{bits_in}
 use Rattle.ts_ext.specs.declared.ext.Ext.{Ext}
 use Rattle.ts_ext.specs.declared.ext.Ext.TheVariants as lent

@@ -1,27 +1,12 @@
 -- Lists of general names (RFC 5280 4.2.1.6).
-use Rattle.std.specs.Prelude.{◌≡◌, ℕ, ◌++◌, ◌==◌, Bool, List, Option, option_map, Result, Ok, Err, if◌then◌else◌}
-use Rattle.ts_der.specs.declared.fault.DerFault.TheVariants.{WrongTag}
+use Rattle.std.specs.Prelude.{ℕ, List, Result}
 use Rattle.ts_der.specs.declared.fault.Fault.{Fault}
-use Rattle.ts_der.specs.Answer.{◌>>=◌}
-use Rattle.ts_der.specs.Element.{Place, Tlv, inside}
-use Rattle.ts_der.specs.Reading.{fault_at, end_at}
-use Rattle.ts_der.specs.Default.{flag_at}
-use Rattle.ts_der.specs.Integer.{integer_rules}
-use Rattle.ts_der.specs.Reading.{value_at}
-use Rattle.ts_name.specs.Canon.{Attr}
-use Rattle.ts_name.specs.Names.{some_rules, rdn_of}
-use Rattle.ts_name.specs.NameSpelling.{IsRdnContent}
-use Rattle.ts_name.specs.Fields.{Within, IfAny, IsInteger, optional_of}
-use Rattle.ts_name.specs.Items.{alone, of_tag, some_of, AreSome, IsChoice}
+use Rattle.ts_der.specs.Element.{Tlv}
+use Rattle.ts_name.specs.Names.{some_rules}
+use Rattle.ts_name.specs.Items.{some_of, AreSome}
 use Rattle.ts_name.specs.General.{GeneralName, IsGeneralName, general_of}
 use Rattle.ts_name.specs.GeneralTable.{general_name}
-use Rattle.ts_name.specs.Subtree.{GeneralSubtree, IsSubtree, subtree_of}
-use Rattle.ts_name.specs.SubtreeTable.{general_subtree}
-use Rattle.ts_name.specs.Rows.{set_rules, attribute_type_and_value}
-use Rattle.ts_name.specs.Shape.{Row, Shape, tagged, no_other, optional, items, nothing, plain, ◌then◌, ◌or◌, der_rules, no_rules, primitive}
-use Rattle.ts_ext.specs.Spelling.{IfTrue, AreReasonFlags}
-use Rattle.ts_ext.specs.Reading.{reason_flags_of}
-use Rattle.ts_ext.specs.Table.{flag, reason_flags_rules}
+use Rattle.ts_name.specs.Shape.{Row, Shape, tagged, no_other, items, der_rules}
 
 -- GeneralNames ::= SEQUENCE SIZE (1..MAX) OF GeneralName (4.2.1.6), by its content
 abbrev pub AreGeneralNames : List ℕ → List GeneralName → Type 0

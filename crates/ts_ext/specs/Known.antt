@@ -1,5 +1,5 @@
 -- The extensions that are read here (RFC 5280 4.2.1, 5.2, 5.3): their object identifiers, and where each may stand.
-use Rattle.std.specs.Prelude.{ℕ, ◌==◌, ◌&&◌, List, [], ◌∷◌, Option, Some, None, if◌then◌else◌}
+use Rattle.std.specs.Prelude.{ℕ, ◌==◌, ◌&&◌, List, [], ◌∷◌, Option, None, if◌then◌else◌}
 use Rattle.std.specs.List.{find}
 use Rattle.ts_ext.specs.declared.known.Holder.{Holder}
 use Rattle.ts_ext.specs.declared.known.Holder.TheVariants.{Certificate, List as ListHolder, Entry}

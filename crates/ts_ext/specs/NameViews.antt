@@ -1,5 +1,5 @@
 -- What contracts see of the names that extensions lend.
-use Rattle.std.specs.Prelude.{List, Option, option_map}
+use Rattle.std.specs.Prelude.{List, option_map}
 use Rattle.ts_der.specs.Element.{inside}
 use Rattle.ts_der.specs.View.{now}
 use Rattle.ts_der.specs.BitsView.{bits_in}

@@ -1,5 +1,5 @@
 -- The rules of the values of extensions beside those of DER, in the order in which they count.
-use Rattle.std.specs.Prelude.{ℕ, suc, nat_lt, Bool, true, false, not, ◌&&◌, List, [], ◌∷◌, Option, Some, None, if◌then◌else◌}
+use Rattle.std.specs.Prelude.{ℕ, suc, nat_lt, Bool, true, not, ◌&&◌, List, [], ◌∷◌, Option, Some, None, if◌then◌else◌}
 use Rattle.std.specs.List.{list_all}
 use Rattle.std.specs.Str.{bytes_eq}
 use Rattle.ts_name.specs.declared.fault.CertRule.{CertRule}
@@ -7,7 +7,7 @@ use Rattle.ts_name.specs.declared.fault.CertRule.TheVariants.{SubtreeBounds, Add
 use Rattle.ts_name.specs.General.{has_address_length, has_range_length}
 use Rattle.ts_name.specs.Subtree.{GeneralSubtree, is_unbounded}
 use Rattle.ts_ext.specs.Policies.{Information}
-use Rattle.ts_ext.specs.Points.{PointName, fullName, nameRelativeToCRLIssuer, Point}
+use Rattle.ts_ext.specs.Points.{PointName, fullName, Point}
 use Rattle.ts_ext.specs.NameConstraints.{Constraints}
 use Rattle.ts_ext.specs.Ext.{ExtValue, subjectAltName, issuerAltName, certificateIssuer, issuingDistributionPoint, nameConstraints, cRLDistributionPoints, certificatePolicies, authorityKeyIdentifier, freshestCRL}
 

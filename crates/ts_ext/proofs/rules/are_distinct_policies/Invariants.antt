@@ -1,14 +1,11 @@
-use Rattle.std.proofs.Common.{◌≡◌, ℕ, ◌+◌, ◌&&◌, cond, List}
-use Rattle.std.specs.Prelude.{option_map, nat_lt, not}
+use Rattle.std.proofs.Common.{◌≡◌}
+use Rattle.std.specs.Prelude.{nat_lt, not}
 use Rattle.std.specs.List.{list_all}
 use Rattle.ts_der.specs.Element.{inside}
 use Rattle.ts_der.specs.View.{now}
-use Rattle.ts_name.specs.Items.{items_at, of_tag}
-use Rattle.ts_name.specs.Subtree.{is_unbounded, subtree_of}
-use Rattle.ts_name.specs.General.{has_range_length}
-use Rattle.ts_ext.specs.NameViews.{subtrees_in}
+use Rattle.ts_name.specs.Items.{items_at}
 use Rattle.ts_ext.specs.Reading.{policy_information_in}
-use Rattle.ts_ext.specs.Rules.{all_of, times_stated, are_distinct}
+use Rattle.ts_ext.specs.Rules.{times_stated, are_distinct}
 use Rattle.ts_ext.proofs.rules.are_distinct_policies.Given as goal
 
 abbrev pub invariant-loop-policy : goal.invariant-loop-policy
