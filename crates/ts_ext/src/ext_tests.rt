@@ -273,6 +273,11 @@ fn policies_of_certificates(rt: HostRuntime) -> Result<(), Fail> {
             .content,
         b"\x2a\x04".as_slice()
     );
+    Ok(())
+}
+
+#[test]
+fn purposes_of_certificates(rt: HostRuntime) -> Result<(), Fail> {
     let Ext::ExtendedKeyUsage(purposes) = of_certificate(
         EXT_KEY_USAGE,
         b"\x04\x06\x30\x04\x06\x02\x2a\x03",
@@ -435,8 +440,41 @@ fn addresses_in_constraints(rt: HostRuntime) -> Result<(), Fail> {
 #[test]
 fn addresses_among_names(rt: HostRuntime) -> Result<(), Fail> {
     let length = Some(CertRule::AddressLength);
-    assert_eq!(rt; rule(SUBJECT_ALT_NAME, FIVE)?, length);
-    assert_eq!(rt; rule(ISSUER_ALT_NAME, FIVE)?, length);
+    for (oid, octets, wanted) in [
+        (SUBJECT_ALT_NAME, FIVE, length),
+        (ISSUER_ALT_NAME, FIVE, length),
+        // Behind a host; of 4 octets; a host.
+        (
+            SUBJECT_ALT_NAME,
+            b"\x04\x0c\x30\x0a\x82\x01\x61\x87\x05\x0a\x00\x00\x01\x02",
+            length,
+        ),
+        (
+            SUBJECT_ALT_NAME,
+            b"\x04\x08\x30\x06\x87\x04\x0a\x00\x00\x01",
+            None,
+        ),
+        (SUBJECT_ALT_NAME, HOST, None),
+        // The issuer beside a key.
+        (
+            AUTHORITY_KEY_IDENTIFIER,
+            b"\x04\x0b\x30\x09\xa1\x07\x87\x05\x0a\x00\x00\x01\x02",
+            length,
+        ),
+        (
+            AUTHORITY_KEY_IDENTIFIER,
+            b"\x04\x05\x30\x03\x80\x01\x07",
+            None,
+        ),
+    ] {
+        assert_eq!(rt; rule(oid, octets)?, wanted);
+    }
+    Ok(())
+}
+
+#[test]
+fn addresses_in_lists(rt: HostRuntime) -> Result<(), Fail> {
+    let length = Some(CertRule::AddressLength);
     assert_eq!(rt;
         ext(Holder::List, ISSUER_ALT_NAME, FIVE)?.broken_rule(),
         length
@@ -444,34 +482,6 @@ fn addresses_among_names(rt: HostRuntime) -> Result<(), Fail> {
     assert_eq!(rt;
         ext(Holder::Entry, CERTIFICATE_ISSUER, FIVE)?.broken_rule(),
         length
-    );
-    // Behind a host; of 4 octets; a host.
-    assert_eq!(rt;
-        rule(
-            SUBJECT_ALT_NAME,
-            b"\x04\x0c\x30\x0a\x82\x01\x61\x87\x05\x0a\x00\x00\x01\x02"
-        )?,
-        length
-    );
-    assert_eq!(rt;
-        rule(
-            SUBJECT_ALT_NAME,
-            b"\x04\x08\x30\x06\x87\x04\x0a\x00\x00\x01"
-        )?,
-        None
-    );
-    assert_eq!(rt; rule(SUBJECT_ALT_NAME, HOST)?, None);
-    // The issuer beside a key.
-    assert_eq!(rt;
-        rule(
-            AUTHORITY_KEY_IDENTIFIER,
-            b"\x04\x0b\x30\x09\xa1\x07\x87\x05\x0a\x00\x00\x01\x02"
-        )?,
-        length
-    );
-    assert_eq!(rt;
-        rule(AUTHORITY_KEY_IDENTIFIER, b"\x04\x05\x30\x03\x80\x01\x07")?,
-        None
     );
     Ok(())
 }
@@ -515,44 +525,38 @@ fn addresses_of_distribution_points(rt: HostRuntime) -> Result<(), Fail> {
 #[test]
 fn policies_stated_twice(rt: HostRuntime) -> Result<(), Fail> {
     let twice = Some(CertRule::DuplicatePolicy);
-    assert_eq!(rt;
-        rule(
+    for (oid, octets, wanted) in [
+        (
             CERTIFICATE_POLICIES,
-            b"\x04\x0e\x30\x0c\x30\x04\x06\x02\x2a\x03\x30\x04\x06\x02\x2a\x03"
-        )?,
-        twice
-    );
-    // With another between them.
-    assert_eq!(rt;
-        rule(
+            b"\x04\x0e\x30\x0c\x30\x04\x06\x02\x2a\x03\x30\x04\x06\x02\x2a\x03".as_slice(),
+            twice,
+        ),
+        // With another between them.
+        (
             CERTIFICATE_POLICIES,
-            b"\x04\x14\x30\x12\x30\x04\x06\x02\x2a\x03\x30\x04\x06\x02\x2a\x04\x30\x04\x06\x02\x2a\x03"
-        )?,
-        twice
-    );
-    // Of one length; of which one begins as the other.
-    assert_eq!(rt;
-        rule(
+            b"\x04\x14\x30\x12\x30\x04\x06\x02\x2a\x03\x30\x04\x06\x02\x2a\x04\x30\x04\x06\x02\x2a\x03",
+            twice,
+        ),
+        // Of one length; of which one begins as the other.
+        (
             CERTIFICATE_POLICIES,
-            b"\x04\x0e\x30\x0c\x30\x04\x06\x02\x2a\x03\x30\x04\x06\x02\x2a\x04"
-        )?,
-        None
-    );
-    assert_eq!(rt;
-        rule(
+            b"\x04\x0e\x30\x0c\x30\x04\x06\x02\x2a\x03\x30\x04\x06\x02\x2a\x04",
+            None,
+        ),
+        (
             CERTIFICATE_POLICIES,
-            b"\x04\x0f\x30\x0d\x30\x04\x06\x02\x2a\x03\x30\x05\x06\x03\x2a\x03\x04"
-        )?,
-        None
-    );
-    // Mappings, purposes and unknown values have no such rule.
-    assert_eq!(rt;
-        rule(
+            b"\x04\x0f\x30\x0d\x30\x04\x06\x02\x2a\x03\x30\x05\x06\x03\x2a\x03\x04",
+            None,
+        ),
+        // Purposes and unknown values have no such rule.
+        (
             EXT_KEY_USAGE,
-            b"\x04\x0a\x30\x08\x06\x02\x2a\x03\x06\x02\x2a\x03"
-        )?,
-        None
-    );
-    assert_eq!(rt; rule(UNKNOWN, b"\x04\x02\x30\x05")?, None);
+            b"\x04\x0a\x30\x08\x06\x02\x2a\x03\x06\x02\x2a\x03",
+            None,
+        ),
+        (UNKNOWN, b"\x04\x02\x30\x05", None),
+    ] {
+        assert_eq!(rt; rule(oid, octets)?, wanted);
+    }
     Ok(())
 }

@@ -113,6 +113,11 @@ fn constraints(rt: HostRuntime) -> Result<(), Fail> {
         broken(b"\x30\x08\x82\x03a.b\x81\x01\x00"),
         Some((CertRule::SubtreeBounds, 0))
     );
+    Ok(())
+}
+
+#[test]
+fn constraints_of_addresses(rt: HostRuntime) -> Result<(), Fail> {
     // Addresses without a mask.
     assert_eq!(rt;
         broken(b"\x30\x06\x87\x04\x0a\x00\x00\x00"),
