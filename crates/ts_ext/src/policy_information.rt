@@ -34,6 +34,8 @@ impl<'a> FromElement<'a> for PolicyInformation<'a> {
 
     ghost reading = { policy_information_in };
 
+    ghost key_of = { λ p. p.policyIdentifier };
+
     #[tactic(auto, unfolding(ts_name::specs::Items::of_tag))]
     fn read(element: Element<'a>) -> Result<PolicyInformation<'a>, Fault> {
         read_policy_information(tagged_as(element, SEQUENCE)?)
