@@ -1,53 +1,106 @@
-//! Lists with repeated items by hand: object identifiers of which the first to repeat an earlier one is known.
+//! Lists with repeated items by hand: object identifiers of which the first that repeats an earlier one is known.
 
 use super::*;
 use std::alloc::{AllocError, Global};
 use std::test::Fail;
-use ts_der::{Element, Fault, OidRef, Reader};
+use ts_der::{Fault, OidRef, Reader};
 
-/// Lists of identifiers of one octet, and the octet of the first that repeats an earlier one.
-const LISTS: [(&[u8], Option<u8>); 10] = [
+/// Lists of identifiers, and the content of the first that repeats an earlier one. A table holds 16 of them.
+const LISTS: [(&[u8], Option<&[u8]>); 16] = [
     (b"\x30\x00", None),
     (b"\x30\x03\x06\x01\x2a", None),
-    (b"\x30\x06\x06\x01\x2a\x06\x01\x2a", Some(0x2A)),
+    (b"\x30\x06\x06\x01\x2a\x06\x01\x2a", Some(b"\x2a")),
     (b"\x30\x06\x06\x01\x2b\x06\x01\x2a", None),
-    // One octet is the start of the other's two.
+    // One is the front of the other.
     (b"\x30\x07\x06\x02\x2a\x03\x06\x01\x2a", None),
+    // Of one length, and told apart by the last octet alone.
+    (
+        b"\x30\x0c\x06\x02\x2a\x03\x06\x02\x2a\x04\x06\x02\x2a\x03",
+        Some(b"\x2a\x03"),
+    ),
     // 1 2 2 1, 1 2 1 2 and 3 1 2 1 2 3.
     (
         b"\x30\x0c\x06\x01\x01\x06\x01\x02\x06\x01\x02\x06\x01\x01",
-        Some(2),
+        Some(b"\x02"),
     ),
     (
         b"\x30\x0c\x06\x01\x01\x06\x01\x02\x06\x01\x01\x06\x01\x02",
-        Some(1),
+        Some(b"\x01"),
     ),
     (
         b"\x30\x12\x06\x01\x03\x06\x01\x01\x06\x01\x02\x06\x01\x01\x06\x01\x02\x06\x01\x03",
-        Some(1),
+        Some(b"\x01"),
+    ),
+    // 1 to 18, behind it 1, 18, and both in either order.
+    (
+        b"\x30\x39\x06\x01\x01\x06\x01\x02\x06\x01\x03\x06\x01\x04\x06\x01\x05\x06\x01\x06\x06\x01\x07\x06\x01\x08\x06\x01\x09\x06\x01\x0a\x06\x01\x0b\x06\x01\x0c\x06\x01\x0d\x06\x01\x0e\x06\x01\x0f\x06\x01\x10\x06\x01\x11\x06\x01\x12\x06\x01\x01",
+        Some(b"\x01"),
+    ),
+    (
+        b"\x30\x39\x06\x01\x01\x06\x01\x02\x06\x01\x03\x06\x01\x04\x06\x01\x05\x06\x01\x06\x06\x01\x07\x06\x01\x08\x06\x01\x09\x06\x01\x0a\x06\x01\x0b\x06\x01\x0c\x06\x01\x0d\x06\x01\x0e\x06\x01\x0f\x06\x01\x10\x06\x01\x11\x06\x01\x12\x06\x01\x12",
+        Some(b"\x12"),
+    ),
+    (
+        b"\x30\x3c\x06\x01\x01\x06\x01\x02\x06\x01\x03\x06\x01\x04\x06\x01\x05\x06\x01\x06\x06\x01\x07\x06\x01\x08\x06\x01\x09\x06\x01\x0a\x06\x01\x0b\x06\x01\x0c\x06\x01\x0d\x06\x01\x0e\x06\x01\x0f\x06\x01\x10\x06\x01\x11\x06\x01\x12\x06\x01\x12\x06\x01\x01",
+        Some(b"\x12"),
+    ),
+    (
+        b"\x30\x3c\x06\x01\x01\x06\x01\x02\x06\x01\x03\x06\x01\x04\x06\x01\x05\x06\x01\x06\x06\x01\x07\x06\x01\x08\x06\x01\x09\x06\x01\x0a\x06\x01\x0b\x06\x01\x0c\x06\x01\x0d\x06\x01\x0e\x06\x01\x0f\x06\x01\x10\x06\x01\x11\x06\x01\x12\x06\x01\x01\x06\x01\x12",
+        Some(b"\x01"),
+    ),
+    // 34 to 1, with 2 and 34 behind them: the tables are those of 34 to 19, 18 to 3, and 2 to 1.
+    (
+        b"\x30\x6c\x06\x01\x22\x06\x01\x21\x06\x01\x20\x06\x01\x1f\x06\x01\x1e\x06\x01\x1d\x06\x01\x1c\x06\x01\x1b\x06\x01\x1a\x06\x01\x19\x06\x01\x18\x06\x01\x17\x06\x01\x16\x06\x01\x15\x06\x01\x14\x06\x01\x13\x06\x01\x12\x06\x01\x11\x06\x01\x10\x06\x01\x0f\x06\x01\x0e\x06\x01\x0d\x06\x01\x0c\x06\x01\x0b\x06\x01\x0a\x06\x01\x09\x06\x01\x08\x06\x01\x07\x06\x01\x06\x06\x01\x05\x06\x01\x04\x06\x01\x03\x06\x01\x02\x06\x01\x01\x06\x01\x02\x06\x01\x22",
+        Some(b"\x02"),
     ),
     // Nothing is known behind an item that can't be read.
     (b"\x30\x08\x06\x01\x01\x05\x00\x06\x01\x01", None),
-    (b"\x30\x08\x06\x01\x01\x06\x01\x01\x05\x00", Some(1)),
+    (b"\x30\x08\x06\x01\x01\x06\x01\x01\x05\x00", Some(b"\x01")),
 ];
 
-fn repeated(octets: &[u8]) -> Result<Option<OidRef<'_>>, Fault> {
-    Ok(first_repeated(Reader::new(octets).next()?))
+fn repeated(octets: &[u8]) -> Result<Option<&[u8]>, Fault> {
+    let found: Option<OidRef> = first_repeated(Reader::new(octets).next()?);
+    Ok(found.map(|oid| oid.content))
 }
 
 #[test]
 fn the_first_by_place_is_found(rt: HostRuntime) -> Result<(), Fail> {
     for (octets, first) in LISTS {
-        let found = repeated(octets)?;
-        assert_eq!(rt; found.and_then(|oid| oid.content.first().copied()), first);
+        assert_eq!(rt; repeated(octets)?, first);
     }
     Ok(())
 }
 
-/// Adds the identifiers with these octets behind 2A.
-fn add(list: &mut Vec<u8>, high: u8, lows: &[u8]) -> Result<(), AllocError> {
-    for low in lows {
-        list.extend_from_slice(&[0x06, 0x03, 0x2A, high, *low])?;
+/// 1125 identifiers, each another, and two more behind them. A table holds 1024 of them.
+fn many(alloc: Global, more: &[u8; 8]) -> Result<Vec<u8>, AllocError> {
+    let mut list = Vec::from_slice(alloc, b"\x30\x82\x11\x9c")?;
+    for high in 0u8..9 {
+        for low in 0u8..125 {
+            list.extend_from_slice(&[0x06, 0x02, high, low])?;
+        }
+    }
+    list.extend_from_slice(more)?;
+    Ok(list)
+}
+
+#[test]
+fn repeats_are_found_behind_a_full_table(rt: HostRuntime) -> Result<(), Fail> {
+    for (more, first) in [
+        (
+            b"\x06\x02\x08\x7c\x06\x02\x00\x00",
+            Some(b"\x08\x7c".as_slice()),
+        ),
+        (
+            b"\x06\x02\x00\x00\x06\x02\x08\x7c",
+            Some(b"\x00\x00".as_slice()),
+        ),
+        (b"\x06\x02\x7f\x7f\x06\x02\x07\x7f", None),
+        (
+            b"\x06\x02\x7f\x7f\x06\x02\x7f\x7f",
+            Some(b"\x7f\x7f".as_slice()),
+        ),
+    ] {
+        assert_eq!(rt; repeated(&many(rt.alloc(), more)?)?, first);
     }
     Ok(())
 }
