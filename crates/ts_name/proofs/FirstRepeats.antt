@@ -4,20 +4,13 @@ use Rattle.std.specs.Option.{option_or}
 use Rattle.std.specs.List.{AllByRecursion}
 use Rattle.std.proofs.lemmas.List.{append-nil}
 use Rattle.std.proofs.lemmas.List.Folds.{list_any-append}
-use Rattle.std.proofs.Math.Seq.{take-append-add, take-append_seam}
+use Rattle.std.proofs.Math.Bool.{or-true, or-false}
+use Rattle.std.proofs.Math.Seq.{take-append-add, take-append_seam, take-nil}
 use Rattle.ts_der.specs.declared.fault.Fault.{Fault}
 use Rattle.ts_der.specs.Element.{Place, Tlv}
 use Rattle.ts_der.specs.Reading.{is_end}
 use Rattle.ts_name.specs.Items.{each, first_then, upto_from, items_at}
 use Rattle.ts_name.specs.Repeats.{is_among, first_repeated}
-
-or-true : (b : Bool) → (b || true) ≡ true
-or-true true = refl
-or-true false = refl
-
-or-false : (b : Bool) → (b || false) ≡ b
-or-false true = refl
-or-false false = refl
 
 pub or-none : {A : Type 0} (o : Option A) → option_or o None ≡ o
 or-none None = refl
@@ -26,10 +19,6 @@ or-none (Some x) = refl
 unless : {A : Type 0} (b : Bool) (z x : A) (r q : Option A) → r ≡ option_or q (Some x) → cond b (Some z) r ≡ option_or (cond b (Some z) q) (Some x)
 unless true z x r q e = refl
 unless false z x r q e = e
-
-take-none : {A : Type 0} (n : ℕ) → take {A = A} n [] ≡ []
-take-none zero = refl
-take-none (suc n) = refl
 
 module _ {A : Type 0} (key : A → List ℕ) where
   -- only which keys are among those seen counts
@@ -102,7 +91,7 @@ module _ {A : Type 0} (key : A → List ℕ) where
       → first_repeated key t (take n xs) ≡ option_or (first_repeated key [] (take before xs)) None
   scan-end t xs front ys n before m e end len all a =
       rw (all, e, end, sym len, take-append-add front [] m, take-append_seam front [])
-      (ap (λ (r : List A). first_repeated key t (front ++ r)) (take-none m) ∙ ap (λ (r : List A). first_repeated key t r) (append-nil front) ∙ apart-seen [] t front a ∙ sym (or-none (first_repeated key [] front)))
+      (ap (λ (r : List A). first_repeated key t (front ++ r)) (take-nil m) ∙ ap (λ (r : List A). first_repeated key t r) (append-nil front) ∙ apart-seen [] t front a ∙ sym (or-none (first_repeated key [] front)))
 
 -- ---- one pass after another
 

@@ -8,6 +8,7 @@ use Rattle.std.specs.Ordering.{ordering_index, ordering_reverse}
 use Rattle.std.proofs.lemmas.Cmp.{nat_list_cmp_total, nat_list_eq_equiv}
 use Rattle.std.proofs.lemmas.List.Sorted.{searchable_from_sorted, list_any-IsPermutation, IsPermutation-insert}
 use Rattle.std.proofs.lemmas.Map.Keys.{Less-from_sorted}
+use Rattle.std.proofs.Math.Bool.{or-true}
 use Rattle.std.proofs.lemmas.Map.Text.{is_eq-slice_cmp}
 use Rattle.ts_name.specs.Repeats.{is_among, AreAscending}
 
@@ -18,10 +19,6 @@ keys_in table = map (λ k. k.now) table
 -- two keys are equal where comparing them says so
 compared : (x k : List ℕ) (o : Ordering) → slice_cmp nat_cmp x k ≡ o → bytes_eq k x ≡ is_eq o
 compared x k o e = nat_list_eq_equiv.symm k x ∙ sym (is_eq-slice_cmp x k) ∙ ap is_eq e
-
-or-true : (b : Bool) → (b || true) ≡ true
-or-true true = refl
-or-true false = refl
 
 -- ---- what a search says
 
