@@ -26,11 +26,13 @@ impl<'a> Keyed<'a> for OidRef<'a> {
     }
 }
 
-/// A list of fewer octets has a table of `FEW` keys, and any other one of `MANY`.
+/// A list of fewer octets is short.
 const SHORT: usize = 512;
 
+/// How many keys a table has, of a short list.
 const FEW: usize = 16;
 
+/// How many it has, of any other.
 const MANY: usize = 1024;
 
 /// The first of the items within an element that has the key of an earlier one, up to the first item that can't be
@@ -45,7 +47,7 @@ pub fn first_repeated<'a, T: Keyed<'a>>(list: Element<'a>) -> Option<T>
     }
 }
 
-/// The same by tables of `N` keys. What a pass finds ends the passes after it, which look at items before it alone.
+/// The same by tables of `N` keys. A pass looks at no item from the repeat on that an earlier one found.
 fn repeated_in_passes<'a, T: Keyed<'a>, const N: usize>(list: Element<'a>) -> Option<T>
     requires room { 0 < N }
     requires small { N ≤ 1024 }
