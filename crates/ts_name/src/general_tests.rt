@@ -2,7 +2,6 @@
 
 use super::*;
 use crate::tests::place;
-use std::test::Fail;
 use ts_der::{DerFault, Fault, Reader};
 
 /// O=a, in a directory name.
@@ -34,6 +33,11 @@ pub fn form<'a>(name: General<'a>) -> (u8, &'a [u8]) {
     }
 }
 
+/// The same of a name that is read.
+fn form_of<'a>(octets: &'a [u8]) -> Result<(u8, &'a [u8]), Fault> {
+    Ok(form(general(octets)?))
+}
+
 /// The place of a directory name, and whether it has a relative distinguished name.
 fn directory(octets: &[u8]) -> Option<(usize, bool)> {
     match general(octets) {
@@ -53,34 +57,42 @@ fn two_forms<'a>(octets: &'a [u8]) -> Option<((u8, &'a [u8]), (u8, &'a [u8]))> {
 }
 
 /// Whether the length is that of an address, and that of a range of them.
-fn lengths(name: General<'_>) -> (bool, bool) {
-    (name.has_address_length(), name.has_range_length())
+fn lengths(octets: &[u8]) -> Result<(bool, bool), Fault> {
+    let name = general(octets)?;
+    Ok((name.has_address_length(), name.has_range_length()))
+}
+
+/// General names, each with its form and octets.
+const FORMS: [(&[u8], u8, &[u8]); 9] = [
+    (
+        b"\xa0\x09\x06\x03\x2a\x03\x04\xa0\x02\x05\x00",
+        0,
+        b"\x06\x03\x2a\x03\x04\xa0\x02\x05\x00",
+    ),
+    (b"\x81\x05a@b.c", 1, b"a@b.c"),
+    (b"\x82\x0bexample.com", 2, b"example.com"),
+    (b"\xa3\x02\x05\x00", 3, b"\x05\x00"),
+    (
+        DIRECTORY,
+        4,
+        b"\x30\x0c\x31\x0a\x30\x08\x06\x03\x55\x04\x0a\x13\x01a",
+    ),
+    (b"\xa5\x07\xa1\x05\x0c\x03abc", 5, b"\xa1\x05\x0c\x03abc"),
+    (b"\x86\x08http://a", 6, b"http://a"),
+    (b"\x87\x04\x7f\x00\x00\x01", 7, b"\x7f\x00\x00\x01"),
+    (b"\x88\x03\x2a\x03\x04", 8, b"\x2a\x03\x04"),
+];
+
+#[test]
+fn nine_forms(rt: HostRuntime) {
+    for &(octets, number, content) in &FORMS {
+        assert!(rt; form_of(octets) == Ok((number, content)), "form {number}");
+    }
 }
 
 #[test]
-fn nine_forms(rt: HostRuntime) -> Result<(), Fail> {
-    for (octets, number, content) in [
-        (
-            b"\xa0\x09\x06\x03\x2a\x03\x04\xa0\x02\x05\x00".as_slice(),
-            0,
-            b"\x06\x03\x2a\x03\x04\xa0\x02\x05\x00".as_slice(),
-        ),
-        (b"\x81\x05a@b.c", 1, b"a@b.c"),
-        (b"\x82\x0bexample.com", 2, b"example.com"),
-        (b"\xa3\x02\x05\x00", 3, b"\x05\x00"),
-        (
-            DIRECTORY,
-            4,
-            b"\x30\x0c\x31\x0a\x30\x08\x06\x03\x55\x04\x0a\x13\x01a",
-        ),
-        (b"\xa5\x07\xa1\x05\x0c\x03abc", 5, b"\xa1\x05\x0c\x03abc"),
-        (b"\x86\x08http://a", 6, b"http://a"),
-        (b"\x87\x04\x7f\x00\x00\x01", 7, b"\x7f\x00\x00\x01"),
-        (b"\x88\x03\x2a\x03\x04", 8, b"\x2a\x03\x04"),
-    ] {
-        assert_eq!(rt; form(general(octets)?), (number, content));
-    }
-    Ok(())
+fn directory_names_are_names(rt: HostRuntime) {
+    assert!(rt; directory(DIRECTORY) == Some((2, true)));
 }
 
 /// General names, with the fault that each is refused by and its place.
@@ -115,48 +127,55 @@ const NAMES: [(&[u8], Option<(DerFault, usize)>); 20] = [
 
 #[test]
 fn faults_with_their_places(rt: HostRuntime) {
-    for (octets, fault) in NAMES {
-        assert_eq!(rt; place(general(octets)), fault, "{octets:?}");
+    for &(octets, fault) in &NAMES {
+        assert!(rt; place(general(octets)) == fault, "{octets:?}");
     }
 }
 
-#[test]
-fn directory_names_are_names(rt: HostRuntime) {
-    assert_eq!(rt; directory(DIRECTORY), Some((2, true)));
-}
+/// Lists of general names, with the fault that each is refused by and its place.
+const LISTS: [(&[u8], DerFault, usize); 3] = [
+    (b"\x30\x00", DerFault::Empty, 0),
+    (b"\x30\x06\x81\x01a\x82\x01\xff", DerFault::TextForm, 5),
+    (b"\x30\x05\x81\x01a\x0c\x00", DerFault::WrongTag, 5),
+];
 
 #[test]
 fn lists_of_names(rt: HostRuntime) {
-    assert_eq!(rt;
-        two_forms(HOSTS),
-        Some((
-            (2, b"example.com".as_slice()),
-            (2, b"example.org".as_slice())
-        ))
+    assert!(rt;
+        two_forms(HOSTS)
+            == Some((
+                (2, b"example.com".as_slice()),
+                (2, b"example.org".as_slice())
+            ))
     );
-    for (octets, kind, at) in [
-        (b"\x30\x00".as_slice(), DerFault::Empty, 0),
-        (b"\x30\x06\x81\x01a\x82\x01\xff", DerFault::TextForm, 5),
-        (b"\x30\x05\x81\x01a\x0c\x00", DerFault::WrongTag, 5),
-    ] {
-        assert_eq!(rt; place(names(octets)), Some((kind, at)));
+    for &(octets, kind, at) in &LISTS {
+        assert!(rt; place(names(octets)) == Some((kind, at)), "{octets:?}");
     }
 }
 
+/// A host and addresses, and whether the length is that of an address and that of a range.
+const LENGTHS: [(&[u8], bool, bool); 8] = [
+    (b"\x82\x01a", true, true),
+    (b"\x87\x00", false, false),
+    (b"\x87\x04\0\0\0\0", true, false),
+    (b"\x87\x05\0\0\0\0\0", false, false),
+    (b"\x87\x08\0\0\0\0\0\0\0\0", false, true),
+    (b"\x87\x10\0\0\0\0\0\0\0\0\0\0\0\0\0\0\0\0", true, false),
+    (
+        b"\x87\x20\0\0\0\0\0\0\0\0\0\0\0\0\0\0\0\0\0\0\0\0\0\0\0\0\0\0\0\0\0\0\0\0",
+        false,
+        true,
+    ),
+    (
+        b"\x87\x21\0\0\0\0\0\0\0\0\0\0\0\0\0\0\0\0\0\0\0\0\0\0\0\0\0\0\0\0\0\0\0\0\0",
+        false,
+        false,
+    ),
+];
+
 #[test]
-fn lengths_of_addresses(rt: HostRuntime) -> Result<(), Fail> {
-    let zeros = [0; 33];
-    for (name, wanted) in [
-        (general(b"\x82\x01a")?, (true, true)),
-        (General::IpAddress(&zeros[..0]), (false, false)),
-        (General::IpAddress(&zeros[..4]), (true, false)),
-        (General::IpAddress(&zeros[..5]), (false, false)),
-        (General::IpAddress(&zeros[..8]), (false, true)),
-        (General::IpAddress(&zeros[..16]), (true, false)),
-        (General::IpAddress(&zeros[..32]), (false, true)),
-        (General::IpAddress(&zeros), (false, false)),
-    ] {
-        assert_eq!(rt; lengths(name), wanted);
+fn lengths_of_addresses(rt: HostRuntime) {
+    for &(octets, is_address, is_range) in &LENGTHS {
+        assert!(rt; lengths(octets) == Ok((is_address, is_range)), "{octets:?}");
     }
-    Ok(())
 }

@@ -21,28 +21,23 @@ fn two<'a>(octets: &'a [u8]) -> Option<(&'a [u8], &'a [u8], bool, bool)> {
 
 #[test]
 fn items_stand_in_their_order(rt: HostRuntime) {
-    assert_eq!(rt;
-        two(&TWO),
-        Some((b"\x2a\x03".as_slice(), b"\x2a\x04".as_slice(), true, true))
-    );
+    assert!(rt; two(&TWO) == Some((b"\x2a\x03".as_slice(), b"\x2a\x04".as_slice(), true, true)));
 }
+
+/// Octets of no list of identifiers, with the fault and its place.
+const FAULTS: [(&[u8], DerFault, usize); 4] = [
+    (b"\x30\x00", DerFault::Empty, 0),
+    (b"\x30\x02\x05\x00", DerFault::WrongTag, 2),
+    (b"\x30\x05\x06\x01\x2a\x06\x00", DerFault::OidForm, 5),
+    (b"\x30\x04\x06\x01\x2a\x06", DerFault::Truncated, 5),
+];
 
 #[test]
 fn lists_are_refused_at_the_first_fault(rt: HostRuntime) {
-    for (octets, kind, at) in [
-        ([0x30, 0x00].as_slice(), DerFault::Empty, 0),
-        (&[0x30, 0x02, 0x05, 0x00], DerFault::WrongTag, 2),
-        (
-            &[0x30, 0x05, 0x06, 0x01, 0x2A, 0x06, 0x00],
-            DerFault::OidForm,
-            5,
-        ),
-        (
-            &[0x30, 0x04, 0x06, 0x01, 0x2A, 0x06],
-            DerFault::Truncated,
-            5,
-        ),
-    ] {
-        assert_eq!(rt; place(identifiers(octets)), Some((kind, at)));
+    for &(octets, kind, at) in &FAULTS {
+        assert!(rt;
+            place(identifiers(octets)) == Some((kind, at)),
+            "{octets:?}"
+        );
     }
 }

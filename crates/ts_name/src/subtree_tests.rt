@@ -3,7 +3,6 @@
 use super::*;
 use crate::general_tests::form;
 use crate::tests::place;
-use std::test::Fail;
 use ts_der::{DerFault, Fault, Reader};
 
 /// The network 192.0.2.0/24, whose octets are those of RFC 5280 4.2.1.10.
@@ -39,6 +38,16 @@ fn base<'a>(subtree: Subtree<'a>) -> (u8, &'a [u8]) {
     form(subtree.base())
 }
 
+/// The same of a subtree that is read, whether it has no bounds, and whether its length is that of addresses.
+fn parts<'a>(octets: &'a [u8]) -> Result<((u8, &'a [u8]), bool, bool), Fault> {
+    let subtree = element(octets)?;
+    Ok((
+        base(subtree),
+        subtree.is_unbounded(),
+        subtree.has_address_length(),
+    ))
+}
+
 /// The bases of a list of two subtrees.
 fn two_bases<'a>(octets: &'a [u8]) -> Option<((u8, &'a [u8]), (u8, &'a [u8]))> {
     let mut subtrees = list(octets).ok()?.iter();
@@ -49,73 +58,69 @@ fn two_bases<'a>(octets: &'a [u8]) -> Option<((u8, &'a [u8]), (u8, &'a [u8]))> {
     Some(bases)
 }
 
+/// Subtrees, with the form and octets of the base, whether there are no bounds, and whether the length is that of
+/// addresses.
+const SUBTREES: [(&[u8], u8, &[u8], bool, bool); 6] = [
+    (NETWORK, 7, b"\xc0\x00\x02\x00\xff\xff\xff\x00", true, true),
+    (HOSTS, 2, b"a.b", true, true),
+    (FROM_ONE, 2, b"a.b", false, true),
+    (TO_FIVE, 2, b"a.b", false, true),
+    (
+        b"\x30\x06\x87\x04\x0a\x00\x00\x00",
+        7,
+        b"\x0a\x00\x00\x00",
+        true,
+        false,
+    ),
+    // Both bounds, the minimum before the maximum.
+    (
+        b"\x30\x0b\x82\x03a.b\x80\x01\x01\x81\x01\x05",
+        2,
+        b"a.b",
+        false,
+        true,
+    ),
+];
+
 #[test]
-fn subtrees_that_are_read(rt: HostRuntime) -> Result<(), Fail> {
-    for (octets, name, is_unbounded, has_address_length) in [
-        (
-            NETWORK,
-            (7, b"\xc0\x00\x02\x00\xff\xff\xff\x00".as_slice()),
-            true,
-            true,
-        ),
-        (HOSTS, (2, b"a.b"), true, true),
-        (FROM_ONE, (2, b"a.b"), false, true),
-        (TO_FIVE, (2, b"a.b"), false, true),
-        (
-            b"\x30\x06\x87\x04\x0a\x00\x00\x00",
-            (7, b"\x0a\x00\x00\x00"),
-            true,
-            false,
-        ),
-        // Both bounds, the minimum before the maximum.
-        (
-            b"\x30\x0b\x82\x03a.b\x80\x01\x01\x81\x01\x05",
-            (2, b"a.b"),
-            false,
-            true,
-        ),
-    ] {
-        let subtree = element(octets)?;
-        assert_eq!(rt;
-            (
-                base(subtree),
-                subtree.is_unbounded(),
-                subtree.has_address_length()
-            ),
-            (name, is_unbounded, has_address_length)
-        );
+fn subtrees_that_are_read(rt: HostRuntime) {
+    for &(octets, form, base, is_unbounded, has_length) in &SUBTREES {
+        let wanted = ((form, base), is_unbounded, has_length);
+        assert!(rt; parts(octets) == Ok(wanted), "{octets:?}");
     }
-    Ok(())
 }
+
+/// Octets of no subtree, with the fault and its place.
+const FAULTS: [(&[u8], DerFault, usize); 7] = [
+    // No base, and a base of no form.
+    (b"\x30\x00", DerFault::Truncated, 2),
+    (b"\x30\x02\x89\x00", DerFault::WrongTag, 2),
+    // The default, encoded.
+    (
+        b"\x30\x08\x82\x03a.b\x80\x01\x00",
+        DerFault::DefaultEncoded,
+        7,
+    ),
+    // Zero in two octets is no INTEGER before it is the default.
+    (
+        b"\x30\x09\x82\x03a.b\x80\x02\x00\x00",
+        DerFault::IntegerForm,
+        7,
+    ),
+    (b"\x30\x07\x82\x03a.b\x81\x00", DerFault::IntegerForm, 7),
+    // The maximum before the minimum, and another element behind the base.
+    (
+        b"\x30\x0b\x82\x03a.b\x81\x01\x05\x80\x01\x01",
+        DerFault::Trailing,
+        10,
+    ),
+    (b"\x30\x07\x82\x03a.b\x05\x00", DerFault::Trailing, 7),
+];
 
 #[test]
 fn faults_with_their_places(rt: HostRuntime) {
-    for (octets, kind, at) in [
-        // No base, and a base of no form.
-        (b"\x30\x00".as_slice(), DerFault::Truncated, 2),
-        (b"\x30\x02\x89\x00", DerFault::WrongTag, 2),
-        // The default, encoded.
-        (
-            b"\x30\x08\x82\x03a.b\x80\x01\x00",
-            DerFault::DefaultEncoded,
-            7,
-        ),
-        // Zero in two octets is no INTEGER before it is the default.
-        (
-            b"\x30\x09\x82\x03a.b\x80\x02\x00\x00",
-            DerFault::IntegerForm,
-            7,
-        ),
-        (b"\x30\x07\x82\x03a.b\x81\x00", DerFault::IntegerForm, 7),
-        // The maximum before the minimum, and another element behind the base.
-        (
-            b"\x30\x0b\x82\x03a.b\x81\x01\x05\x80\x01\x01",
-            DerFault::Trailing,
-            10,
-        ),
-        (b"\x30\x07\x82\x03a.b\x05\x00", DerFault::Trailing, 7),
-    ] {
-        assert_eq!(rt; place(element(octets)), Some((kind, at)));
+    for &(octets, kind, at) in &FAULTS {
+        assert!(rt; place(element(octets)) == Some((kind, at)), "{octets:?}");
     }
 }
 
@@ -166,19 +171,16 @@ const CONSTRAINTS: [(&[u8], Option<(CertRule, usize)>); 13] = [
 
 #[test]
 fn constraints(rt: HostRuntime) {
-    for (octets, rule) in CONSTRAINTS {
-        assert_eq!(rt; broken(octets), rule, "{octets:?}");
+    for &(octets, rule) in &CONSTRAINTS {
+        assert!(rt; broken(octets) == rule, "{octets:?}");
     }
 }
 
 #[test]
 fn lists_of_subtrees(rt: HostRuntime) {
-    assert_eq!(rt;
-        two_bases(b"\x30\x0d\x30\x05\x82\x03a.b\x30\x04\x82\x02.c"),
-        Some(((2, b"a.b".as_slice()), (2, b".c".as_slice())))
+    assert!(rt;
+        two_bases(b"\x30\x0d\x30\x05\x82\x03a.b\x30\x04\x82\x02.c")
+            == Some(((2, b"a.b".as_slice()), (2, b".c".as_slice())))
     );
-    assert_eq!(rt;
-        place(list(b"\x30\x02\x31\x00")),
-        Some((DerFault::WrongTag, 2))
-    );
+    assert!(rt; place(list(b"\x30\x02\x31\x00")) == Some((DerFault::WrongTag, 2)));
 }
