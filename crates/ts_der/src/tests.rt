@@ -166,32 +166,39 @@ fn booleans(rt: HostRuntime) {
     }
 }
 
-/// Whether an INTEGER is negative, and its octets.
-fn integer<'a>(octets: &'a [u8]) -> Result<(bool, &'a [u8]), Fault> {
-    let integer = first(octets)?.integer()?;
-    Ok((integer.is_negative(), integer.octets))
+/// Whether an INTEGER is negative, or the fault and its place, and its octets, none where there is a fault.
+fn integer<'a>(octets: &'a [u8]) -> (Result<bool, Place>, &'a [u8]) {
+    match first(octets).and_then(|element| element.integer()) {
+        Ok(integer) => (Ok(integer.is_negative()), integer.octets),
+        Err(Fault { kind, at }) => (Err((kind, at)), b""),
+    }
 }
 
-/// Elements, with the sign and octets of the INTEGER, or the fault and its place.
-const INTEGERS: [(&[u8], Result<(bool, &[u8]), Place>); 9] = [
-    (b"\x02\x00", Err((DerFault::IntegerForm, 0))),
-    (b"\x02\x02\x00\x7f", Err((DerFault::IntegerForm, 0))),
-    (b"\x02\x02\xff\x80", Err((DerFault::IntegerForm, 0))),
-    (b"\x02\x03\x00\x00\x80", Err((DerFault::IntegerForm, 0))),
-    (b"\x02\x01\x00", Ok((false, b"\x00"))),
-    (b"\x02\x02\x00\x80", Ok((false, b"\x00\x80"))),
-    (b"\x02\x01\x80", Ok((true, b"\x80"))),
-    (b"\x02\x02\xff\x7f", Ok((true, b"\xff\x7f"))),
+/// Elements, with the sign of the INTEGER or the fault and its place, and the octets.
+const INTEGERS: [(&[u8], Result<bool, Place>, &[u8]); 9] = [
+    (b"\x02\x00", Err((DerFault::IntegerForm, 0)), b""),
+    (b"\x02\x02\x00\x7f", Err((DerFault::IntegerForm, 0)), b""),
+    (b"\x02\x02\xff\x80", Err((DerFault::IntegerForm, 0)), b""),
+    (
+        b"\x02\x03\x00\x00\x80",
+        Err((DerFault::IntegerForm, 0)),
+        b"",
+    ),
+    (b"\x02\x01\x00", Ok(false), b"\x00"),
+    (b"\x02\x02\x00\x80", Ok(false), b"\x00\x80"),
+    (b"\x02\x01\x80", Ok(true), b"\x80"),
+    (b"\x02\x02\xff\x7f", Ok(true), b"\xff\x7f"),
     (
         b"\x02\x09\x00\xff\xff\xff\xff\xff\xff\xff\xff",
-        Ok((false, b"\x00\xff\xff\xff\xff\xff\xff\xff\xff")),
+        Ok(false),
+        b"\x00\xff\xff\xff\xff\xff\xff\xff\xff",
     ),
 ];
 
 #[test]
 fn integers(rt: HostRuntime) {
-    for &(octets, value) in &INTEGERS {
-        assert!(rt; placed(integer(octets)) == value, "{octets:?}");
+    for &(octets, sign, content) in &INTEGERS {
+        assert!(rt; integer(octets) == (sign, content), "{octets:?}");
     }
 }
 
@@ -224,10 +231,12 @@ fn small_integers(rt: HostRuntime) {
     }
 }
 
-/// The unused bits and the octets of a BIT STRING.
-fn bits<'a>(octets: &'a [u8]) -> Result<(u8, &'a [u8]), Fault> {
-    let bits = first(octets)?.bits()?;
-    Ok((bits.unused, bits.octets))
+/// The unused bits of a BIT STRING, or the fault and its place, and its octets, none where there is a fault.
+fn bits<'a>(octets: &'a [u8]) -> (Result<u8, Place>, &'a [u8]) {
+    match first(octets).and_then(|element| element.bits()) {
+        Ok(Bits { unused, octets, .. }) => (Ok(unused), octets),
+        Err(Fault { kind, at }) => (Err((kind, at)), b""),
+    }
 }
 
 fn named_bits(octets: &[u8]) -> Result<Bits<'_>, Fault> {
@@ -238,57 +247,59 @@ fn whole_octets(octets: &[u8]) -> Result<&[u8], Fault> {
     first(octets)?.whole_octets()
 }
 
-/// Elements, with the unused bits and octets of the BIT STRING or the fault, what refuses named bits, and what refuses
+/// Elements, with the unused bits of the BIT STRING or the fault, the octets, what refuses named bits, and what refuses
 /// whole octets.
 const BIT_STRINGS: [(
     &[u8],
-    Result<(u8, &[u8]), Place>,
+    Result<u8, Place>,
+    &[u8],
     Option<Place>,
     Option<Place>,
 ); 11] = [
     (
         b"\x03\x00",
         Err(BITS_FORM),
+        b"",
         Some(BITS_FORM),
         Some(BITS_FORM),
     ),
     (
         b"\x03\x01\x01",
         Err(BITS_FORM),
+        b"",
         Some(BITS_FORM),
         Some(BITS_FORM),
     ),
     (
         b"\x03\x02\x08\x00",
         Err(BITS_FORM),
+        b"",
         Some(BITS_FORM),
         Some(BITS_FORM),
     ),
     (
         b"\x03\x02\x01\x01",
         Err(BITS_FORM),
+        b"",
         Some(BITS_FORM),
         Some(BITS_FORM),
     ),
     (
         b"\x03\x02\x07\x40",
         Err(BITS_FORM),
+        b"",
         Some(BITS_FORM),
         Some(BITS_FORM),
     ),
-    (b"\x03\x01\x00", Ok((0, b"")), None, None),
-    (
-        b"\x03\x02\x00\x00",
-        Ok((0, b"\x00")),
-        Some(NAMED_BITS),
-        None,
-    ),
-    (b"\x03\x02\x00\x01", Ok((0, b"\x01")), None, None),
-    (b"\x03\x02\x07\x80", Ok((7, b"\x80")), None, Some(BITS_FORM)),
-    (b"\x03\x02\x01\x06", Ok((1, b"\x06")), None, Some(BITS_FORM)),
+    (b"\x03\x01\x00", Ok(0), b"", None, None),
+    (b"\x03\x02\x00\x00", Ok(0), b"\x00", Some(NAMED_BITS), None),
+    (b"\x03\x02\x00\x01", Ok(0), b"\x01", None, None),
+    (b"\x03\x02\x07\x80", Ok(7), b"\x80", None, Some(BITS_FORM)),
+    (b"\x03\x02\x01\x06", Ok(1), b"\x06", None, Some(BITS_FORM)),
     (
         b"\x03\x02\x01\x04",
-        Ok((1, b"\x04")),
+        Ok(1),
+        b"\x04",
         Some(NAMED_BITS),
         Some(BITS_FORM),
     ),
@@ -296,52 +307,58 @@ const BIT_STRINGS: [(
 
 #[test]
 fn bit_strings(rt: HostRuntime) {
-    for &(octets, value, named, whole) in &BIT_STRINGS {
+    for &(octets, unused, content, named, whole) in &BIT_STRINGS {
         let refused = (refusal(named_bits(octets)), refusal(whole_octets(octets)));
         assert!(rt;
-            (placed(bits(octets)), refused) == (value, (named, whole)),
+            (bits(octets), refused) == ((unused, content), (named, whole)),
             "{octets:?}"
         );
     }
 }
 
-fn oid<'a>(octets: &'a [u8]) -> Result<&'a [u8], Fault> {
-    Ok(first(octets)?.oid()?.content)
+/// What refuses an object identifier, and its content, none where it is refused.
+fn oid<'a>(octets: &'a [u8]) -> (Option<Place>, &'a [u8]) {
+    match first(octets).and_then(|element| element.oid()) {
+        Ok(OidRef { content, .. }) => (None, content),
+        Err(Fault { kind, at }) => (Some((kind, at)), b""),
+    }
 }
 
-/// Elements, with the content of the object identifier, or the fault and its place.
-const OIDS: [(&[u8], Result<&[u8], Place>); 8] = [
-    (b"\x06\x00", Err(OID_FORM)),
-    (b"\x06\x02\x80\x01", Err(OID_FORM)),
-    (b"\x06\x01\x88", Err(OID_FORM)),
-    (b"\x06\x03\x2a\x80\x01", Err(OID_FORM)),
+/// Elements, with what refuses the object identifier, and its content.
+const OIDS: [(&[u8], Option<Place>, &[u8]); 8] = [
+    (b"\x06\x00", Some(OID_FORM), b""),
+    (b"\x06\x02\x80\x01", Some(OID_FORM), b""),
+    (b"\x06\x01\x88", Some(OID_FORM), b""),
+    (b"\x06\x03\x2a\x80\x01", Some(OID_FORM), b""),
     // 2^128
     (
         b"\x06\x14\x2a\x84\x80\x80\x80\x80\x80\x80\x80\x80\x80\x80\x80\x80\x80\x80\x80\x80\x80\x00",
-        Err(OID_FORM),
+        Some(OID_FORM),
+        b"",
     ),
-    (b"\x06\x04\x88\x37\x01\x01", Ok(b"\x88\x37\x01\x01")),
-    (b"\x06\x01\x00", Ok(b"\x00")),
+    (b"\x06\x04\x88\x37\x01\x01", None, b"\x88\x37\x01\x01"),
+    (b"\x06\x01\x00", None, b"\x00"),
     // 2^128 - 1
     (
         b"\x06\x14\x2a\x83\xff\xff\xff\xff\xff\xff\xff\xff\xff\xff\xff\xff\xff\xff\xff\xff\xff\x7f",
-        Ok(b"\x2a\x83\xff\xff\xff\xff\xff\xff\xff\xff\xff\xff\xff\xff\xff\xff\xff\xff\xff\x7f"),
+        None,
+        b"\x2a\x83\xff\xff\xff\xff\xff\xff\xff\xff\xff\xff\xff\xff\xff\xff\xff\xff\xff\x7f",
     ),
 ];
 
 #[test]
 fn object_identifiers(rt: HostRuntime) {
-    for &(octets, content) in &OIDS {
-        assert!(rt; placed(oid(octets)) == content, "{octets:?}");
+    for &(octets, refused, content) in &OIDS {
+        assert!(rt; oid(octets) == (refused, content), "{octets:?}");
     }
     // 128 octets are the most
     let mut octets = [0x01; 132];
     octets[0] = 0x06;
     octets[1] = 0x81;
     octets[2] = 0x80;
-    assert!(rt; oid(&octets[..131]).is_ok());
+    let (refused, _) = oid(&octets[..131]);
     octets[2] = 0x81;
-    assert!(rt; refusal(oid(&octets)) == Some(OID_FORM));
+    assert!(rt; (refused, oid(&octets)) == (None, (Some(OID_FORM), b"".as_slice())));
 }
 
 fn utf8(octets: &[u8]) -> Result<&str, Fault> {
