@@ -2,25 +2,31 @@
 
 use crate::command_line::{CommandFault, Task, task_of};
 use crate::lab::{StreamFault, answer, lab};
+use std::alloc::{AllocError, Global};
 use std::io;
 use std::io::{ErrorKind, Read, Write};
-use std::test::Fail;
 
-/// Gives its octets one a read, and each after an interruption.
+/// Gives its octets one a read. Each may come after an interruption, and at the end it may fail.
 #[derive(Drop)]
 struct OneByOne<'a> {
     octets: &'a [u8],
+    interrupts: bool,
     is_interrupted: bool,
+    fails: bool,
 }
 
 impl Read for OneByOne<'_> {
     fn read(&mut self, buf: &mut [u8]) -> io::Result<usize> {
-        self.is_interrupted = !self.is_interrupted;
+        self.is_interrupted = self.interrupts && !self.is_interrupted;
         if self.is_interrupted {
             return Err(ErrorKind::Interrupted.into());
         }
         if self.octets.is_empty() || buf.is_empty() {
-            return Ok(0);
+            return if self.fails {
+                Err(ErrorKind::Other.into())
+            } else {
+                Ok(0)
+            };
         }
         buf[0] = self.octets[0];
         self.octets = &self.octets[1..];
@@ -28,18 +34,23 @@ impl Read for OneByOne<'_> {
     }
 }
 
-/// Gives its octets, and fails where others end.
-#[derive(Drop)]
-struct FailsAtEnd<'a>(&'a [u8]);
+/// A reader of octets with an interruption before each.
+fn interrupted<'a>(octets: &'a [u8]) -> OneByOne<'a> {
+    OneByOne {
+        octets,
+        interrupts: true,
+        is_interrupted: false,
+        fails: false,
+    }
+}
 
-impl Read for FailsAtEnd<'_> {
-    fn read(&mut self, buf: &mut [u8]) -> io::Result<usize> {
-        if self.0.is_empty() || buf.is_empty() {
-            return Err(ErrorKind::Other.into());
-        }
-        buf[0] = self.0[0];
-        self.0 = &self.0[1..];
-        Ok(1)
+/// A reader of octets that fails where others end.
+fn failing<'a>(octets: &'a [u8]) -> OneByOne<'a> {
+    OneByOne {
+        octets,
+        interrupts: false,
+        is_interrupted: false,
+        fails: true,
     }
 }
 
@@ -61,10 +72,11 @@ impl Read for Endless {
     }
 }
 
-/// Takes this many octets, and then fails.
+/// Takes this many octets, and then fails; what it took it may fail to pass on.
 #[derive(Drop)]
 struct Full {
     room: usize,
+    passes_on: bool,
 }
 
 impl Write for Full {
@@ -78,22 +90,18 @@ impl Write for Full {
     }
 
     fn flush(&mut self) -> io::Result<()> {
-        Ok(())
+        if self.passes_on {
+            Ok(())
+        } else {
+            Err(ErrorKind::Other.into())
+        }
     }
 }
 
-/// Takes all that is written, and fails to pass it on.
-#[derive(Drop)]
-struct Unflushed;
-
-impl Write for Unflushed {
-    fn write(&mut self, buf: &[u8]) -> io::Result<usize> {
-        Ok(buf.len())
-    }
-
-    fn flush(&mut self) -> io::Result<()> {
-        Err(ErrorKind::Other.into())
-    }
+/// Whether the lab ends with this status, and has written this text.
+fn answers<R: Read + Drop>(alloc: Global, mut reader: R, status: u8, text: &[u8]) -> bool {
+    let mut written = Vec::new(alloc);
+    lab(alloc, &mut reader, &mut written) == status && written.as_slice() == text
 }
 
 /// Scripts, with what the lab writes for each and its status.
@@ -112,28 +120,14 @@ const SCRIPTS: [(&[u8], &[u8], u8); 11] = [
 ];
 
 #[test]
-fn answers_scripts(rt: HostRuntime) -> Result<(), Fail> {
-    for (script, text, status) in SCRIPTS {
-        let mut written = Vec::new(rt.alloc());
-        assert_eq!(rt;
-            lab(rt.alloc(), &mut &*script, &mut written),
-            status,
+fn answers_scripts(rt: HostRuntime) {
+    for &(script, text, status) in &SCRIPTS {
+        assert!(rt; answers(rt.alloc(), script, status, text), "{script:?}");
+        assert!(rt;
+            answers(rt.alloc(), interrupted(script), status, text),
             "{script:?}"
         );
-        assert_eq!(rt; written.as_slice(), text, "{script:?}");
-        let mut written = Vec::new(rt.alloc());
-        let mut reader = OneByOne {
-            octets: script,
-            is_interrupted: false,
-        };
-        assert_eq!(rt;
-            lab(rt.alloc(), &mut reader, &mut written),
-            status,
-            "{script:?}"
-        );
-        assert_eq!(rt; written.as_slice(), text, "{script:?}");
     }
-    Ok(())
 }
 
 /// An anchor and a certificate that it issued.
@@ -251,27 +245,28 @@ const LINES: [(&str, &str); 43] = [
     ),
 ];
 
-#[test]
-fn answers_lines(rt: HostRuntime) -> Result<(), Fail> {
-    for (line, answer) in LINES {
-        let script = format!(in rt.alloc(); "{NAMED}{line}\ncheck\n")?;
-        let mut written = Vec::new(rt.alloc());
-        assert_eq!(rt;
-            lab(rt.alloc(), &mut script.as_bytes(), &mut written),
-            2,
-            "{line}"
-        );
-        let is_wrong = answer.starts_with("line");
-        let rest = if is_wrong { "" } else { "line 6: form\n" };
-        let text = format!(in rt.alloc(); "{NAMED_TEXT}{answer}\n{rest}")?;
-        assert_eq!(rt; str::from_utf8(&written), Ok(text.as_str()), "{line}");
-    }
-    Ok(())
+/// Whether the lab answers a line behind the certificates so, and refuses the one behind it if that is read.
+fn answers_line(alloc: Global, line: &str, answer: &str) -> Result<bool, AllocError> {
+    let script = format!(in alloc; "{NAMED}{line}\ncheck\n")?;
+    let is_wrong = answer.starts_with("line");
+    let rest = if is_wrong { "" } else { "line 6: form\n" };
+    let text = format!(in alloc; "{NAMED_TEXT}{answer}\n{rest}")?;
+    Ok(answers(alloc, script.as_bytes(), 2, text.as_bytes()))
 }
 
 #[test]
-fn a_certificate_may_be_too_long(rt: HostRuntime) -> Result<(), Fail> {
-    let mut script = Vec::new(rt.alloc());
+fn answers_lines(rt: HostRuntime) {
+    for &(line, answer) in &LINES {
+        assert!(rt;
+            answers_line(rt.alloc(), line, answer) == Ok(true),
+            "{line}"
+        );
+    }
+}
+
+/// A certificate that is too long.
+fn too_long(alloc: Global) -> Result<Vec<u8>, AllocError> {
+    let mut script = Vec::new(alloc);
     script.extend_from_slice(
         b"cert R serial 1 issuer CN=R subject CN=R from 20260101000000Z to 20270101000000Z key ",
     )?;
@@ -279,141 +274,152 @@ fn a_certificate_may_be_too_long(rt: HostRuntime) -> Result<(), Fail> {
         script.extend_from_slice(b"61")?;
     }
     script.extend_from_slice(b" signer 61")?;
-    let mut written = Vec::new(rt.alloc());
-    assert_eq!(rt; lab(rt.alloc(), &mut script.as_slice(), &mut written), 2);
-    assert_eq!(rt; written.as_slice(), b"line 1: limit\n".as_slice());
-    Ok(())
+    Ok(script)
 }
 
-#[test]
-fn what_was_printed_stays_where_a_read_fails(rt: HostRuntime) -> Result<(), Fail> {
-    let script = format!(in rt.alloc(); "{NAMED}check")?;
-    let mut written = Vec::new(rt.alloc());
-    assert_eq!(rt;
-        lab(rt.alloc(), &mut FailsAtEnd(script.as_bytes()), &mut written),
-        1
-    );
-    assert_eq!(rt; written.as_slice(), NAMED_TEXT.as_bytes());
-    Ok(())
-}
-
-#[test]
-fn lines_pass_the_ends_of_pieces(rt: HostRuntime) -> Result<(), Fail> {
-    let mut script = vec![in rt.alloc(); b'#'; 20_000]?;
+/// A comment longer than a piece, an empty line, and a wrong one.
+fn long_comment(alloc: Global) -> Result<Vec<u8>, AllocError> {
+    let mut script = vec![in alloc; b'#'; 20_000]?;
     script.extend_from_slice(b"\n\nx")?;
-    let mut written = Vec::new(rt.alloc());
-    assert_eq!(rt; lab(rt.alloc(), &mut script.as_slice(), &mut written), 2);
-    assert_eq!(rt; written.as_slice(), b"line 3: unknown\n".as_slice());
+    Ok(script)
+}
+
+#[test]
+fn a_certificate_may_be_too_long(rt: HostRuntime) -> Result<(), AllocError> {
+    let script = too_long(rt.alloc())?;
+    assert!(rt; answers(rt.alloc(), script.as_slice(), 2, b"line 1: limit\n"));
     Ok(())
 }
 
 #[test]
-fn a_failed_read_writes_nothing(rt: HostRuntime) -> Result<(), Fail> {
-    for script in [b"".as_slice(), b"# a\n", b"# a\n\nx"] {
-        let mut written = Vec::new(rt.alloc());
-        assert_eq!(rt;
-            lab(rt.alloc(), &mut FailsAtEnd(script), &mut written),
-            1,
+fn lines_pass_the_ends_of_pieces(rt: HostRuntime) -> Result<(), AllocError> {
+    let script = long_comment(rt.alloc())?;
+    assert!(rt; answers(rt.alloc(), script.as_slice(), 2, b"line 3: unknown\n"));
+    Ok(())
+}
+
+#[test]
+fn what_was_printed_stays_where_a_read_fails(rt: HostRuntime) -> Result<(), AllocError> {
+    let script = format!(in rt.alloc(); "{NAMED}check")?;
+    let reader = failing(script.as_bytes());
+    assert!(rt; answers(rt.alloc(), reader, 1, NAMED_TEXT.as_bytes()));
+    Ok(())
+}
+
+/// What the lab answers with at most this many reads, and whether it has written nothing.
+fn limited<R: Read>(alloc: Global, reader: &mut R, reads: u32) -> (Result<u8, StreamFault>, bool) {
+    let mut written = Vec::new(alloc);
+    let answer = answer(alloc, reader, &mut written, reads);
+    (answer, written.is_empty())
+}
+
+/// Scripts whose end is not read: the status, the answer, and what is written.
+const FAILING: [(&[u8], u8, Result<u8, StreamFault>, &[u8]); 4] = [
+    (b"", 1, Err(StreamFault::Read), b""),
+    (b"# a\n", 1, Err(StreamFault::Read), b""),
+    (b"# a\n\nx", 1, Err(StreamFault::Read), b""),
+    // Nothing is read after a wrong line.
+    (b"x\n", 2, Ok(2), b"line 1: unknown\n"),
+];
+
+#[test]
+fn a_failed_read_writes_nothing(rt: HostRuntime) {
+    for &(script, status, answer, text) in &FAILING {
+        let found = limited(rt.alloc(), &mut failing(script), 9);
+        let is_answered = answers(rt.alloc(), failing(script), status, text);
+        assert!(rt;
+            (found, is_answered) == ((answer, text.is_empty()), true),
             "{script:?}"
         );
-        assert_eq!(rt; written.as_slice(), b"".as_slice(), "{script:?}");
-        assert_eq!(rt;
-            answer(rt.alloc(), &mut FailsAtEnd(script), &mut written, 9),
-            Err(StreamFault::Read)
-        );
     }
-    Ok(())
 }
 
-#[test]
-fn nothing_is_read_after_a_wrong_line(rt: HostRuntime) -> Result<(), Fail> {
-    let mut written = Vec::new(rt.alloc());
-    assert_eq!(rt; lab(rt.alloc(), &mut FailsAtEnd(b"x\n"), &mut written), 2);
-    assert_eq!(rt; written.as_slice(), b"line 1: unknown\n".as_slice());
-    Ok(())
+/// The status of a script where a writer has this much room, and the room that is left.
+fn written_to(alloc: Global, script: &[u8], room: usize, passes_on: bool) -> (u8, usize) {
+    let mut writer = Full { room, passes_on };
+    let mut reader = script;
+    (lab(alloc, &mut reader, &mut writer), writer.room)
 }
+
+/// Scripts, the room of a writer, whether it passes on what it took, and the status.
+const WRITTEN: [(&[u8], usize, bool, u8); 6] = [
+    (b"x\n", 0, true, 1),
+    (b"x\n", 1, true, 1),
+    (b"x\n", 15, true, 1),
+    (b"x\n", 16, true, 2),
+    (b"#\n", 0, true, 0),
+    (b"x\n", 16, false, 1),
+];
 
 #[test]
 fn a_failed_write_ends_with_1(rt: HostRuntime) {
-    for room in [0, 1, 15] {
-        let mut writer = Full { room };
-        assert_eq!(rt;
-            lab(rt.alloc(), &mut b"x\n".as_slice(), &mut writer),
-            1,
-            "{room}"
-        );
-        assert_eq!(rt; writer.room, 0, "{room}");
+    for &(script, room, passes_on, status) in &WRITTEN {
+        let found = written_to(rt.alloc(), script, room, passes_on);
+        assert!(rt; found == (status, 0), "{script:?} {room}");
     }
-    assert_eq!(rt;
-        lab(rt.alloc(), &mut b"x\n".as_slice(), &mut Full { room: 16 }),
-        2
-    );
-    assert_eq!(rt;
-        lab(rt.alloc(), &mut b"#\n".as_slice(), &mut Full { room: 0 }),
-        0
-    );
-    assert_eq!(rt; lab(rt.alloc(), &mut b"x\n".as_slice(), &mut Unflushed), 1);
 }
 
 #[test]
 fn an_endless_input_meets_the_limit(rt: HostRuntime) {
-    let mut written = Vec::new(rt.alloc());
     for octet in [b'#', b'\n', b'x'] {
         let mut reader = Endless { octet, reads: 0 };
-        assert_eq!(rt;
-            answer(rt.alloc(), &mut reader, &mut written, 9),
-            Err(StreamFault::ReadLimit)
+        let found = limited(rt.alloc(), &mut reader, 9);
+        assert!(rt;
+            (found, reader.reads) == ((Err(StreamFault::ReadLimit), true), 9),
+            "{octet}"
         );
-        assert_eq!(rt; reader.reads, 9, "{octet}");
     }
     let mut reader = Endless {
         octet: b'\n',
         reads: 0,
     };
-    assert_eq!(rt; lab(rt.alloc(), &mut reader, &mut written), 1);
-    assert_eq!(rt; reader.reads, 16_777_216);
-    assert!(rt; written.is_empty());
+    let mut written = Vec::new(rt.alloc());
+    let status = lab(rt.alloc(), &mut reader, &mut written);
+    assert!(rt; (status, reader.reads, written.len()) == (1, 16_777_216, 0));
 }
+
+/// Scripts, how many reads there may be, and the answer.
+const READS: [(&[u8], u32, Result<u8, StreamFault>); 3] = [
+    (b"x", 2, Ok(2)),
+    (b"x", 1, Err(StreamFault::ReadLimit)),
+    (b"x\n", 1, Ok(2)),
+];
 
 #[test]
 fn an_input_that_ends_at_the_last_read_is_answered(rt: HostRuntime) {
-    let mut written = Vec::new(rt.alloc());
-    assert_eq!(rt;
-        answer(rt.alloc(), &mut b"x".as_slice(), &mut written, 2),
-        Ok(2)
-    );
-    assert_eq!(rt;
-        answer(rt.alloc(), &mut b"x".as_slice(), &mut written, 1),
-        Err(StreamFault::ReadLimit)
-    );
-    assert_eq!(rt;
-        answer(rt.alloc(), &mut b"x\n".as_slice(), &mut written, 1),
-        Ok(2)
-    );
+    for &(script, reads, answer) in &READS {
+        let mut reader = script;
+        let (found, _) = limited(rt.alloc(), &mut reader, reads);
+        assert!(rt; found == answer, "{script:?} {reads}");
+    }
 }
+
+/// The task that words ask for, or whether what refuses them goes to standard error.
+fn task_in(alloc: Global, words: &[&str]) -> Option<Result<Task, bool>> {
+    match task_of(alloc, words) {
+        Ok(task) => Some(Ok(task)),
+        Err(CommandFault::Words(error)) => Some(Err(error.use_stderr())),
+        Err(_) => None,
+    }
+}
+
+/// Words of a command line, with their task, or whether what refuses them goes to standard error.
+const COMMANDS: [(&[&str], Result<Task, bool>); 10] = [
+    (&["trustd", "lab"], Ok(Task::Lab)),
+    (&[], Err(true)),
+    (&["trustd"], Err(true)),
+    (&["trustd", "help"], Err(true)),
+    (&["trustd", "labs"], Err(true)),
+    (&["trustd", "--lab"], Err(true)),
+    (&["trustd", "lab", "lab"], Err(true)),
+    (&["trustd", "lab", "--script"], Err(true)),
+    (&["trustd", "--help"], Err(false)),
+    (&["trustd", "lab", "-h"], Err(false)),
+];
 
 #[test]
 fn reads_command_lines(rt: HostRuntime) {
-    assert!(rt; matches!(task_of(rt.alloc(), &["trustd", "lab"]), Ok(Task::Lab)));
-    let wrong: [&[&str]; 7] = [
-        &[],
-        &["trustd"],
-        &["trustd", "help"],
-        &["trustd", "labs"],
-        &["trustd", "--lab"],
-        &["trustd", "lab", "lab"],
-        &["trustd", "lab", "--script"],
-    ];
-    for words in wrong {
-        assert!(rt;
-            matches!(task_of(rt.alloc(), words), Err(CommandFault::Words(error)) if error.use_stderr()),
-            "{words:?}"
-        );
-    }
-    for words in [["trustd", "--help"].as_slice(), &["trustd", "lab", "-h"]] {
-        assert!(rt;
-            matches!(task_of(rt.alloc(), words), Err(CommandFault::Words(error)) if !error.use_stderr()),
-            "{words:?}"
-        );
+    for &(words, wanted) in &COMMANDS {
+        assert!(rt; task_in(rt.alloc(), words) == Some(wanted), "{words:?}");
     }
 }

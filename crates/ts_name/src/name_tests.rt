@@ -1,7 +1,8 @@
 //! Rows by hand: names that are read, their faults with their places, and names that are one or not.
 
 use super::*;
-use std::test::Fail;
+use crate::tests::place;
+use std::alloc::Global;
 use ts_der::{DerFault, Fault, Reader};
 
 /// CN=`  Foo  Bar` as a UTF8String.
@@ -35,106 +36,108 @@ fn name(octets: &[u8]) -> Result<Name<'_>, Fault> {
     Name::read(Reader::new(octets).element(0x30)?)
 }
 
-fn refusal(octets: &[u8]) -> Option<(DerFault, usize)> {
-    name(octets).err().map(|fault| (fault.kind, fault.at))
+/// Whether a name is one with another, in the comparison and in canonical form, whether it lies within the other, and
+/// whether its canonical form is the empty one.
+fn compared(alloc: Global, a: &[u8], b: &[u8]) -> Option<(bool, bool, bool, bool)> {
+    let (a, b) = (name(a).ok()?, name(b).ok()?);
+    let (canon, other) = (a.canon(alloc).ok()?, b.canon(alloc).ok()?);
+    let is_empty = canon.same(&Canon::new(alloc));
+    Some((a.same(b), canon.same(&other), a.within(b), is_empty))
 }
 
-#[test]
-fn names_that_are_one(rt: HostRuntime) -> Result<(), Fail> {
-    assert!(rt; name(FOO_BAR)?.same(name(FOLDED)?));
-    assert!(rt; !name(FOLDED)?.same(name(TELETEX)?));
-    assert!(rt; name(TELETEX)?.same(name(TELETEX)?));
-    assert!(rt; name(PAIR)?.same(name(TURNED)?));
-    assert!(rt; !name(PAIR)?.same(name(TWO)?));
-    assert!(rt; name(EMPTY)?.same(name(EMPTY)?));
-    assert!(rt; !name(EMPTY)?.same(name(ONE)?));
-    assert!(rt; !name(TWO)?.same(name(ONE)?));
-    Ok(())
-}
+/// Two names, whether they are one, whether the first lies within the second, and whether the first is empty.
+const PAIRS: [(&[u8], &[u8], bool, bool, bool); 13] = [
+    (FOO_BAR, FOLDED, true, true, false),
+    (FOLDED, TELETEX, false, false, false),
+    (TELETEX, FOLDED, false, false, false),
+    (TELETEX, TELETEX, true, true, false),
+    (PAIR, TURNED, true, true, false),
+    (PAIR, TWO, false, false, false),
+    (EMPTY, EMPTY, true, true, true),
+    (EMPTY, ONE, false, false, true),
+    (ONE, TWO, false, false, false),
+    (TWO, ONE, false, true, false),
+    (TWO, EMPTY, false, true, false),
+    (TWO, TWO, true, true, false),
+    (TWO, FOLDED, false, false, false),
+];
 
 #[test]
-fn names_within_subtrees(rt: HostRuntime) -> Result<(), Fail> {
-    assert!(rt; name(TWO)?.within(name(ONE)?));
-    assert!(rt; !name(ONE)?.within(name(TWO)?));
-    assert!(rt; name(TWO)?.within(name(EMPTY)?));
-    assert!(rt; name(TWO)?.within(name(TWO)?));
-    assert!(rt; !name(TWO)?.within(name(FOLDED)?));
-    Ok(())
-}
-
-#[test]
-fn canonical_forms(rt: HostRuntime) -> Result<(), Fail> {
-    let alloc = rt.alloc();
-    assert!(rt;
-        name(FOO_BAR)?
-            .canon(alloc)?
-            .same(&name(FOLDED)?.canon(alloc)?)
-    );
-    assert!(rt;
-        !name(TELETEX)?
-            .canon(alloc)?
-            .same(&name(FOLDED)?.canon(alloc)?)
-    );
-    assert!(rt; name(PAIR)?.canon(alloc)?.same(&name(TURNED)?.canon(alloc)?));
-    assert!(rt; name(EMPTY)?.canon(alloc)?.same(&Canon::new(alloc)));
-    Ok(())
-}
-
-#[test]
-fn relative_distinguished_names_in_order(rt: HostRuntime) -> Result<(), Fail> {
-    let mut rdns = name(TWO)?.rdns();
-    assert!(rt; rdns.next().is_some());
-    assert!(rt; rdns.next().is_some());
-    assert!(rt; rdns.next().is_none());
-    for rdn in name(PAIR)?.rdns() {
-        let mut attributes = rdn.attributes();
+fn names_that_are_one_or_within(rt: HostRuntime) {
+    for &(a, b, is_same, is_within, is_empty) in &PAIRS {
         assert!(rt;
-            attributes
-                .next()
-                .is_some_and(|first| first.value == b"b".as_slice())
+            compared(rt.alloc(), a, b) == Some((is_same, is_same, is_within, is_empty)),
+            "{a:?} {b:?}"
         );
-        assert!(rt;
-            attributes
-                .next()
-                .is_some_and(|second| second.value == b"A".as_slice())
-        );
-        assert!(rt; attributes.next().is_none());
-        assert!(rt; rdn.same(rdn));
     }
-    Ok(())
 }
+
+/// Whether these are the values of a name's attributes, with a bar behind each relative distinguished name, which is
+/// itself.
+fn has_values(alloc: Global, octets: &[u8], wanted: &[u8]) -> Option<bool> {
+    let mut values = Vec::new(alloc);
+    for rdn in name(octets).ok()?.rdns() {
+        for attribute in rdn.attributes() {
+            values.extend_from_slice(attribute.value).ok()?;
+        }
+        if rdn.same(rdn) {
+            values.extend_from_slice(b"|").ok()?;
+        }
+    }
+    Some(values.as_slice() == wanted)
+}
+
+/// Names and the values of their attributes.
+const VALUES: [(&[u8], &[u8]); 2] = [(TWO, b"A|b|"), (PAIR, b"bA|")];
+
+#[test]
+fn relative_distinguished_names_in_order(rt: HostRuntime) {
+    for &(octets, values) in &VALUES {
+        assert!(rt; has_values(rt.alloc(), octets, values) == Some(true));
+    }
+}
+
+/// Octets of no name, with the fault and its place.
+const FAULTS: [(&[u8], DerFault, usize); 7] = [
+    // A set without attributes.
+    (b"\x30\x02\x31\x00", DerFault::Empty, 2),
+    // A sequence in the place of a set.
+    (b"\x30\x02\x30\x00", DerFault::WrongTag, 2),
+    // An attribute without a value.
+    (
+        b"\x30\x09\x31\x07\x30\x05\x06\x03\x55\x04\x03",
+        DerFault::Truncated,
+        11,
+    ),
+    // A type that is no object identifier.
+    (
+        b"\x30\x09\x31\x07\x30\x05\x06\x01\x80\x0c\x00",
+        DerFault::OidForm,
+        6,
+    ),
+    // Text that is not UTF-8.
+    (
+        b"\x30\x0c\x31\x0a\x30\x08\x06\x03\x55\x04\x03\x0c\x01\xff",
+        DerFault::TextForm,
+        11,
+    ),
+    // An octet behind the value.
+    (
+        b"\x30\x0c\x31\x0a\x30\x08\x06\x03\x55\x04\x03\x0c\x00\x00",
+        DerFault::Trailing,
+        13,
+    ),
+    // A set whose members stand in descending order.
+    (
+        b"\x30\x16\x31\x14\x30\x08\x06\x03\x55\x04\x0a\x0c\x01A\x30\x08\x06\x03\x55\x04\x03\x0c\x01b",
+        DerFault::SetOrder,
+        2,
+    ),
+];
 
 #[test]
 fn faults_with_their_places(rt: HostRuntime) {
-    // A set without attributes.
-    assert_eq!(rt; refusal(b"\x30\x02\x31\x00"), Some((DerFault::Empty, 2)));
-    // A sequence in the place of a set.
-    assert_eq!(rt; refusal(b"\x30\x02\x30\x00"), Some((DerFault::WrongTag, 2)));
-    // An attribute without a value.
-    assert_eq!(rt;
-        refusal(b"\x30\x09\x31\x07\x30\x05\x06\x03\x55\x04\x03"),
-        Some((DerFault::Truncated, 11))
-    );
-    // A type that is no object identifier.
-    assert_eq!(rt;
-        refusal(b"\x30\x09\x31\x07\x30\x05\x06\x01\x80\x0c\x00"),
-        Some((DerFault::OidForm, 6))
-    );
-    // Text that is not UTF-8.
-    assert_eq!(rt;
-        refusal(b"\x30\x0c\x31\x0a\x30\x08\x06\x03\x55\x04\x03\x0c\x01\xff"),
-        Some((DerFault::TextForm, 11))
-    );
-    // An octet behind the value.
-    assert_eq!(rt;
-        refusal(b"\x30\x0c\x31\x0a\x30\x08\x06\x03\x55\x04\x03\x0c\x00\x00"),
-        Some((DerFault::Trailing, 13))
-    );
-    // A set whose members stand in descending order.
-    assert_eq!(rt;
-        refusal(
-            b"\x30\x16\x31\x14\x30\x08\x06\x03\x55\x04\x0a\x0c\x01A\x30\x08\x06\x03\x55\x04\x03\x0c\x01b"
-        ),
-        Some((DerFault::SetOrder, 2))
-    );
+    for &(octets, kind, at) in &FAULTS {
+        assert!(rt; place(name(octets)) == Some((kind, at)), "{octets:?}");
+    }
 }

@@ -2,7 +2,6 @@
 
 use super::*;
 use std::alloc::{AllocError, Global};
-use std::test::Fail;
 use ts_der::{DerFault, Fault};
 
 /// commonName, 2.5.4.3.
@@ -13,6 +12,28 @@ const ORGANIZATION: [u8; 3] = [0x55, 0x04, 0x0A];
 
 const TELETEX_STRING: u8 = 0x14;
 
+/// CN=Foo.
+const FOO: Attribute<'static> = Attribute {
+    kind: &COMMON_NAME,
+    tag: UTF8_STRING,
+    value: b"Foo",
+};
+
+/// O=foo.
+const ORGANIZED: Attribute<'static> = Attribute {
+    kind: &ORGANIZATION,
+    tag: UTF8_STRING,
+    value: b"foo",
+};
+
+/// O=bar.
+const BAR: Attribute<'static> = Attribute {
+    kind: &ORGANIZATION,
+    tag: PRINTABLE_STRING,
+    value: b"bar",
+};
+
+/// A common name of this tag and value.
 fn name<'a>(tag: u8, value: &'a [u8]) -> Attribute<'a> {
     Attribute {
         kind: &COMMON_NAME,
@@ -21,125 +42,142 @@ fn name<'a>(tag: u8, value: &'a [u8]) -> Attribute<'a> {
     }
 }
 
+/// The fault that refuses what is read, and its place.
+pub fn place<T: Drop>(read: Result<T, Fault>) -> Option<(DerFault, usize)> {
+    match read {
+        Ok(_) => None,
+        Err(Fault { kind, at }) => Some((kind, at)),
+    }
+}
+
+/// Whether this is the printed text of a rule.
+fn is_printed(alloc: Global, rule: CertRule, text: &str) -> Result<bool, AllocError> {
+    Ok(rule.to_string(alloc)?.as_str() == text)
+}
+
+/// Rules, with their codes and names.
+const RULES: [(CertRule, u8, &str); 10] = [
+    (CertRule::Der(DerFault::Truncated), 1, "Truncated"),
+    (CertRule::Der(DerFault::SetOrder), 13, "SetOrder"),
+    (CertRule::Der(DerFault::Empty), 17, "Empty"),
+    (CertRule::AlgorithmMismatch, 32, "AlgorithmMismatch"),
+    (CertRule::DuplicateExtension, 33, "DuplicateExtension"),
+    (CertRule::Version, 34, "Version"),
+    (
+        CertRule::ExtensionsInOldVersion,
+        35,
+        "ExtensionsInOldVersion",
+    ),
+    (CertRule::SubtreeBounds, 36, "SubtreeBounds"),
+    (CertRule::DuplicatePolicy, 37, "DuplicatePolicy"),
+    (CertRule::AddressLength, 38, "AddressLength"),
+];
+
 #[test]
-fn rules_have_names_and_codes(rt: HostRuntime) -> Result<(), Fail> {
-    for (rule, code, text) in [
-        (CertRule::Der(DerFault::Truncated), 1, "Truncated"),
-        (CertRule::Der(DerFault::SetOrder), 13, "SetOrder"),
-        (CertRule::Der(DerFault::Empty), 17, "Empty"),
-        (CertRule::AlgorithmMismatch, 32, "AlgorithmMismatch"),
-        (CertRule::DuplicateExtension, 33, "DuplicateExtension"),
-        (CertRule::Version, 34, "Version"),
-        (
-            CertRule::ExtensionsInOldVersion,
-            35,
-            "ExtensionsInOldVersion",
-        ),
-        (CertRule::SubtreeBounds, 36, "SubtreeBounds"),
-        (CertRule::DuplicatePolicy, 37, "DuplicatePolicy"),
-        (CertRule::AddressLength, 38, "AddressLength"),
-    ] {
-        assert_eq!(rt; rule.code(), code, "{text}");
-        let printed = format!(in rt.alloc(); "{rule}")?;
-        assert_eq!(rt; printed.as_str(), text);
+fn rules_have_names_and_codes(rt: HostRuntime) {
+    for &(rule, code, text) in &RULES {
+        let printed = is_printed(rt.alloc(), rule, text);
+        assert!(rt; (rule.code(), printed) == (code, Ok(true)), "{text}");
     }
     let fault = CertFault::from(Fault {
         kind: DerFault::Trailing,
         at: 9,
     });
+    assert!(rt; (fault.kind, fault.at) == (CertRule::Der(DerFault::Trailing), 9));
+}
+
+/// Whether two attributes are the same, in each order, and whether their canonical forms are.
+fn compared(
+    alloc: Global,
+    a: Attribute<'_>,
+    b: Attribute<'_>,
+) -> Result<(bool, bool, bool), AllocError> {
+    let canon = canon_attribute(alloc, a)?;
+    Ok((a.same(b), b.same(a), canon == canon_attribute(alloc, b)?))
+}
+
+/// Two values with their tags, and whether they are one in canonical form.
+const VALUES: [(u8, &[u8], u8, &[u8], bool); 15] = [
+    (
+        UTF8_STRING,
+        b"  Foo  Bar",
+        PRINTABLE_STRING,
+        b"foo bar",
+        true,
+    ),
+    (
+        UTF8_STRING,
+        b"  Foo  Bar",
+        TELETEX_STRING,
+        b"foo bar",
+        false,
+    ),
+    (
+        PRINTABLE_STRING,
+        b"foo bar",
+        TELETEX_STRING,
+        b"foo bar",
+        false,
+    ),
+    (IA5_STRING, b"FOO BAR  ", PRINTABLE_STRING, b"foo bar", true),
+    (UTF8_STRING, b"foobar", UTF8_STRING, b"foo bar", false),
+    (UTF8_STRING, b"   ", IA5_STRING, b"", true),
+    (UTF8_STRING, b" ", PRINTABLE_STRING, b"a", false),
+    // A capital E with an acute accent, and a small one.
+    (UTF8_STRING, b"\xC3\x89", UTF8_STRING, b"\xC3\xA9", false),
+    (UTF8_STRING, b"@[`{", UTF8_STRING, b"`{@[", false),
+    (UTF8_STRING, b"AZ", UTF8_STRING, b"az", true),
+    (UTF8_STRING, b"a\tb", UTF8_STRING, b"a b", false),
+    (TELETEX_STRING, b"foo bar", TELETEX_STRING, b"foo bar", true),
+    (
+        TELETEX_STRING,
+        b"foo bar",
+        TELETEX_STRING,
+        b"Foo bar",
+        false,
+    ),
+    (TELETEX_STRING, b"foo", 0x1E, b"foo", false),
+    (0, b"foo", UTF8_STRING, b"foo", false),
+];
+
+#[test]
+fn values_are_compared_in_canonical_form(rt: HostRuntime) {
+    for &(tag, value, other_tag, other, is_one) in &VALUES {
+        let (a, b) = (name(tag, value), name(other_tag, other));
+        assert!(rt;
+            compared(rt.alloc(), a, b) == Ok((is_one, is_one, is_one)),
+            "{tag} {value:?} {other_tag} {other:?}"
+        );
+    }
     assert!(rt;
-        fault
-            == CertFault {
-                kind: CertRule::Der(DerFault::Trailing),
-                at: 9
-            }
+        compared(rt.alloc(), ORGANIZED, name(UTF8_STRING, b"foo")) == Ok((false, false, false))
     );
-    Ok(())
+}
+
+/// Whether an attribute's canonical form has this tag and value.
+fn is_folded(
+    alloc: Global,
+    attribute: Attribute<'_>,
+    tag: u8,
+    value: &[u8],
+) -> Result<bool, AllocError> {
+    let canon = canon_attribute(alloc, attribute)?;
+    let is_kind = canon.kind.as_slice() == attribute.kind;
+    Ok(is_kind && canon.tag == tag && canon.value.as_slice() == value)
 }
 
 #[test]
-fn values_are_compared_in_canonical_form(rt: HostRuntime) -> Result<(), Fail> {
-    for (a, b, want) in [
-        (
-            name(UTF8_STRING, b"  Foo  Bar"),
-            name(PRINTABLE_STRING, b"foo bar"),
-            true,
-        ),
-        (
-            name(UTF8_STRING, b"  Foo  Bar"),
-            name(TELETEX_STRING, b"foo bar"),
-            false,
-        ),
-        (
-            name(PRINTABLE_STRING, b"foo bar"),
-            name(TELETEX_STRING, b"foo bar"),
-            false,
-        ),
-        (
-            name(IA5_STRING, b"FOO BAR  "),
-            name(PRINTABLE_STRING, b"foo bar"),
-            true,
-        ),
-        (
-            name(UTF8_STRING, b"foobar"),
-            name(UTF8_STRING, b"foo bar"),
-            false,
-        ),
-        (name(UTF8_STRING, b"   "), name(IA5_STRING, b""), true),
-        (name(UTF8_STRING, b" "), name(PRINTABLE_STRING, b"a"), false),
-        // A capital E with an acute accent, and a small one.
-        (
-            name(UTF8_STRING, b"\xC3\x89"),
-            name(UTF8_STRING, b"\xC3\xA9"),
-            false,
-        ),
-        (
-            name(UTF8_STRING, b"@[`{"),
-            name(UTF8_STRING, b"`{@["),
-            false,
-        ),
-        (name(UTF8_STRING, b"AZ"), name(UTF8_STRING, b"az"), true),
-        (name(UTF8_STRING, b"a\tb"), name(UTF8_STRING, b"a b"), false),
-        (
-            name(TELETEX_STRING, b"foo bar"),
-            name(TELETEX_STRING, b"foo bar"),
-            true,
-        ),
-        (
-            name(TELETEX_STRING, b"foo bar"),
-            name(TELETEX_STRING, b"Foo bar"),
-            false,
-        ),
-        (name(TELETEX_STRING, b"foo"), name(0x1E, b"foo"), false),
-        (name(0, b"foo"), name(UTF8_STRING, b"foo"), false),
-        (
-            Attribute {
-                kind: &ORGANIZATION,
-                ..name(UTF8_STRING, b"foo")
-            },
-            name(UTF8_STRING, b"foo"),
-            false,
-        ),
-    ] {
-        assert_eq!(rt; a.same(b), want, "{a:?} {b:?}");
-        assert_eq!(rt; b.same(a), want, "{b:?} {a:?}");
-        let canons = (
-            canon_attribute(rt.alloc(), a)?,
-            canon_attribute(rt.alloc(), b)?,
-        );
-        assert_eq!(rt; canons.0 == canons.1, want, "{a:?} {b:?}");
-    }
-    assert!(rt; name(IA5_STRING, b"").is_text());
-    assert!(rt; !name(TELETEX_STRING, b"").is_text());
-    assert!(rt; same_text(b"a  B", b" A b"));
-    let canon = canon_attribute(rt.alloc(), name(PRINTABLE_STRING, b"  Foo \xC3\x89  Bar "))?;
-    assert_eq!(rt; canon.kind.as_slice(), COMMON_NAME.as_slice());
-    assert_eq!(rt; canon.tag, 0x0C);
-    assert_eq!(rt; canon.value.as_slice(), b"foo \xC3\x89 bar".as_slice());
-    Ok(())
+fn text_is_folded(rt: HostRuntime) {
+    let are_text = (
+        name(IA5_STRING, b"").is_text(),
+        name(TELETEX_STRING, b"").is_text(),
+    );
+    assert!(rt; (are_text, same_text(b"a  B", b" A b")) == ((true, false), true));
+    let spaced = name(PRINTABLE_STRING, b"  Foo \xC3\x89  Bar ");
+    assert!(rt; is_folded(rt.alloc(), spaced, 0x0C, b"foo \xC3\x89 bar") == Ok(true));
 }
 
-// A name of one relative distinguished name with two attributes.
+/// A name of one relative distinguished name with two attributes.
 fn canon(alloc: Global, first: Attribute<'_>, second: Attribute<'_>) -> Result<Canon, AllocError> {
     let mut rdn = CanonRdn::new(alloc);
     rdn.insert(canon_attribute(alloc, first)?)?;
@@ -149,17 +187,22 @@ fn canon(alloc: Global, first: Attribute<'_>, second: Attribute<'_>) -> Result<C
     Ok(name)
 }
 
+/// Whether the name of an attribute and another is that of two others, and whether it is empty.
+fn same_pairs(
+    alloc: Global,
+    (a, b): (Attribute<'_>, Attribute<'_>),
+    (c, d): (Attribute<'_>, Attribute<'_>),
+) -> Result<(bool, bool), AllocError> {
+    let name = canon(alloc, a, b)?;
+    Ok((
+        name.same(&canon(alloc, c, d)?),
+        name.same(&Canon::new(alloc)),
+    ))
+}
+
 #[test]
-fn the_order_of_attributes_does_not_count(rt: HostRuntime) -> Result<(), Fail> {
-    let foo = name(UTF8_STRING, b"Foo");
-    let bar = Attribute {
-        kind: &ORGANIZATION,
-        tag: PRINTABLE_STRING,
-        value: b"bar",
-    };
-    let one = canon(rt.alloc(), foo, bar)?;
-    assert!(rt; one.same(&canon(rt.alloc(), bar, foo)?));
-    assert!(rt; !one.same(&canon(rt.alloc(), bar, bar)?));
-    assert!(rt; !one.same(&Canon::new(rt.alloc())));
-    Ok(())
+fn the_order_of_attributes_does_not_count(rt: HostRuntime) {
+    for &(a, b, is_one) in &[(BAR, FOO, true), (BAR, BAR, false)] {
+        assert!(rt; same_pairs(rt.alloc(), (FOO, BAR), (a, b)) == Ok((is_one, false)));
+    }
 }
