@@ -449,17 +449,7 @@ fn broken<'a>(holder: Holder, oid: &'a [u8], octets: &'a [u8]) -> Result<Option<
     Ok(ext(holder, oid, octets)?.broken_rule())
 }
 
-/// A point with an address of 5 octets in its full name.
-const FIVE_IN_NAME: &[u8] = b"\x04\x0f\x30\x0d\x30\x0b\xa0\x09\xa0\x07\x87\x05\x0a\x00\x00\x01\x02";
-
-/// A point with an address of 5 octets as its issuer.
-const FIVE_AS_ISSUER: &[u8] = b"\x04\x0d\x30\x0b\x30\x09\xa2\x07\x87\x05\x0a\x00\x00\x01\x02";
-
-/// The first behind a point without fields.
-const FIVE_IN_SECOND: &[u8] =
-    b"\x04\x11\x30\x0f\x30\x00\x30\x0b\xa0\x09\xa0\x07\x87\x05\x0a\x00\x00\x01\x02";
-
-const RULES: [(Holder, &[u8], &[u8], Option<CertRule>); 38] = [
+const CONSTRAINTS: [(Holder, &[u8], &[u8], Option<CertRule>); 9] = [
     // Minimum 1, permitted and excluded; maximum 5, permitted and excluded.
     (
         Holder::Certificate,
@@ -498,7 +488,7 @@ const RULES: [(Holder, &[u8], &[u8], Option<CertRule>); 38] = [
         b"\x04\x16\x30\x14\xa0\x08\x30\x06\x87\x04\x0a\x00\x00\x00\xa1\x08\x30\x06\x82\x01\x61\x81\x01\x05",
         Some(CertRule::SubtreeBounds),
     ),
-    // An address of 16 octets, permitted and excluded; of 8 octets in a constraint, and in a name.
+    // An address of 16 octets, permitted and excluded; of 8 octets, as a constraint has it.
     (
         Holder::Certificate,
         NAME_CONSTRAINTS,
@@ -517,6 +507,17 @@ const RULES: [(Holder, &[u8], &[u8], Option<CertRule>); 38] = [
         b"\x04\x10\x30\x0e\xa0\x0c\x30\x0a\x87\x08\x0a\x00\x00\x00\xff\x00\x00\x00",
         None,
     ),
+];
+
+#[test]
+fn bounds_and_addresses_of_constraints(rt: HostRuntime) {
+    for (holder, oid, octets, wanted) in CONSTRAINTS {
+        assert_eq!(rt; broken(holder, oid, octets), Ok(wanted));
+    }
+}
+
+const NAMES: [(Holder, &[u8], &[u8], Option<CertRule>); 10] = [
+    // Of 8 octets, as in a constraint.
     (
         Holder::Certificate,
         SUBJECT_ALT_NAME,
@@ -574,7 +575,27 @@ const RULES: [(Holder, &[u8], &[u8], Option<CertRule>); 38] = [
         b"\x04\x05\x30\x03\x80\x01\x07",
         None,
     ),
-    // Points.
+];
+
+#[test]
+fn addresses_among_names(rt: HostRuntime) {
+    for (holder, oid, octets, wanted) in NAMES {
+        assert_eq!(rt; broken(holder, oid, octets), Ok(wanted));
+    }
+}
+
+/// A point with an address of 5 octets in its full name.
+const FIVE_IN_NAME: &[u8] = b"\x04\x0f\x30\x0d\x30\x0b\xa0\x09\xa0\x07\x87\x05\x0a\x00\x00\x01\x02";
+
+/// A point with an address of 5 octets as its issuer.
+const FIVE_AS_ISSUER: &[u8] = b"\x04\x0d\x30\x0b\x30\x09\xa2\x07\x87\x05\x0a\x00\x00\x01\x02";
+
+/// The first behind a point without fields.
+const FIVE_IN_SECOND: &[u8] =
+    b"\x04\x11\x30\x0f\x30\x00\x30\x0b\xa0\x09\xa0\x07\x87\x05\x0a\x00\x00\x01\x02";
+
+const POINTS: [(Holder, &[u8], &[u8], Option<CertRule>); 13] = [
+    // Of certificates, of their changes, of a list's changes, and of what a list covers.
     (
         Holder::Certificate,
         CRL_DISTRIBUTION_POINTS,
@@ -654,6 +675,16 @@ const RULES: [(Holder, &[u8], &[u8], Option<CertRule>); 38] = [
         b"\x04\x04\x30\x02\x30\x00",
         None,
     ),
+];
+
+#[test]
+fn addresses_of_distribution_points(rt: HostRuntime) {
+    for (holder, oid, octets, wanted) in POINTS {
+        assert_eq!(rt; broken(holder, oid, octets), Ok(wanted));
+    }
+}
+
+const POLICIES: [(Holder, &[u8], &[u8], Option<CertRule>); 6] = [
     // A policy that is stated twice, also with another between them.
     (
         Holder::Certificate,
@@ -691,8 +722,8 @@ const RULES: [(Holder, &[u8], &[u8], Option<CertRule>); 38] = [
 ];
 
 #[test]
-fn rules_that_values_break(rt: HostRuntime) {
-    for (holder, oid, octets, wanted) in RULES {
+fn policies_stated_twice(rt: HostRuntime) {
+    for (holder, oid, octets, wanted) in POLICIES {
         assert_eq!(rt; broken(holder, oid, octets), Ok(wanted));
     }
 }
