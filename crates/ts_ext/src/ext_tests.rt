@@ -1,7 +1,7 @@
 //! Extensions by their object identifiers, and the rules of their values, by hand.
 
 use super::*;
-use crate::tests::refusal;
+use crate::tests::{Refusal, refusal};
 use std::test::Fail;
 use ts_der::{DerFault, Fault, Reader};
 use ts_name::{CertRule, General, GeneralNames};
@@ -55,10 +55,6 @@ const HOST: &[u8] = b"\x04\x05\x30\x03\x82\x01\x61";
 /// An address of 5 octets.
 const FIVE: &[u8] = b"\x04\x09\x30\x07\x87\x05\x0a\x00\x00\x01\x02";
 
-fn known(holder: Holder, oid: &[u8]) -> Result<Option<Known>, Fault> {
-    Ok(Known::at(holder, Reader::new(oid).next()?.oid()?))
-}
-
 fn ext<'a>(holder: Holder, oid: &'a [u8], octets: &'a [u8]) -> Result<Ext<'a>, Fault> {
     Ext::read(
         holder,
@@ -67,14 +63,103 @@ fn ext<'a>(holder: Holder, oid: &'a [u8], octets: &'a [u8]) -> Result<Ext<'a>, F
     )
 }
 
-/// The extension of a certificate.
-fn of_certificate<'a>(oid: &'a [u8], octets: &'a [u8]) -> Result<Ext<'a>, Fault> {
-    ext(Holder::Certificate, oid, octets)
+/// The extension that an object identifier names in a certificate, in a list and in an entry.
+fn places(oid: &[u8]) -> Result<[Option<Known>; 3], Fault> {
+    let oid = Reader::new(oid).next()?.oid()?;
+    Ok([
+        Known::at(Holder::Certificate, oid),
+        Known::at(Holder::List, oid),
+        Known::at(Holder::Entry, oid),
+    ])
 }
 
-/// The rule that an extension of a certificate breaks.
-fn rule(oid: &[u8], octets: &[u8]) -> Result<Option<CertRule>, Fault> {
-    Ok(ext(Holder::Certificate, oid, octets)?.broken_rule())
+const PLACES: [(&[u8], [Option<Known>; 3]); 26] = [
+    (
+        SUBJECT_KEY_IDENTIFIER,
+        [Some(Known::SubjectKeyIdentifier), None, None],
+    ),
+    (KEY_USAGE, [Some(Known::KeyUsage), None, None]),
+    (SUBJECT_ALT_NAME, [Some(Known::SubjectAltName), None, None]),
+    (
+        ISSUER_ALT_NAME,
+        [Some(Known::IssuerAltName), Some(Known::IssuerAltName), None],
+    ),
+    (
+        BASIC_CONSTRAINTS,
+        [Some(Known::BasicConstraints), None, None],
+    ),
+    (CRL_NUMBER, [None, Some(Known::CrlNumber), None]),
+    (REASON_CODE, [None, None, Some(Known::ReasonCode)]),
+    (INVALIDITY_DATE, [None, None, Some(Known::InvalidityDate)]),
+    (
+        DELTA_CRL_INDICATOR,
+        [None, Some(Known::DeltaCrlIndicator), None],
+    ),
+    (
+        ISSUING_DISTRIBUTION_POINT,
+        [None, Some(Known::IssuingDistributionPoint), None],
+    ),
+    (
+        CERTIFICATE_ISSUER,
+        [None, None, Some(Known::CertificateIssuer)],
+    ),
+    (NAME_CONSTRAINTS, [Some(Known::NameConstraints), None, None]),
+    (
+        CRL_DISTRIBUTION_POINTS,
+        [Some(Known::CrlDistributionPoints), None, None],
+    ),
+    (
+        CERTIFICATE_POLICIES,
+        [Some(Known::CertificatePolicies), None, None],
+    ),
+    (POLICY_MAPPINGS, [Some(Known::PolicyMappings), None, None]),
+    (
+        AUTHORITY_KEY_IDENTIFIER,
+        [
+            Some(Known::AuthorityKeyIdentifier),
+            Some(Known::AuthorityKeyIdentifier),
+            None,
+        ],
+    ),
+    (
+        POLICY_CONSTRAINTS,
+        [Some(Known::PolicyConstraints), None, None],
+    ),
+    (EXT_KEY_USAGE, [Some(Known::ExtendedKeyUsage), None, None]),
+    (
+        FRESHEST_CRL,
+        [Some(Known::FreshestCrl), Some(Known::FreshestCrl), None],
+    ),
+    (
+        INHIBIT_ANY_POLICY,
+        [Some(Known::InhibitAnyPolicy), None, None],
+    ),
+    (UNKNOWN, [None, None, None]),
+    // 2.5.29, one more arc behind 2.5.29.15, 2.5.28.15, 2.4.29.15, and 2.5.29.143 in four octets.
+    (b"\x06\x02\x55\x1d", [None, None, None]),
+    (b"\x06\x04\x55\x1d\x0f\x00", [None, None, None]),
+    (b"\x06\x03\x55\x1c\x0f", [None, None, None]),
+    (b"\x06\x03\x54\x1d\x0f", [None, None, None]),
+    (b"\x06\x04\x55\x1d\x81\x0f", [None, None, None]),
+];
+
+#[test]
+fn extensions_of_certificates_lists_and_entries(rt: HostRuntime) {
+    for (oid, wanted) in PLACES {
+        assert_eq!(rt; places(oid), Ok(wanted));
+    }
+    assert_eq!(rt;
+        [
+            Known::SubjectKeyIdentifier.arc(),
+            Known::KeyUsage.arc(),
+            Known::ReasonCode.arc(),
+            Known::InvalidityDate.arc(),
+            Known::AuthorityKeyIdentifier.arc(),
+            Known::FreshestCrl.arc(),
+            Known::InhibitAnyPolicy.arc()
+        ],
+        [14, 15, 21, 24, 35, 46, 54]
+    );
 }
 
 /// Whether names are the host `a`.
@@ -82,481 +167,563 @@ fn are_host(names: GeneralNames<'_>) -> bool {
     matches!(names.iter().next(), Some(General::DnsName(text)) if text == b"a".as_slice())
 }
 
-#[test]
-fn extensions_of_certificates(rt: HostRuntime) -> Result<(), Fail> {
-    for (oid, wanted) in [
-        (SUBJECT_KEY_IDENTIFIER, Some(Known::SubjectKeyIdentifier)),
-        (KEY_USAGE, Some(Known::KeyUsage)),
-        (SUBJECT_ALT_NAME, Some(Known::SubjectAltName)),
-        (ISSUER_ALT_NAME, Some(Known::IssuerAltName)),
-        (BASIC_CONSTRAINTS, Some(Known::BasicConstraints)),
-        (CRL_NUMBER, None),
-        (REASON_CODE, None),
-        (INVALIDITY_DATE, None),
-        (DELTA_CRL_INDICATOR, None),
-        (ISSUING_DISTRIBUTION_POINT, None),
-        (CERTIFICATE_ISSUER, None),
-        (NAME_CONSTRAINTS, Some(Known::NameConstraints)),
-        (CRL_DISTRIBUTION_POINTS, Some(Known::CrlDistributionPoints)),
-        (CERTIFICATE_POLICIES, Some(Known::CertificatePolicies)),
-        (POLICY_MAPPINGS, Some(Known::PolicyMappings)),
-        (
-            AUTHORITY_KEY_IDENTIFIER,
-            Some(Known::AuthorityKeyIdentifier),
-        ),
-        (POLICY_CONSTRAINTS, Some(Known::PolicyConstraints)),
-        (EXT_KEY_USAGE, Some(Known::ExtendedKeyUsage)),
-        (FRESHEST_CRL, Some(Known::FreshestCrl)),
-        (INHIBIT_ANY_POLICY, Some(Known::InhibitAnyPolicy)),
-        (UNKNOWN, None),
-    ] {
-        assert_eq!(rt; known(Holder::Certificate, oid)?, wanted);
+/// Whether the value of an extension is the one that `VALUES` has.
+fn is_as_written(value: Ext<'_>) -> bool {
+    match value {
+        Ext::SubjectKeyIdentifier(key) => key == b"\x01\x02".as_slice(),
+        Ext::KeyUsage(usage) => usage.key_cert_sign() && !usage.crl_sign(),
+        Ext::SubjectAltName(names) => are_host(names.list),
+        Ext::IssuerAltName(names) => are_host(names.list),
+        Ext::BasicConstraints(constraints) => constraints.ca,
+        Ext::CrlNumber(number) => number.octets == b"\x05".as_slice(),
+        Ext::ReasonCode(reason) => reason == ReasonCode::KeyCompromise,
+        Ext::InvalidityDate(date) => date.moment().0 == 1_767_225_600,
+        Ext::DeltaCrlIndicator(number) => number.octets == b"\x05".as_slice(),
+        Ext::IssuingDistributionPoint(point) => point.only_user_certs,
+        Ext::CertificateIssuer(names) => are_host(names.list),
+        Ext::NameConstraints(
+            NameConstraints {
+                permitted,
+                excluded,
+            },
+        ) => permitted.is_some() && excluded.is_none(),
+        Ext::CrlDistributionPoints(points) => points.iter().next().is_some(),
+        Ext::CertificatePolicies(policies) => {
+            matches!(policies.iter().next(), Some(policy) if policy.policy_identifier.content == b"\x2a\x03".as_slice())
+        }
+        Ext::PolicyMappings(mappings) => {
+            matches!(mappings.iter().next(), Some(mapping) if mapping.subject_domain_policy.content == b"\x2a\x04".as_slice())
+        }
+        Ext::AuthorityKeyIdentifier(key) => key.key_identifier.is_some(),
+        Ext::PolicyConstraints(constraints) => constraints.require_explicit_policy == Some(2),
+        Ext::ExtendedKeyUsage(purposes) => {
+            matches!(purposes.iter().next(), Some(purpose) if purpose.content == b"\x2a\x03".as_slice())
+        }
+        Ext::FreshestCrl(points) => points.iter().next().is_some(),
+        Ext::InhibitAnyPolicy(certs) => certs.0 == 3,
+        Ext::Unknown(_) => false,
     }
-    Ok(())
 }
 
-#[test]
-fn extensions_of_lists_and_entries(rt: HostRuntime) -> Result<(), Fail> {
-    for (oid, in_list, in_entry) in [
-        (SUBJECT_KEY_IDENTIFIER, None, None),
-        (KEY_USAGE, None, None),
-        (SUBJECT_ALT_NAME, None, None),
-        (ISSUER_ALT_NAME, Some(Known::IssuerAltName), None),
-        (CRL_NUMBER, Some(Known::CrlNumber), None),
-        (REASON_CODE, None, Some(Known::ReasonCode)),
-        (INVALIDITY_DATE, None, Some(Known::InvalidityDate)),
-        (DELTA_CRL_INDICATOR, Some(Known::DeltaCrlIndicator), None),
-        (
-            ISSUING_DISTRIBUTION_POINT,
-            Some(Known::IssuingDistributionPoint),
-            None,
-        ),
-        (CERTIFICATE_ISSUER, None, Some(Known::CertificateIssuer)),
-        (CRL_DISTRIBUTION_POINTS, None, None),
-        (
-            AUTHORITY_KEY_IDENTIFIER,
-            Some(Known::AuthorityKeyIdentifier),
-            None,
-        ),
-        (FRESHEST_CRL, Some(Known::FreshestCrl), None),
-        (UNKNOWN, None, None),
-    ] {
-        assert_eq!(rt; known(Holder::List, oid)?, in_list);
-        assert_eq!(rt; known(Holder::Entry, oid)?, in_entry);
-    }
-    Ok(())
+/// Which extension a value is of.
+fn known(value: Ext<'_>) -> Option<Known> {
+    Some(match value {
+        Ext::SubjectKeyIdentifier(_) => Known::SubjectKeyIdentifier,
+        Ext::KeyUsage(_) => Known::KeyUsage,
+        Ext::SubjectAltName(_) => Known::SubjectAltName,
+        Ext::IssuerAltName(_) => Known::IssuerAltName,
+        Ext::BasicConstraints(_) => Known::BasicConstraints,
+        Ext::CrlNumber(_) => Known::CrlNumber,
+        Ext::ReasonCode(_) => Known::ReasonCode,
+        Ext::InvalidityDate(_) => Known::InvalidityDate,
+        Ext::DeltaCrlIndicator(_) => Known::DeltaCrlIndicator,
+        Ext::IssuingDistributionPoint(_) => Known::IssuingDistributionPoint,
+        Ext::CertificateIssuer(_) => Known::CertificateIssuer,
+        Ext::NameConstraints(_) => Known::NameConstraints,
+        Ext::CrlDistributionPoints(_) => Known::CrlDistributionPoints,
+        Ext::CertificatePolicies(_) => Known::CertificatePolicies,
+        Ext::PolicyMappings(_) => Known::PolicyMappings,
+        Ext::AuthorityKeyIdentifier(_) => Known::AuthorityKeyIdentifier,
+        Ext::PolicyConstraints(_) => Known::PolicyConstraints,
+        Ext::ExtendedKeyUsage(_) => Known::ExtendedKeyUsage,
+        Ext::FreshestCrl(_) => Known::FreshestCrl,
+        Ext::InhibitAnyPolicy(_) => Known::InhibitAnyPolicy,
+        Ext::Unknown(_) => return None,
+    })
 }
 
-#[test]
-fn identifiers_under_id_ce_alone(rt: HostRuntime) -> Result<(), Fail> {
-    // 2.5.29, one more arc behind 2.5.29.15, 2.5.28.15, 2.4.29.15, and 2.5.29.143 in four octets.
-    for oid in [
-        b"\x06\x02\x55\x1d".as_slice(),
-        b"\x06\x04\x55\x1d\x0f\x00",
-        b"\x06\x03\x55\x1c\x0f",
-        b"\x06\x03\x54\x1d\x0f",
-        b"\x06\x04\x55\x1d\x81\x0f",
-    ] {
-        assert_eq!(rt; known(Holder::Certificate, oid)?, None);
-    }
-    assert_eq!(rt; Known::SubjectKeyIdentifier.arc(), 14);
-    assert_eq!(rt; Known::KeyUsage.arc(), 15);
-    assert_eq!(rt; Known::ReasonCode.arc(), 21);
-    assert_eq!(rt; Known::InvalidityDate.arc(), 24);
-    assert_eq!(rt; Known::AuthorityKeyIdentifier.arc(), 35);
-    assert_eq!(rt; Known::FreshestCrl.arc(), 46);
-    assert_eq!(rt; Known::InhibitAnyPolicy.arc(), 54);
-    Ok(())
-}
-
-#[test]
-fn names_in_certificates(rt: HostRuntime) -> Result<(), Fail> {
-    let Ext::SubjectAltName(names) = of_certificate(SUBJECT_ALT_NAME, HOST)? else {
-        return Err("no names of a subject".into());
-    };
-    assert!(rt; are_host(names.list));
-    let Ext::IssuerAltName(names) = of_certificate(ISSUER_ALT_NAME, HOST)? else {
-        return Err("no names of an issuer".into());
-    };
-    assert!(rt; are_host(names.list));
-    let Ext::NameConstraints(constraints) = of_certificate(
+const VALUES: [(Holder, &[u8], &[u8], Known); 21] = [
+    (
+        Holder::Certificate,
+        SUBJECT_KEY_IDENTIFIER,
+        b"\x04\x04\x04\x02\x01\x02",
+        Known::SubjectKeyIdentifier,
+    ),
+    (
+        Holder::Certificate,
+        KEY_USAGE,
+        b"\x04\x04\x03\x02\x02\x04",
+        Known::KeyUsage,
+    ),
+    (
+        Holder::Certificate,
+        SUBJECT_ALT_NAME,
+        HOST,
+        Known::SubjectAltName,
+    ),
+    (
+        Holder::Certificate,
+        ISSUER_ALT_NAME,
+        HOST,
+        Known::IssuerAltName,
+    ),
+    (
+        Holder::Certificate,
+        BASIC_CONSTRAINTS,
+        b"\x04\x05\x30\x03\x01\x01\xff",
+        Known::BasicConstraints,
+    ),
+    (
+        Holder::Certificate,
         NAME_CONSTRAINTS,
         b"\x04\x09\x30\x07\xa0\x05\x30\x03\x82\x01\x61",
-    )?
-    else {
-        return Err("no constraints".into());
-    };
-    let NameConstraints {
-        permitted,
-        excluded,
-    } = constraints;
-    assert!(rt; permitted.is_some() && excluded.is_none());
-    Ok(())
-}
-
-#[test]
-fn points_and_keys_in_certificates(rt: HostRuntime) -> Result<(), Fail> {
-    let Ext::CrlDistributionPoints(points) = of_certificate(
+        Known::NameConstraints,
+    ),
+    (
+        Holder::Certificate,
         CRL_DISTRIBUTION_POINTS,
         b"\x04\x04\x30\x02\x30\x00",
-    )?
-    else {
-        return Err("no points".into());
-    };
-    assert!(rt; points.iter().next().is_some());
-    let Ext::FreshestCrl(points) = of_certificate(FRESHEST_CRL, b"\x04\x04\x30\x02\x30\x00")? else {
-        return Err("no points of changes".into());
-    };
-    assert!(rt; points.iter().next().is_some());
-    let Ext::AuthorityKeyIdentifier(key) = of_certificate(
-        AUTHORITY_KEY_IDENTIFIER,
-        b"\x04\x05\x30\x03\x80\x01\x07",
-    )?
-    else {
-        return Err("no key".into());
-    };
-    assert!(rt; key.key_identifier.is_some());
-    Ok(())
-}
-
-#[test]
-fn values_of_certificates(rt: HostRuntime) -> Result<(), Fail> {
-    assert!(rt;
-        matches!(of_certificate(SUBJECT_KEY_IDENTIFIER, b"\x04\x04\x04\x02\x01\x02")?, Ext::SubjectKeyIdentifier(key) if key == b"\x01\x02".as_slice())
-    );
-    assert!(rt;
-        matches!(of_certificate(KEY_USAGE, b"\x04\x04\x03\x02\x02\x04")?, Ext::KeyUsage(usage) if usage.key_cert_sign() && !usage.crl_sign())
-    );
-    assert!(rt;
-        matches!(of_certificate(BASIC_CONSTRAINTS, b"\x04\x05\x30\x03\x01\x01\xff")?, Ext::BasicConstraints(constraints) if constraints.ca)
-    );
-    assert!(rt;
-        matches!(of_certificate(POLICY_CONSTRAINTS, b"\x04\x05\x30\x03\x80\x01\x02")?, Ext::PolicyConstraints(constraints) if constraints.require_explicit_policy == Some(2))
-    );
-    assert!(rt;
-        matches!(of_certificate(INHIBIT_ANY_POLICY, b"\x04\x03\x02\x01\x03")?, Ext::InhibitAnyPolicy(certs) if certs.0 == 3)
-    );
-    Ok(())
-}
-
-#[test]
-fn policies_of_certificates(rt: HostRuntime) -> Result<(), Fail> {
-    let Ext::CertificatePolicies(policies) = of_certificate(
+        Known::CrlDistributionPoints,
+    ),
+    (
+        Holder::Certificate,
         CERTIFICATE_POLICIES,
         b"\x04\x08\x30\x06\x30\x04\x06\x02\x2a\x03",
-    )?
-    else {
-        return Err("no policies".into());
-    };
-    assert_eq!(rt;
-        policies
-            .iter()
-            .next()
-            .ok_or("one")?
-            .policy_identifier
-            .content,
-        b"\x2a\x03".as_slice()
-    );
-    let Ext::PolicyMappings(mappings) = of_certificate(
+        Known::CertificatePolicies,
+    ),
+    (
+        Holder::Certificate,
         POLICY_MAPPINGS,
         b"\x04\x0c\x30\x0a\x30\x08\x06\x02\x2a\x03\x06\x02\x2a\x04",
-    )?
-    else {
-        return Err("no mappings".into());
-    };
-    assert_eq!(rt;
-        mappings
-            .iter()
-            .next()
-            .ok_or("one")?
-            .subject_domain_policy
-            .content,
-        b"\x2a\x04".as_slice()
-    );
-    Ok(())
-}
-
-#[test]
-fn purposes_of_certificates(rt: HostRuntime) -> Result<(), Fail> {
-    let Ext::ExtendedKeyUsage(purposes) = of_certificate(
+        Known::PolicyMappings,
+    ),
+    (
+        Holder::Certificate,
+        AUTHORITY_KEY_IDENTIFIER,
+        b"\x04\x05\x30\x03\x80\x01\x07",
+        Known::AuthorityKeyIdentifier,
+    ),
+    (
+        Holder::Certificate,
+        POLICY_CONSTRAINTS,
+        b"\x04\x05\x30\x03\x80\x01\x02",
+        Known::PolicyConstraints,
+    ),
+    (
+        Holder::Certificate,
         EXT_KEY_USAGE,
         b"\x04\x06\x30\x04\x06\x02\x2a\x03",
-    )?
-    else {
-        return Err("no purposes".into());
+        Known::ExtendedKeyUsage,
+    ),
+    (
+        Holder::Certificate,
+        FRESHEST_CRL,
+        b"\x04\x04\x30\x02\x30\x00",
+        Known::FreshestCrl,
+    ),
+    (
+        Holder::Certificate,
+        INHIBIT_ANY_POLICY,
+        b"\x04\x03\x02\x01\x03",
+        Known::InhibitAnyPolicy,
+    ),
+    (
+        Holder::List,
+        CRL_NUMBER,
+        b"\x04\x03\x02\x01\x05",
+        Known::CrlNumber,
+    ),
+    (
+        Holder::List,
+        DELTA_CRL_INDICATOR,
+        b"\x04\x03\x02\x01\x05",
+        Known::DeltaCrlIndicator,
+    ),
+    (
+        Holder::List,
+        ISSUING_DISTRIBUTION_POINT,
+        b"\x04\x05\x30\x03\x81\x01\xff",
+        Known::IssuingDistributionPoint,
+    ),
+    (
+        Holder::List,
+        FRESHEST_CRL,
+        b"\x04\x04\x30\x02\x30\x00",
+        Known::FreshestCrl,
+    ),
+    (
+        Holder::Entry,
+        REASON_CODE,
+        b"\x04\x03\x0a\x01\x01",
+        Known::ReasonCode,
+    ),
+    (
+        Holder::Entry,
+        INVALIDITY_DATE,
+        b"\x04\x11\x18\x0f20260101000000Z",
+        Known::InvalidityDate,
+    ),
+    (
+        Holder::Entry,
+        CERTIFICATE_ISSUER,
+        HOST,
+        Known::CertificateIssuer,
+    ),
+];
+
+#[test]
+fn values_of_each_extension(rt: HostRuntime) -> Result<(), Fail> {
+    for (holder, oid, octets, wanted) in VALUES {
+        let known = known(ext(holder, oid, octets)?);
+        let is_as_written = is_as_written(ext(holder, oid, octets)?);
+        assert_eq!(rt; (known, is_as_written), (Some(wanted), true));
+    }
+    Ok(())
+}
+
+/// The octets of an extension that is not looked into.
+fn unknown<'a>(holder: Holder, oid: &'a [u8], octets: &'a [u8]) -> Option<&'a [u8]> {
+    let Ext::Unknown(octets) = ext(holder, oid, octets).ok()? else {
+        return None;
     };
-    assert_eq!(rt;
-        purposes.iter().next().ok_or("one")?.content,
-        b"\x2a\x03".as_slice()
-    );
-    Ok(())
+    Some(octets)
 }
 
-#[test]
-fn values_of_lists_and_entries(rt: HostRuntime) -> Result<(), Fail> {
-    let five = b"\x04\x03\x02\x01\x05".as_slice();
-    assert!(rt;
-        matches!(ext(Holder::List, CRL_NUMBER, five)?, Ext::CrlNumber(number) if number.octets == b"\x05".as_slice())
-    );
-    assert!(rt;
-        matches!(ext(Holder::List, DELTA_CRL_INDICATOR, five)?, Ext::DeltaCrlIndicator(number) if number.octets == b"\x05".as_slice())
-    );
-    assert!(rt;
-        matches!(ext(Holder::List, ISSUING_DISTRIBUTION_POINT, b"\x04\x05\x30\x03\x81\x01\xff")?, Ext::IssuingDistributionPoint(point) if point.only_user_certs)
-    );
-    assert!(rt;
-        matches!(ext(Holder::List, FRESHEST_CRL, b"\x04\x04\x30\x02\x30\x00")?, Ext::FreshestCrl(points) if points.iter().next().is_some())
-    );
-    assert!(rt;
-        matches!(ext(Holder::Entry, REASON_CODE, b"\x04\x03\x0a\x01\x01")?, Ext::ReasonCode(reason) if reason == ReasonCode::KeyCompromise)
-    );
-    assert!(rt;
-        matches!(ext(Holder::Entry, INVALIDITY_DATE, b"\x04\x11\x18\x0f20260101000000Z")?, Ext::InvalidityDate(date) if date.moment().0 == 1_767_225_600)
-    );
-    assert!(rt;
-        matches!(ext(Holder::Entry, CERTIFICATE_ISSUER, HOST)?, Ext::CertificateIssuer(names) if are_host(names.list))
-    );
-    Ok(())
-}
-
-#[test]
-fn values_are_refused_at_the_first_fault(rt: HostRuntime) -> Result<(), Fail> {
-    assert_eq!(rt;
-        refusal(of_certificate(KEY_USAGE, b"\x04\x00")),
-        Some((DerFault::Truncated, 2))
-    );
-    assert_eq!(rt;
-        refusal(of_certificate(KEY_USAGE, b"\x04\x04\x04\x02\x01\x06")),
-        Some((DerFault::WrongTag, 2))
-    );
-    assert_eq!(rt;
-        refusal(of_certificate(SUBJECT_ALT_NAME, b"\x04\x05\x31\x03\x82\x01\x61")),
-        Some((DerFault::WrongTag, 2))
-    );
-    assert_eq!(rt;
-        refusal(of_certificate(SUBJECT_KEY_IDENTIFIER, b"\x04\x02\x05\x00")),
-        Some((DerFault::WrongTag, 2))
-    );
-    assert_eq!(rt;
-        refusal(of_certificate(KEY_USAGE, b"\x04\x04\x03\x02\x00\x06")),
-        Some((DerFault::NamedBits, 2))
-    );
-    assert_eq!(rt;
-        refusal(of_certificate(KEY_USAGE, b"\x04\x06\x03\x02\x01\x06\x05\x00")),
-        Some((DerFault::Trailing, 6))
-    );
-    // What the value breaks counts before what stands behind it.
-    assert_eq!(rt;
-        refusal(of_certificate(KEY_USAGE, b"\x04\x06\x03\x02\x00\x06\x05\x00")),
-        Some((DerFault::NamedBits, 2))
-    );
-    Ok(())
-}
-
-#[test]
-fn unknown_values_are_not_looked_into(rt: HostRuntime) -> Result<(), Fail> {
+const UNKNOWN_VALUES: [(Holder, &[u8], &[u8], &[u8]); 4] = [
     // An element that is cut, and no octets at all.
-    assert!(rt;
-        matches!(of_certificate(UNKNOWN, b"\x04\x02\x30\x05")?, Ext::Unknown(octets) if octets == b"\x30\x05".as_slice())
-    );
-    assert!(rt;
-        matches!(of_certificate(UNKNOWN, b"\x04\x00")?, Ext::Unknown(octets) if octets.is_empty())
-    );
-    assert!(rt;
-        matches!(ext(Holder::List, KEY_USAGE, b"\x04\x02\x05\x00")?, Ext::Unknown(octets) if octets == b"\x05\x00".as_slice())
-    );
-    assert!(rt;
-        matches!(ext(Holder::Entry, CRL_NUMBER, b"\x04\x01\x02")?, Ext::Unknown(octets) if octets == b"\x02".as_slice())
-    );
-    Ok(())
-}
+    (
+        Holder::Certificate,
+        UNKNOWN,
+        b"\x04\x02\x30\x05",
+        b"\x30\x05",
+    ),
+    (Holder::Certificate, UNKNOWN, b"\x04\x00", b""),
+    (Holder::List, KEY_USAGE, b"\x04\x02\x05\x00", b"\x05\x00"),
+    (Holder::Entry, CRL_NUMBER, b"\x04\x01\x02", b"\x02"),
+];
 
 #[test]
-fn bounds_of_constraints(rt: HostRuntime) -> Result<(), Fail> {
-    let bounds = Some(CertRule::SubtreeBounds);
-    // Minimum 1, permitted and excluded; maximum 5, permitted and excluded.
-    for octets in [
-        b"\x04\x0c\x30\x0a\xa0\x08\x30\x06\x82\x01\x61\x80\x01\x01".as_slice(),
-        b"\x04\x0c\x30\x0a\xa1\x08\x30\x06\x82\x01\x61\x80\x01\x01",
-        b"\x04\x0c\x30\x0a\xa0\x08\x30\x06\x82\x01\x61\x81\x01\x05",
-        b"\x04\x0c\x30\x0a\xa1\x08\x30\x06\x82\x01\x61\x81\x01\x05",
-    ] {
-        assert_eq!(rt; rule(NAME_CONSTRAINTS, octets)?, bounds);
+fn unknown_values_are_not_looked_into(rt: HostRuntime) {
+    for (holder, oid, octets, wanted) in UNKNOWN_VALUES {
+        assert_eq!(rt; unknown(holder, oid, octets), Some(wanted));
     }
-    // An address of 4 octets with maximum 5; the same permitted, and maximum 5 excluded.
-    assert_eq!(rt;
-        rule(
-            NAME_CONSTRAINTS,
-            b"\x04\x0f\x30\x0d\xa0\x0b\x30\x09\x87\x04\x0a\x00\x00\x00\x81\x01\x05"
-        )?,
-        bounds
-    );
-    assert_eq!(rt;
-        rule(
-            NAME_CONSTRAINTS,
-            b"\x04\x16\x30\x14\xa0\x08\x30\x06\x87\x04\x0a\x00\x00\x00\xa1\x08\x30\x06\x82\x01\x61\x81\x01\x05"
-        )?,
-        bounds
-    );
-    Ok(())
 }
 
-#[test]
-fn addresses_in_constraints(rt: HostRuntime) -> Result<(), Fail> {
-    let length = Some(CertRule::AddressLength);
-    // 16 octets, permitted and excluded.
-    assert_eq!(rt;
-        rule(
-            NAME_CONSTRAINTS,
-            b"\x04\x18\x30\x16\xa0\x14\x30\x12\x87\x10\x20\x01\x0d\xb8\x00\x00\x00\x00\x00\x00\x00\x00\x00\x00\x00\x01"
-        )?,
-        length
-    );
-    assert_eq!(rt;
-        rule(
-            NAME_CONSTRAINTS,
-            b"\x04\x18\x30\x16\xa1\x14\x30\x12\x87\x10\x20\x01\x0d\xb8\x00\x00\x00\x00\x00\x00\x00\x00\x00\x00\x00\x01"
-        )?,
-        length
-    );
-    // 8 octets in a constraint, and in a name.
-    assert_eq!(rt;
-        rule(
-            NAME_CONSTRAINTS,
-            b"\x04\x10\x30\x0e\xa0\x0c\x30\x0a\x87\x08\x0a\x00\x00\x00\xff\x00\x00\x00"
-        )?,
-        None
-    );
-    assert_eq!(rt;
-        rule(
-            SUBJECT_ALT_NAME,
-            b"\x04\x0c\x30\x0a\x87\x08\x0a\x00\x00\x00\xff\x00\x00\x00"
-        )?,
-        length
-    );
-    Ok(())
-}
+const REFUSED: [(&[u8], &[u8], Refusal); 7] = [
+    (KEY_USAGE, b"\x04\x00", (DerFault::Truncated, 2)),
+    (
+        KEY_USAGE,
+        b"\x04\x04\x04\x02\x01\x06",
+        (DerFault::WrongTag, 2),
+    ),
+    (
+        SUBJECT_ALT_NAME,
+        b"\x04\x05\x31\x03\x82\x01\x61",
+        (DerFault::WrongTag, 2),
+    ),
+    (
+        SUBJECT_KEY_IDENTIFIER,
+        b"\x04\x02\x05\x00",
+        (DerFault::WrongTag, 2),
+    ),
+    (
+        KEY_USAGE,
+        b"\x04\x04\x03\x02\x00\x06",
+        (DerFault::NamedBits, 2),
+    ),
+    (
+        KEY_USAGE,
+        b"\x04\x06\x03\x02\x01\x06\x05\x00",
+        (DerFault::Trailing, 6),
+    ),
+    // What the value breaks counts before what stands behind it.
+    (
+        KEY_USAGE,
+        b"\x04\x06\x03\x02\x00\x06\x05\x00",
+        (DerFault::NamedBits, 2),
+    ),
+];
 
 #[test]
-fn addresses_among_names(rt: HostRuntime) -> Result<(), Fail> {
-    let length = Some(CertRule::AddressLength);
-    for (oid, octets, wanted) in [
-        (SUBJECT_ALT_NAME, FIVE, length),
-        (ISSUER_ALT_NAME, FIVE, length),
-        // Behind a host; of 4 octets; a host.
-        (
-            SUBJECT_ALT_NAME,
-            b"\x04\x0c\x30\x0a\x82\x01\x61\x87\x05\x0a\x00\x00\x01\x02",
-            length,
-        ),
-        (
-            SUBJECT_ALT_NAME,
-            b"\x04\x08\x30\x06\x87\x04\x0a\x00\x00\x01",
-            None,
-        ),
-        (SUBJECT_ALT_NAME, HOST, None),
-        // The issuer beside a key.
-        (
-            AUTHORITY_KEY_IDENTIFIER,
-            b"\x04\x0b\x30\x09\xa1\x07\x87\x05\x0a\x00\x00\x01\x02",
-            length,
-        ),
-        (
-            AUTHORITY_KEY_IDENTIFIER,
-            b"\x04\x05\x30\x03\x80\x01\x07",
-            None,
-        ),
-    ] {
-        assert_eq!(rt; rule(oid, octets)?, wanted);
-    }
-    Ok(())
-}
-
-#[test]
-fn addresses_in_lists(rt: HostRuntime) -> Result<(), Fail> {
-    let length = Some(CertRule::AddressLength);
-    assert_eq!(rt;
-        ext(Holder::List, ISSUER_ALT_NAME, FIVE)?.broken_rule(),
-        length
-    );
-    assert_eq!(rt;
-        ext(Holder::Entry, CERTIFICATE_ISSUER, FIVE)?.broken_rule(),
-        length
-    );
-    Ok(())
-}
-
-#[test]
-fn addresses_of_distribution_points(rt: HostRuntime) -> Result<(), Fail> {
-    let length = Some(CertRule::AddressLength);
-    // In a full name, in an issuer, and in the second point.
-    for octets in [
-        b"\x04\x0f\x30\x0d\x30\x0b\xa0\x09\xa0\x07\x87\x05\x0a\x00\x00\x01\x02".as_slice(),
-        b"\x04\x0d\x30\x0b\x30\x09\xa2\x07\x87\x05\x0a\x00\x00\x01\x02",
-        b"\x04\x11\x30\x0f\x30\x00\x30\x0b\xa0\x09\xa0\x07\x87\x05\x0a\x00\x00\x01\x02",
-    ] {
-        assert_eq!(rt; rule(CRL_DISTRIBUTION_POINTS, octets)?, length);
-        assert_eq!(rt; rule(FRESHEST_CRL, octets)?, length);
+fn values_are_refused_at_the_first_fault(rt: HostRuntime) {
+    for (oid, octets, wanted) in REFUSED {
         assert_eq!(rt;
-            ext(Holder::List, FRESHEST_CRL, octets)?.broken_rule(),
-            length
+            refusal(ext(Holder::Certificate, oid, octets)),
+            Some(wanted)
         );
     }
-    // Of 4 octets; a relative name; nothing.
-    for octets in [
-        b"\x04\x0e\x30\x0c\x30\x0a\xa0\x08\xa0\x06\x87\x04\x0a\x00\x00\x01".as_slice(),
-        b"\x04\x12\x30\x10\x30\x0e\xa0\x0c\xa1\x0a\x30\x08\x06\x03\x55\x04\x03\x0c\x01\x61",
-        b"\x04\x04\x30\x02\x30\x00",
-    ] {
-        assert_eq!(rt; rule(CRL_DISTRIBUTION_POINTS, octets)?, None);
-    }
-    assert_eq!(rt;
-        ext(
-            Holder::List,
-            ISSUING_DISTRIBUTION_POINT,
-            b"\x04\x0d\x30\x0b\xa0\x09\xa0\x07\x87\x05\x0a\x00\x00\x01\x02"
-        )?
-        .broken_rule(),
-        length
-    );
-    Ok(())
 }
 
+/// The rule that an extension breaks.
+fn broken<'a>(holder: Holder, oid: &'a [u8], octets: &'a [u8]) -> Result<Option<CertRule>, Fault> {
+    Ok(ext(holder, oid, octets)?.broken_rule())
+}
+
+const CONSTRAINTS: [(Holder, &[u8], &[u8], Option<CertRule>); 9] = [
+    // Minimum 1, permitted and excluded; maximum 5, permitted and excluded.
+    (
+        Holder::Certificate,
+        NAME_CONSTRAINTS,
+        b"\x04\x0c\x30\x0a\xa0\x08\x30\x06\x82\x01\x61\x80\x01\x01",
+        Some(CertRule::SubtreeBounds),
+    ),
+    (
+        Holder::Certificate,
+        NAME_CONSTRAINTS,
+        b"\x04\x0c\x30\x0a\xa1\x08\x30\x06\x82\x01\x61\x80\x01\x01",
+        Some(CertRule::SubtreeBounds),
+    ),
+    (
+        Holder::Certificate,
+        NAME_CONSTRAINTS,
+        b"\x04\x0c\x30\x0a\xa0\x08\x30\x06\x82\x01\x61\x81\x01\x05",
+        Some(CertRule::SubtreeBounds),
+    ),
+    (
+        Holder::Certificate,
+        NAME_CONSTRAINTS,
+        b"\x04\x0c\x30\x0a\xa1\x08\x30\x06\x82\x01\x61\x81\x01\x05",
+        Some(CertRule::SubtreeBounds),
+    ),
+    // An address of 4 octets with maximum 5; the same permitted, and maximum 5 excluded.
+    (
+        Holder::Certificate,
+        NAME_CONSTRAINTS,
+        b"\x04\x0f\x30\x0d\xa0\x0b\x30\x09\x87\x04\x0a\x00\x00\x00\x81\x01\x05",
+        Some(CertRule::SubtreeBounds),
+    ),
+    (
+        Holder::Certificate,
+        NAME_CONSTRAINTS,
+        b"\x04\x16\x30\x14\xa0\x08\x30\x06\x87\x04\x0a\x00\x00\x00\xa1\x08\x30\x06\x82\x01\x61\x81\x01\x05",
+        Some(CertRule::SubtreeBounds),
+    ),
+    // An address of 16 octets, permitted and excluded; of 8 octets, as a constraint has it.
+    (
+        Holder::Certificate,
+        NAME_CONSTRAINTS,
+        b"\x04\x18\x30\x16\xa0\x14\x30\x12\x87\x10\x20\x01\x0d\xb8\x00\x00\x00\x00\x00\x00\x00\x00\x00\x00\x00\x01",
+        Some(CertRule::AddressLength),
+    ),
+    (
+        Holder::Certificate,
+        NAME_CONSTRAINTS,
+        b"\x04\x18\x30\x16\xa1\x14\x30\x12\x87\x10\x20\x01\x0d\xb8\x00\x00\x00\x00\x00\x00\x00\x00\x00\x00\x00\x01",
+        Some(CertRule::AddressLength),
+    ),
+    (
+        Holder::Certificate,
+        NAME_CONSTRAINTS,
+        b"\x04\x10\x30\x0e\xa0\x0c\x30\x0a\x87\x08\x0a\x00\x00\x00\xff\x00\x00\x00",
+        None,
+    ),
+];
+
 #[test]
-fn policies_stated_twice(rt: HostRuntime) -> Result<(), Fail> {
-    let twice = Some(CertRule::DuplicatePolicy);
-    for (oid, octets, wanted) in [
-        (
-            CERTIFICATE_POLICIES,
-            b"\x04\x0e\x30\x0c\x30\x04\x06\x02\x2a\x03\x30\x04\x06\x02\x2a\x03".as_slice(),
-            twice,
-        ),
-        // With another between them.
-        (
-            CERTIFICATE_POLICIES,
-            b"\x04\x14\x30\x12\x30\x04\x06\x02\x2a\x03\x30\x04\x06\x02\x2a\x04\x30\x04\x06\x02\x2a\x03",
-            twice,
-        ),
-        // Of one length; of which one begins as the other.
-        (
-            CERTIFICATE_POLICIES,
-            b"\x04\x0e\x30\x0c\x30\x04\x06\x02\x2a\x03\x30\x04\x06\x02\x2a\x04",
-            None,
-        ),
-        (
-            CERTIFICATE_POLICIES,
-            b"\x04\x0f\x30\x0d\x30\x04\x06\x02\x2a\x03\x30\x05\x06\x03\x2a\x03\x04",
-            None,
-        ),
-        // Purposes and unknown values have no such rule.
-        (
-            EXT_KEY_USAGE,
-            b"\x04\x0a\x30\x08\x06\x02\x2a\x03\x06\x02\x2a\x03",
-            None,
-        ),
-        (UNKNOWN, b"\x04\x02\x30\x05", None),
-    ] {
-        assert_eq!(rt; rule(oid, octets)?, wanted);
+fn bounds_and_addresses_of_constraints(rt: HostRuntime) {
+    for (holder, oid, octets, wanted) in CONSTRAINTS {
+        assert_eq!(rt; broken(holder, oid, octets), Ok(wanted));
     }
-    Ok(())
+}
+
+const NAMES: [(Holder, &[u8], &[u8], Option<CertRule>); 10] = [
+    // Of 8 octets, as in a constraint.
+    (
+        Holder::Certificate,
+        SUBJECT_ALT_NAME,
+        b"\x04\x0c\x30\x0a\x87\x08\x0a\x00\x00\x00\xff\x00\x00\x00",
+        Some(CertRule::AddressLength),
+    ),
+    // Of 5 octets in names; behind a host; of 4 octets; a host.
+    (
+        Holder::Certificate,
+        SUBJECT_ALT_NAME,
+        FIVE,
+        Some(CertRule::AddressLength),
+    ),
+    (
+        Holder::Certificate,
+        ISSUER_ALT_NAME,
+        FIVE,
+        Some(CertRule::AddressLength),
+    ),
+    (
+        Holder::List,
+        ISSUER_ALT_NAME,
+        FIVE,
+        Some(CertRule::AddressLength),
+    ),
+    (
+        Holder::Entry,
+        CERTIFICATE_ISSUER,
+        FIVE,
+        Some(CertRule::AddressLength),
+    ),
+    (
+        Holder::Certificate,
+        SUBJECT_ALT_NAME,
+        b"\x04\x0c\x30\x0a\x82\x01\x61\x87\x05\x0a\x00\x00\x01\x02",
+        Some(CertRule::AddressLength),
+    ),
+    (
+        Holder::Certificate,
+        SUBJECT_ALT_NAME,
+        b"\x04\x08\x30\x06\x87\x04\x0a\x00\x00\x01",
+        None,
+    ),
+    (Holder::Certificate, SUBJECT_ALT_NAME, HOST, None),
+    // The issuer beside a key.
+    (
+        Holder::Certificate,
+        AUTHORITY_KEY_IDENTIFIER,
+        b"\x04\x0b\x30\x09\xa1\x07\x87\x05\x0a\x00\x00\x01\x02",
+        Some(CertRule::AddressLength),
+    ),
+    (
+        Holder::Certificate,
+        AUTHORITY_KEY_IDENTIFIER,
+        b"\x04\x05\x30\x03\x80\x01\x07",
+        None,
+    ),
+];
+
+#[test]
+fn addresses_among_names(rt: HostRuntime) {
+    for (holder, oid, octets, wanted) in NAMES {
+        assert_eq!(rt; broken(holder, oid, octets), Ok(wanted));
+    }
+}
+
+/// A point with an address of 5 octets in its full name.
+const FIVE_IN_NAME: &[u8] = b"\x04\x0f\x30\x0d\x30\x0b\xa0\x09\xa0\x07\x87\x05\x0a\x00\x00\x01\x02";
+
+/// A point with an address of 5 octets as its issuer.
+const FIVE_AS_ISSUER: &[u8] = b"\x04\x0d\x30\x0b\x30\x09\xa2\x07\x87\x05\x0a\x00\x00\x01\x02";
+
+/// The first behind a point without fields.
+const FIVE_IN_SECOND: &[u8] =
+    b"\x04\x11\x30\x0f\x30\x00\x30\x0b\xa0\x09\xa0\x07\x87\x05\x0a\x00\x00\x01\x02";
+
+const POINTS: [(Holder, &[u8], &[u8], Option<CertRule>); 13] = [
+    // Of certificates, of their changes, of a list's changes, and of what a list covers.
+    (
+        Holder::Certificate,
+        CRL_DISTRIBUTION_POINTS,
+        FIVE_IN_NAME,
+        Some(CertRule::AddressLength),
+    ),
+    (
+        Holder::Certificate,
+        CRL_DISTRIBUTION_POINTS,
+        FIVE_AS_ISSUER,
+        Some(CertRule::AddressLength),
+    ),
+    (
+        Holder::Certificate,
+        CRL_DISTRIBUTION_POINTS,
+        FIVE_IN_SECOND,
+        Some(CertRule::AddressLength),
+    ),
+    (
+        Holder::Certificate,
+        FRESHEST_CRL,
+        FIVE_IN_NAME,
+        Some(CertRule::AddressLength),
+    ),
+    (
+        Holder::Certificate,
+        FRESHEST_CRL,
+        FIVE_AS_ISSUER,
+        Some(CertRule::AddressLength),
+    ),
+    (
+        Holder::Certificate,
+        FRESHEST_CRL,
+        FIVE_IN_SECOND,
+        Some(CertRule::AddressLength),
+    ),
+    (
+        Holder::List,
+        FRESHEST_CRL,
+        FIVE_IN_NAME,
+        Some(CertRule::AddressLength),
+    ),
+    (
+        Holder::List,
+        FRESHEST_CRL,
+        FIVE_AS_ISSUER,
+        Some(CertRule::AddressLength),
+    ),
+    (
+        Holder::List,
+        FRESHEST_CRL,
+        FIVE_IN_SECOND,
+        Some(CertRule::AddressLength),
+    ),
+    (
+        Holder::List,
+        ISSUING_DISTRIBUTION_POINT,
+        b"\x04\x0d\x30\x0b\xa0\x09\xa0\x07\x87\x05\x0a\x00\x00\x01\x02",
+        Some(CertRule::AddressLength),
+    ),
+    // Of 4 octets; a relative name; nothing.
+    (
+        Holder::Certificate,
+        CRL_DISTRIBUTION_POINTS,
+        b"\x04\x0e\x30\x0c\x30\x0a\xa0\x08\xa0\x06\x87\x04\x0a\x00\x00\x01",
+        None,
+    ),
+    (
+        Holder::Certificate,
+        CRL_DISTRIBUTION_POINTS,
+        b"\x04\x12\x30\x10\x30\x0e\xa0\x0c\xa1\x0a\x30\x08\x06\x03\x55\x04\x03\x0c\x01\x61",
+        None,
+    ),
+    (
+        Holder::Certificate,
+        CRL_DISTRIBUTION_POINTS,
+        b"\x04\x04\x30\x02\x30\x00",
+        None,
+    ),
+];
+
+#[test]
+fn addresses_of_distribution_points(rt: HostRuntime) {
+    for (holder, oid, octets, wanted) in POINTS {
+        assert_eq!(rt; broken(holder, oid, octets), Ok(wanted));
+    }
+}
+
+const POLICIES: [(Holder, &[u8], &[u8], Option<CertRule>); 6] = [
+    // A policy that is stated twice, also with another between them.
+    (
+        Holder::Certificate,
+        CERTIFICATE_POLICIES,
+        b"\x04\x0e\x30\x0c\x30\x04\x06\x02\x2a\x03\x30\x04\x06\x02\x2a\x03",
+        Some(CertRule::DuplicatePolicy),
+    ),
+    (
+        Holder::Certificate,
+        CERTIFICATE_POLICIES,
+        b"\x04\x14\x30\x12\x30\x04\x06\x02\x2a\x03\x30\x04\x06\x02\x2a\x04\x30\x04\x06\x02\x2a\x03",
+        Some(CertRule::DuplicatePolicy),
+    ),
+    // Two of one length; of which one begins as the other.
+    (
+        Holder::Certificate,
+        CERTIFICATE_POLICIES,
+        b"\x04\x0e\x30\x0c\x30\x04\x06\x02\x2a\x03\x30\x04\x06\x02\x2a\x04",
+        None,
+    ),
+    (
+        Holder::Certificate,
+        CERTIFICATE_POLICIES,
+        b"\x04\x0f\x30\x0d\x30\x04\x06\x02\x2a\x03\x30\x05\x06\x03\x2a\x03\x04",
+        None,
+    ),
+    // Purposes and unknown values have no such rule.
+    (
+        Holder::Certificate,
+        EXT_KEY_USAGE,
+        b"\x04\x0a\x30\x08\x06\x02\x2a\x03\x06\x02\x2a\x03",
+        None,
+    ),
+    (Holder::Certificate, UNKNOWN, b"\x04\x02\x30\x05", None),
+];
+
+#[test]
+fn policies_stated_twice(rt: HostRuntime) {
+    for (holder, oid, octets, wanted) in POLICIES {
+        assert_eq!(rt; broken(holder, oid, octets), Ok(wanted));
+    }
 }

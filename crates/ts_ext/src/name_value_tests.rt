@@ -1,17 +1,10 @@
 //! Values with general names by hand, worked out from RFC 5280 and X.690.
 
 use super::*;
-use crate::tests::{refusal, value};
+use crate::tests::{Refusal, answer, refusal, value};
 use std::test::Fail;
 use ts_der::{DerFault, Fault};
-use ts_name::General;
-
-/// A distribution point with the URI `a` and the reason keyCompromise.
-const POINT: &[u8] = b"\x04\x0f\x30\x0d\x30\x0b\xa0\x05\xa0\x03\x86\x01\x61\x81\x02\x06\x40";
-
-/// A distribution point with the relative name CN=a.
-const RELATIVE: &[u8] =
-    b"\x04\x12\x30\x10\x30\x0e\xa0\x0c\xa1\x0a\x30\x08\x06\x03\x55\x04\x03\x0c\x01\x61";
+use ts_name::{General, GeneralNames, SequenceOf, Subtree};
 
 fn names(octets: &[u8]) -> Result<AlternativeNames<'_>, Fault> {
     AlternativeNames::read(value(octets)?)
@@ -33,91 +26,127 @@ fn constraints(octets: &[u8]) -> Result<NameConstraints<'_>, Fault> {
     NameConstraints::read(value(octets)?)
 }
 
-/// Whether a name is the host of this text.
-fn is_host(name: General<'_>, wanted: &[u8]) -> bool {
-    matches!(name, General::DnsName(text) if text == wanted)
+/// The text of a host; of another name no octets.
+fn host<'a>(name: General<'a>) -> &'a [u8] {
+    match name {
+        General::DnsName(text) => text,
+        _ => b"",
+    }
 }
 
-/// Whether a name is the URI `a`.
-fn is_uri(name: General<'_>) -> bool {
-    matches!(name, General::UniformResourceIdentifier(text) if text == b"a".as_slice())
+/// The one name of a list, if it has no other.
+fn only_name<'a>(names: GeneralNames<'a>) -> Option<General<'a>> {
+    let mut list = names.iter();
+    let name = list.next()?;
+    if list.next().is_some() {
+        return None;
+    }
+    Some(name)
 }
 
-/// The four flags in the order in which they stand.
-fn flags(scope: IssuingDistributionPoint<'_>) -> (bool, bool, bool, bool) {
-    (
-        scope.only_user_certs,
-        scope.only_ca_certs,
-        scope.indirect_crl,
-        scope.only_attribute_certs,
-    )
+/// The host that names are, if they are no other name; else no octets.
+fn only_host<'a>(names: GeneralNames<'a>) -> &'a [u8] {
+    match only_name(names) {
+        Some(name) => host(name),
+        None => b"",
+    }
+}
+
+/// The host that subtrees stand below, if there is no other; else no octets.
+fn only_base<'a>(trees: SequenceOf<'a, Subtree<'a>>) -> &'a [u8] {
+    let mut list = trees.iter();
+    match (list.next(), list.next()) {
+        (Some(tree), None) => host(tree.base()),
+        _ => b"",
+    }
+}
+
+/// The URI that a full name is, if it is no other name.
+fn only_uri<'a>(name: Option<PointName<'a>>) -> Option<&'a [u8]> {
+    let PointName::FullName(full) = name? else {
+        return None;
+    };
+    let General::UniformResourceIdentifier(text) = only_name(full)? else {
+        return None;
+    };
+    Some(text)
+}
+
+/// A host and an address, if they are all the names of a list.
+fn host_and_address(octets: &[u8]) -> Option<(&[u8], &[u8])> {
+    let mut list = names(octets).ok()?.iter();
+    let first = host(list.next()?);
+    let General::IpAddress(second) = list.next()? else {
+        return None;
+    };
+    if list.next().is_some() {
+        return None;
+    }
+    Some((first, second))
 }
 
 #[test]
-fn names_stand_in_their_order(rt: HostRuntime) -> Result<(), Fail> {
-    let mut list = names(b"\x04\x0b\x30\x09\x82\x01\x61\x87\x04\x0a\x00\x00\x01")?.iter();
-    assert!(rt; is_host(list.next().ok_or("one")?, b"a".as_slice()));
-    let address = list.next().ok_or("two")?;
-    assert!(rt;
-        matches!(address, General::IpAddress(octets) if octets == b"\x0a\x00\x00\x01".as_slice())
+fn names_stand_in_their_order(rt: HostRuntime) {
+    assert_eq!(rt;
+        host_and_address(b"\x04\x0b\x30\x09\x82\x01\x61\x87\x04\x0a\x00\x00\x01"),
+        Some((b"a".as_slice(), b"\x0a\x00\x00\x01".as_slice()))
     );
-    assert!(rt; list.next().is_none());
-    Ok(())
 }
 
-#[test]
-fn names_are_refused_at_the_first_fault(rt: HostRuntime) -> Result<(), Fail> {
-    assert_eq!(rt;
-        refusal(names(b"\x04\x02\x30\x00")),
-        Some((DerFault::Empty, 2))
-    );
-    assert_eq!(rt;
-        refusal(names(b"\x04\x07\x30\x05\x82\x01\x61\x89\x00")),
-        Some((DerFault::WrongTag, 7))
-    );
-    assert_eq!(rt;
-        refusal(names(b"\x04\x05\x30\x03\x82\x01\x80")),
-        Some((DerFault::TextForm, 4))
-    );
-    Ok(())
+/// A distribution point with the URI `a` and the reason keyCompromise.
+const POINT: &[u8] = b"\x04\x0f\x30\x0d\x30\x0b\xa0\x05\xa0\x03\x86\x01\x61\x81\x02\x06\x40";
+
+/// A distribution point with nothing, and one with the issuer `a` alone.
+const TWO: &[u8] = b"\x04\x0b\x30\x09\x30\x00\x30\x05\xa2\x03\x82\x01\x61";
+
+/// A distribution point with the relative name CN=a.
+const RELATIVE: &[u8] =
+    b"\x04\x12\x30\x10\x30\x0e\xa0\x0c\xa1\x0a\x30\x08\x06\x03\x55\x04\x03\x0c\x01\x61";
+
+/// Whether a point has a name, reasons and an issuer.
+fn fields(point: DistributionPoint<'_>) -> [bool; 3] {
+    [
+        point.name.is_some(),
+        point.reasons.is_some(),
+        point.crl_issuer.is_some(),
+    ]
 }
 
 #[test]
 fn a_point_with_a_full_name_and_reasons(rt: HostRuntime) -> Result<(), Fail> {
     let mut list = points(POINT)?.iter();
-    let DistributionPoint {
-        name,
-        reasons,
-        crl_issuer,
-    } = list.next().ok_or("one")?;
-    assert!(rt; list.next().is_none());
-    assert!(rt; crl_issuer.is_none());
-    let reasons = reasons.ok_or("reasons")?;
-    assert!(rt; reasons.contains(ReasonFlag::KeyCompromise));
-    assert!(rt; !reasons.contains(ReasonFlag::CaCompromise));
-    let Some(PointName::FullName(full)) = name else {
-        return Err("no full name".into());
-    };
-    let mut ways = full.iter();
-    assert!(rt; is_uri(ways.next().ok_or("a way")?));
-    assert!(rt; ways.next().is_none());
+    let point = list.next().ok_or("one")?;
+    let reasons = point.reasons.ok_or("reasons")?;
+    assert_eq!(rt;
+        (
+            only_uri(point.name),
+            reasons.contains(ReasonFlag::KeyCompromise),
+            reasons.contains(ReasonFlag::CaCompromise),
+            point.crl_issuer.is_none(),
+            list.next().is_none()
+        ),
+        (Some(b"a".as_slice()), true, false, true, true)
+    );
     Ok(())
 }
 
 #[test]
 fn a_point_with_an_issuer(rt: HostRuntime) -> Result<(), Fail> {
-    // Nothing, and an issuer alone.
-    let mut list = points(b"\x04\x0b\x30\x09\x30\x00\x30\x05\xa2\x03\x82\x01\x61")?.iter();
+    let mut list = points(TWO)?.iter();
     let nothing = list.next().ok_or("one")?;
-    assert!(rt;
-        nothing.name.is_none() && nothing.reasons.is_none() && nothing.crl_issuer.is_none()
+    let DistributionPoint {
+        name,
+        reasons,
+        crl_issuer,
+    } = list.next().ok_or("two")?;
+    assert_eq!(rt;
+        (
+            fields(nothing),
+            name.is_none() && reasons.is_none() && list.next().is_none(),
+            crl_issuer.map(only_host)
+        ),
+        ([false, false, false], true, Some(b"a".as_slice()))
     );
-    let other = list.next().ok_or("two")?;
-    assert!(rt; other.name.is_none() && other.reasons.is_none());
-    let mut issuer = other.crl_issuer.ok_or("an issuer")?.iter();
-    assert!(rt; is_host(issuer.next().ok_or("its name")?, b"a".as_slice()));
-    assert!(rt; issuer.next().is_none());
-    assert!(rt; list.next().is_none());
     Ok(())
 }
 
@@ -127,210 +156,261 @@ fn a_point_with_a_relative_name(rt: HostRuntime) -> Result<(), Fail> {
     let Some(PointName::RelativeName(name)) = point.name else {
         return Err("no relative name".into());
     };
-    assert_eq!(rt; name.element.at, 8);
     assert_eq!(rt;
-        name.element.content,
-        b"\x30\x08\x06\x03\x55\x04\x03\x0c\x01\x61".as_slice()
-    );
-    assert!(rt; point.reasons.is_none() && point.crl_issuer.is_none());
-    Ok(())
-}
-
-#[test]
-fn points_are_refused_at_the_first_fault(rt: HostRuntime) -> Result<(), Fail> {
-    assert_eq!(rt;
-        refusal(points(b"\x04\x02\x30\x00")),
-        Some((DerFault::Empty, 2))
-    );
-    assert_eq!(rt;
-        refusal(points(b"\x04\x04\x30\x02\x31\x00")),
-        Some((DerFault::WrongTag, 4))
-    );
-    // A name without a form, of neither form, and of a full name without a name.
-    assert_eq!(rt;
-        refusal(points(b"\x04\x06\x30\x04\x30\x02\xa0\x00")),
-        Some((DerFault::Truncated, 8))
-    );
-    assert_eq!(rt;
-        refusal(points(b"\x04\x08\x30\x06\x30\x04\xa0\x02\x82\x00")),
-        Some((DerFault::WrongTag, 8))
-    );
-    assert_eq!(rt;
-        refusal(points(b"\x04\x08\x30\x06\x30\x04\xa0\x02\xa0\x00")),
-        Some((DerFault::Empty, 8))
-    );
-    // A full name and a relative name.
-    assert_eq!(rt;
-        refusal(points(
-            b"\x04\x17\x30\x15\x30\x13\xa0\x11\xa0\x03\x86\x01\x61\xa1\x0a\x30\x08\x06\x03\x55\x04\x03\x0c\x01\x61"
-        )),
-        Some((DerFault::Trailing, 13))
-    );
-    // Reasons whose last bit is 0, and reasons behind the issuer.
-    assert_eq!(rt;
-        refusal(points(b"\x04\x08\x30\x06\x30\x04\x81\x02\x05\x40")),
-        Some((DerFault::NamedBits, 6))
-    );
-    assert_eq!(rt;
-        refusal(points(b"\x04\x0d\x30\x0b\x30\x09\xa2\x03\x82\x01\x61\x81\x02\x06\x40")),
-        Some((DerFault::Trailing, 11))
+        (fields(point), name.element.at, name.element.content),
+        (
+            [true, false, false],
+            8,
+            b"\x30\x08\x06\x03\x55\x04\x03\x0c\x01\x61".as_slice()
+        )
     );
     Ok(())
 }
 
-/// What a list covers, without any field.
-const NOTHING: &[u8] = b"\x04\x02\x30\x00";
-
-/// A full name, certificates of authorities alone, key compromise alone, and certificates of other issuers.
+/// What a list covers: a full name, certificates of authorities alone, key compromise alone, and certificates of other
+/// issuers.
 const COVERS: &[u8] =
     b"\x04\x13\x30\x11\xa0\x05\xa0\x03\x86\x01\x61\x82\x01\xff\x83\x02\x06\x40\x84\x01\xff";
 
+/// Whether there is each field, or it is true, in the order in which they stand.
+fn scope_fields(octets: &[u8]) -> Result<[bool; 6], Fault> {
+    let scope = scope(octets)?;
+    Ok([
+        scope.name.is_some(),
+        scope.only_user_certs,
+        scope.only_ca_certs,
+        scope.only_some_reasons.is_some(),
+        scope.indirect_crl,
+        scope.only_attribute_certs,
+    ])
+}
+
+const SCOPES: [(&[u8], Result<[bool; 6], Refusal>); 13] = [
+    (b"\x04\x02\x30\x00", Ok([false; 6])),
+    (COVERS, Ok([true, false, true, true, true, false])),
+    // Each flag alone.
+    (
+        b"\x04\x05\x30\x03\x81\x01\xff",
+        Ok([false, true, false, false, false, false]),
+    ),
+    (
+        b"\x04\x05\x30\x03\x82\x01\xff",
+        Ok([false, false, true, false, false, false]),
+    ),
+    (
+        b"\x04\x05\x30\x03\x84\x01\xff",
+        Ok([false, false, false, false, true, false]),
+    ),
+    (
+        b"\x04\x05\x30\x03\x85\x01\xff",
+        Ok([false, false, false, false, false, true]),
+    ),
+    // FALSE, which is the default.
+    (
+        b"\x04\x05\x30\x03\x81\x01\x00",
+        Err((DerFault::DefaultEncoded, 4)),
+    ),
+    (
+        b"\x04\x05\x30\x03\x82\x01\x00",
+        Err((DerFault::DefaultEncoded, 4)),
+    ),
+    (
+        b"\x04\x05\x30\x03\x84\x01\x00",
+        Err((DerFault::DefaultEncoded, 4)),
+    ),
+    (
+        b"\x04\x05\x30\x03\x85\x01\x00",
+        Err((DerFault::DefaultEncoded, 4)),
+    ),
+    (
+        b"\x04\x05\x30\x03\x81\x01\x01",
+        Err((DerFault::BooleanForm, 4)),
+    ),
+    // In another order; two names.
+    (
+        b"\x04\x08\x30\x06\x82\x01\xff\x81\x01\xff",
+        Err((DerFault::Trailing, 7)),
+    ),
+    (
+        b"\x04\x10\x30\x0e\xa0\x05\xa0\x03\x86\x01\x61\xa0\x05\xa0\x03\x86\x01\x61",
+        Err((DerFault::Trailing, 11)),
+    ),
+];
+
 #[test]
-fn each_flag_of_a_list(rt: HostRuntime) -> Result<(), Fail> {
-    assert_eq!(rt;
-        flags(scope(b"\x04\x05\x30\x03\x81\x01\xff")?),
-        (true, false, false, false)
-    );
-    assert_eq!(rt;
-        flags(scope(b"\x04\x05\x30\x03\x82\x01\xff")?),
-        (false, true, false, false)
-    );
-    assert_eq!(rt;
-        flags(scope(b"\x04\x05\x30\x03\x84\x01\xff")?),
-        (false, false, true, false)
-    );
-    assert_eq!(rt;
-        flags(scope(b"\x04\x05\x30\x03\x85\x01\xff")?),
-        (false, false, false, true)
-    );
-    assert_eq!(rt; flags(scope(NOTHING)?), (false, false, false, false));
-    let IssuingDistributionPoint {
-        name,
-        only_some_reasons,
-        ..
-    } = scope(NOTHING)?;
-    assert!(rt; name.is_none() && only_some_reasons.is_none());
-    Ok(())
+fn what_a_list_covers(rt: HostRuntime) {
+    for (octets, wanted) in SCOPES {
+        assert_eq!(rt; answer(scope_fields(octets)), wanted);
+    }
 }
 
 #[test]
-fn what_a_list_covers(rt: HostRuntime) -> Result<(), Fail> {
-    assert_eq!(rt; flags(scope(COVERS)?), (false, true, true, false));
-    let IssuingDistributionPoint {
-        name,
-        only_some_reasons,
-        ..
-    } = scope(COVERS)?;
-    let reasons = only_some_reasons.ok_or("reasons")?;
-    assert!(rt; reasons.contains(ReasonFlag::KeyCompromise));
-    assert!(rt; !reasons.contains(ReasonFlag::AaCompromise));
-    let Some(PointName::FullName(full)) = name else {
-        return Err("no full name".into());
-    };
-    assert!(rt; is_uri(full.iter().next().ok_or("a way")?));
-    Ok(())
-}
-
-#[test]
-fn what_a_list_covers_is_refused_at_the_first_fault(rt: HostRuntime) -> Result<(), Fail> {
-    let default = Some((DerFault::DefaultEncoded, 4));
-    assert_eq!(rt; refusal(scope(b"\x04\x05\x30\x03\x81\x01\x00")), default);
-    assert_eq!(rt; refusal(scope(b"\x04\x05\x30\x03\x82\x01\x00")), default);
-    assert_eq!(rt; refusal(scope(b"\x04\x05\x30\x03\x84\x01\x00")), default);
-    assert_eq!(rt; refusal(scope(b"\x04\x05\x30\x03\x85\x01\x00")), default);
+fn the_name_and_the_reasons_of_what_a_list_covers(rt: HostRuntime) -> Result<(), Fail> {
+    let covers = scope(COVERS)?;
+    let reasons = covers.only_some_reasons.ok_or("reasons")?;
     assert_eq!(rt;
-        refusal(scope(b"\x04\x05\x30\x03\x81\x01\x01")),
-        Some((DerFault::BooleanForm, 4))
-    );
-    assert_eq!(rt;
-        refusal(scope(b"\x04\x08\x30\x06\x82\x01\xff\x81\x01\xff")),
-        Some((DerFault::Trailing, 7))
-    );
-    // Two names.
-    assert_eq!(rt;
-        refusal(scope(b"\x04\x10\x30\x0e\xa0\x05\xa0\x03\x86\x01\x61\xa0\x05\xa0\x03\x86\x01\x61")),
-        Some((DerFault::Trailing, 11))
-    );
-    Ok(())
-}
-
-#[test]
-fn keys_of_authorities(rt: HostRuntime) -> Result<(), Fail> {
-    let all = key(b"\x04\x0e\x30\x0c\x80\x02\x01\x02\xa1\x03\x82\x01\x61\x82\x01\x05")?;
-    assert_eq!(rt; all.key_identifier.ok_or("a key")?, b"\x01\x02".as_slice());
-    let mut issuer = all.authority_cert_issuer.ok_or("an issuer")?.iter();
-    assert!(rt; is_host(issuer.next().ok_or("its name")?, b"a".as_slice()));
-    assert!(rt; issuer.next().is_none());
-    assert_eq!(rt;
-        all.authority_cert_serial_number.ok_or("a number")?.octets,
-        b"\x05".as_slice()
-    );
-    let none = key(b"\x04\x02\x30\x00")?;
-    assert!(rt;
-        none.key_identifier.is_none()
-            && none.authority_cert_issuer.is_none()
-            && none.authority_cert_serial_number.is_none()
-    );
-    Ok(())
-}
-
-#[test]
-fn keys_of_authorities_are_refused_at_the_first_fault(rt: HostRuntime) -> Result<(), Fail> {
-    assert_eq!(rt;
-        refusal(key(b"\x04\x06\x30\x04\x82\x02\x00\x05")),
-        Some((DerFault::IntegerForm, 4))
-    );
-    assert_eq!(rt;
-        refusal(key(b"\x04\x04\x30\x02\xa1\x00")),
-        Some((DerFault::Empty, 4))
-    );
-    assert_eq!(rt;
-        refusal(key(b"\x04\x08\x30\x06\x82\x01\x05\x80\x01\x01")),
-        Some((DerFault::Trailing, 7))
+        (
+            only_uri(covers.name),
+            reasons.contains(ReasonFlag::KeyCompromise),
+            reasons.contains(ReasonFlag::AaCompromise)
+        ),
+        (Some(b"a".as_slice()), true, false)
     );
     Ok(())
 }
 
+/// The key, the host that its issuer is, and the octets of the number.
+fn key_fields(octets: &[u8]) -> Result<(Option<&[u8]>, Option<&[u8]>, Option<&[u8]>), Fault> {
+    let key = key(octets)?;
+    Ok((
+        key.key_identifier,
+        key.authority_cert_issuer.map(only_host),
+        key.authority_cert_serial_number.map(|number| number.octets),
+    ))
+}
+
+/// The hosts that permitted and excluded subtrees stand below.
+fn bases(octets: &[u8]) -> Result<(Option<&[u8]>, Option<&[u8]>), Fault> {
+    let constraints = constraints(octets)?;
+    Ok((
+        constraints.permitted.map(only_base),
+        constraints.excluded.map(only_base),
+    ))
+}
+
+const KEYS: [(
+    &[u8],
+    Result<(Option<&[u8]>, Option<&[u8]>, Option<&[u8]>), Refusal>,
+); 5] = [
+    (
+        b"\x04\x0e\x30\x0c\x80\x02\x01\x02\xa1\x03\x82\x01\x61\x82\x01\x05",
+        Ok((Some(b"\x01\x02"), Some(b"a"), Some(b"\x05"))),
+    ),
+    (b"\x04\x02\x30\x00", Ok((None, None, None))),
+    // A number that is padded; no issuer; the number before the key.
+    (
+        b"\x04\x06\x30\x04\x82\x02\x00\x05",
+        Err((DerFault::IntegerForm, 4)),
+    ),
+    (b"\x04\x04\x30\x02\xa1\x00", Err((DerFault::Empty, 4))),
+    (
+        b"\x04\x08\x30\x06\x82\x01\x05\x80\x01\x01",
+        Err((DerFault::Trailing, 7)),
+    ),
+];
+
 #[test]
-fn names_that_may_stand_below(rt: HostRuntime) -> Result<(), Fail> {
-    let both = constraints(
+fn keys_of_authorities(rt: HostRuntime) {
+    for (octets, wanted) in KEYS {
+        assert_eq!(rt; answer(key_fields(octets)), wanted);
+    }
+}
+
+const BASES: [(&[u8], Result<(Option<&[u8]>, Option<&[u8]>), Refusal>); 7] = [
+    (
         b"\x04\x10\x30\x0e\xa0\x05\x30\x03\x82\x01\x61\xa1\x05\x30\x03\x82\x01\x62",
-    )?;
-    let mut permitted = both.permitted.ok_or("permitted")?.iter();
-    assert!(rt; is_host(permitted.next().ok_or("one")?.base(), b"a".as_slice()));
-    assert!(rt; permitted.next().is_none());
-    let mut excluded = both.excluded.ok_or("excluded")?.iter();
-    assert!(rt; is_host(excluded.next().ok_or("one")?.base(), b"b".as_slice()));
-    assert!(rt; excluded.next().is_none());
-    let neither = constraints(b"\x04\x02\x30\x00")?;
-    assert!(rt; neither.permitted.is_none() && neither.excluded.is_none());
-    Ok(())
-}
+        Ok((Some(b"a"), Some(b"b"))),
+    ),
+    (b"\x04\x02\x30\x00", Ok((None, None))),
+    // No subtree; one that is none.
+    (b"\x04\x04\x30\x02\xa0\x00", Err((DerFault::Empty, 4))),
+    (b"\x04\x04\x30\x02\xa1\x00", Err((DerFault::Empty, 4))),
+    (
+        b"\x04\x06\x30\x04\xa0\x02\x31\x00",
+        Err((DerFault::WrongTag, 6)),
+    ),
+    // Minimum 0, which is the default.
+    (
+        b"\x04\x0c\x30\x0a\xa0\x08\x30\x06\x82\x01\x61\x80\x01\x00",
+        Err((DerFault::DefaultEncoded, 11)),
+    ),
+    // The excluded before the permitted.
+    (
+        b"\x04\x10\x30\x0e\xa1\x05\x30\x03\x82\x01\x61\xa0\x05\x30\x03\x82\x01\x62",
+        Err((DerFault::Trailing, 11)),
+    ),
+];
 
 #[test]
-fn constraints_are_refused_at_the_first_fault(rt: HostRuntime) -> Result<(), Fail> {
-    assert_eq!(rt;
-        refusal(constraints(b"\x04\x04\x30\x02\xa0\x00")),
-        Some((DerFault::Empty, 4))
-    );
-    assert_eq!(rt;
-        refusal(constraints(b"\x04\x04\x30\x02\xa1\x00")),
-        Some((DerFault::Empty, 4))
-    );
-    assert_eq!(rt;
-        refusal(constraints(b"\x04\x06\x30\x04\xa0\x02\x31\x00")),
-        Some((DerFault::WrongTag, 6))
-    );
-    // Minimum 0, which is the default.
-    assert_eq!(rt;
-        refusal(constraints(b"\x04\x0c\x30\x0a\xa0\x08\x30\x06\x82\x01\x61\x80\x01\x00")),
-        Some((DerFault::DefaultEncoded, 11))
-    );
-    assert_eq!(rt;
-        refusal(constraints(
-            b"\x04\x10\x30\x0e\xa1\x05\x30\x03\x82\x01\x61\xa0\x05\x30\x03\x82\x01\x62"
-        )),
-        Some((DerFault::Trailing, 11))
-    );
-    Ok(())
+fn names_that_may_stand_below(rt: HostRuntime) {
+    for (octets, wanted) in BASES {
+        assert_eq!(rt; answer(bases(octets)), wanted);
+    }
+}
+
+/// Why names and points are refused.
+fn refused(known: Known, octets: &[u8]) -> Option<Refusal> {
+    match known {
+        Known::SubjectAltName => refusal(names(octets)),
+        Known::CrlDistributionPoints => refusal(points(octets)),
+        _ => None,
+    }
+}
+
+const REFUSED: [(Known, &[u8], Refusal); 11] = [
+    (
+        Known::SubjectAltName,
+        b"\x04\x02\x30\x00",
+        (DerFault::Empty, 2),
+    ),
+    (
+        Known::SubjectAltName,
+        b"\x04\x07\x30\x05\x82\x01\x61\x89\x00",
+        (DerFault::WrongTag, 7),
+    ),
+    (
+        Known::SubjectAltName,
+        b"\x04\x05\x30\x03\x82\x01\x80",
+        (DerFault::TextForm, 4),
+    ),
+    (
+        Known::CrlDistributionPoints,
+        b"\x04\x02\x30\x00",
+        (DerFault::Empty, 2),
+    ),
+    (
+        Known::CrlDistributionPoints,
+        b"\x04\x04\x30\x02\x31\x00",
+        (DerFault::WrongTag, 4),
+    ),
+    // A name without a form, of neither form, and of a full name without a name.
+    (
+        Known::CrlDistributionPoints,
+        b"\x04\x06\x30\x04\x30\x02\xa0\x00",
+        (DerFault::Truncated, 8),
+    ),
+    (
+        Known::CrlDistributionPoints,
+        b"\x04\x08\x30\x06\x30\x04\xa0\x02\x82\x00",
+        (DerFault::WrongTag, 8),
+    ),
+    (
+        Known::CrlDistributionPoints,
+        b"\x04\x08\x30\x06\x30\x04\xa0\x02\xa0\x00",
+        (DerFault::Empty, 8),
+    ),
+    // A full name and a relative name.
+    (
+        Known::CrlDistributionPoints,
+        b"\x04\x17\x30\x15\x30\x13\xa0\x11\xa0\x03\x86\x01\x61\xa1\x0a\x30\x08\x06\x03\x55\x04\x03\x0c\x01\x61",
+        (DerFault::Trailing, 13),
+    ),
+    // Reasons whose last bit is 0, and reasons behind the issuer.
+    (
+        Known::CrlDistributionPoints,
+        b"\x04\x08\x30\x06\x30\x04\x81\x02\x05\x40",
+        (DerFault::NamedBits, 6),
+    ),
+    (
+        Known::CrlDistributionPoints,
+        b"\x04\x0d\x30\x0b\x30\x09\xa2\x03\x82\x01\x61\x81\x02\x06\x40",
+        (DerFault::Trailing, 11),
+    ),
+];
+
+#[test]
+fn names_and_points_are_refused_at_the_first_fault(rt: HostRuntime) {
+    for (known, octets, wanted) in REFUSED {
+        assert_eq!(rt; refused(known, octets), Some(wanted));
+    }
 }

@@ -2,134 +2,143 @@
 //! stands at 2.
 
 use super::*;
-use std::test::Fail;
 use ts_der::{DerFault, Element, Fault, Reader};
+
+/// The rule that a value breaks, and where.
+pub(crate) type Refusal = (DerFault, usize);
 
 /// The value within an OCTET STRING.
 pub(crate) fn value(octets: &[u8]) -> Result<Element<'_>, Fault> {
     Reader::new(octets).next()?.reader().next()
 }
 
-pub(crate) fn refusal<T: Drop>(read: Result<T, Fault>) -> Option<(DerFault, usize)> {
+/// What is read, or why it is refused.
+pub(crate) fn answer<T>(read: Result<T, Fault>) -> Result<T, Refusal> {
+    match read {
+        Ok(value) => Ok(value),
+        Err(fault) => Err((fault.kind, fault.at)),
+    }
+}
+
+pub(crate) fn refusal<T: Drop>(read: Result<T, Fault>) -> Option<Refusal> {
     read.err().map(|fault| (fault.kind, fault.at))
 }
 
-#[test]
-fn numbers_of_lists_have_any_size(rt: HostRuntime) -> Result<(), Fail> {
-    let five = value(b"\x04\x03\x02\x01\x05")?;
-    assert_eq!(rt; CrlNumber::read(five)?.octets, b"\x05".as_slice());
-    assert_eq!(rt; BaseCrlNumber::read(five)?.octets, b"\x05".as_slice());
-    let long = value(b"\x04\x0b\x02\x09\x00\xff\xff\xff\xff\xff\xff\xff\xff")?;
-    assert_eq!(rt;
-        CrlNumber::read(long)?.octets,
-        b"\x00\xff\xff\xff\xff\xff\xff\xff\xff".as_slice()
-    );
-    Ok(())
+/// The octets of a number of a list.
+fn number(octets: &[u8]) -> Result<&[u8], Fault> {
+    Ok(CrlNumber::read(value(octets)?)?.octets)
 }
 
-#[test]
-fn a_number_of_a_list_is_not_negative(rt: HostRuntime) -> Result<(), Fail> {
-    let negative = value(b"\x04\x03\x02\x01\x80")?;
-    assert_eq!(rt;
-        refusal(CrlNumber::read(negative)),
-        Some((DerFault::IntegerForm, 2))
-    );
-    assert_eq!(rt; BaseCrlNumber::read(negative)?.octets, b"\x80".as_slice());
-    let padded = value(b"\x04\x04\x02\x02\x00\x05")?;
-    assert_eq!(rt;
-        refusal(CrlNumber::read(padded)),
-        Some((DerFault::IntegerForm, 2))
-    );
-    assert_eq!(rt;
-        refusal(BaseCrlNumber::read(padded)),
-        Some((DerFault::IntegerForm, 2))
-    );
-    let empty = value(b"\x04\x02\x02\x00")?;
-    assert_eq!(rt;
-        refusal(CrlNumber::read(empty)),
-        Some((DerFault::IntegerForm, 2))
-    );
-    Ok(())
+/// The octets of the number of the list that another one adds to.
+fn base_number(octets: &[u8]) -> Result<&[u8], Fault> {
+    Ok(BaseCrlNumber::read(value(octets)?)?.octets)
 }
 
-#[test]
-fn counts_have_32_bits(rt: HostRuntime) -> Result<(), Fail> {
-    assert_eq!(rt; SkipCerts::read(value(b"\x04\x03\x02\x01\x00")?)?.0, 0);
-    assert_eq!(rt;
-        SkipCerts::read(value(b"\x04\x07\x02\x05\x00\xff\xff\xff\xff")?)?.0,
-        4_294_967_295
-    );
-    assert_eq!(rt;
-        refusal(SkipCerts::read(value(b"\x04\x07\x02\x05\x01\x00\x00\x00\x00")?)),
-        Some((DerFault::TooLarge, 2))
-    );
-    assert_eq!(rt;
-        refusal(SkipCerts::read(value(b"\x04\x03\x02\x01\xff")?)),
-        Some((DerFault::IntegerForm, 2))
-    );
-    Ok(())
-}
+/// Numbers of lists, read as its own number and as that of another.
+const NUMBERS: [(&[u8], Result<&[u8], Refusal>, Result<&[u8], Refusal>); 5] = [
+    (b"\x04\x03\x02\x01\x05", Ok(b"\x05"), Ok(b"\x05")),
+    // Of any size.
+    (
+        b"\x04\x0b\x02\x09\x00\xff\xff\xff\xff\xff\xff\xff\xff",
+        Ok(b"\x00\xff\xff\xff\xff\xff\xff\xff\xff"),
+        Ok(b"\x00\xff\xff\xff\xff\xff\xff\xff\xff"),
+    ),
+    // Negative; padded; without octets.
+    (
+        b"\x04\x03\x02\x01\x80",
+        Err((DerFault::IntegerForm, 2)),
+        Ok(b"\x80"),
+    ),
+    (
+        b"\x04\x04\x02\x02\x00\x05",
+        Err((DerFault::IntegerForm, 2)),
+        Err((DerFault::IntegerForm, 2)),
+    ),
+    (
+        b"\x04\x02\x02\x00",
+        Err((DerFault::IntegerForm, 2)),
+        Err((DerFault::IntegerForm, 2)),
+    ),
+];
 
 #[test]
-fn reasons_have_ten_numbers(rt: HostRuntime) -> Result<(), Fail> {
-    assert_eq!(rt;
-        ReasonCode::read(value(b"\x04\x03\x0a\x01\x00")?)?,
-        ReasonCode::Unspecified
-    );
-    assert_eq!(rt;
-        ReasonCode::read(value(b"\x04\x03\x0a\x01\x01")?)?,
-        ReasonCode::KeyCompromise
-    );
-    assert_eq!(rt;
-        ReasonCode::read(value(b"\x04\x03\x0a\x01\x06")?)?,
-        ReasonCode::CertificateHold
-    );
-    assert_eq!(rt;
-        ReasonCode::read(value(b"\x04\x03\x0a\x01\x08")?)?,
-        ReasonCode::RemoveFromCrl
-    );
-    assert_eq!(rt;
-        ReasonCode::read(value(b"\x04\x03\x0a\x01\x0a")?)?,
-        ReasonCode::AaCompromise
-    );
-    let none = Some((DerFault::IntegerForm, 2));
-    assert_eq!(rt;
-        refusal(ReasonCode::read(value(b"\x04\x03\x0a\x01\x07")?)),
-        none
-    );
-    assert_eq!(rt;
-        refusal(ReasonCode::read(value(b"\x04\x03\x0a\x01\x0b")?)),
-        none
-    );
-    assert_eq!(rt;
-        refusal(ReasonCode::read(value(b"\x04\x03\x0a\x01\xff")?)),
-        none
-    );
-    assert_eq!(rt;
-        refusal(ReasonCode::read(value(b"\x04\x04\x0a\x02\x00\x01")?)),
-        none
-    );
-    assert_eq!(rt;
-        refusal(ReasonCode::read(value(b"\x04\x02\x0a\x00")?)),
-        none
-    );
-    assert_eq!(rt; ReasonCode::PrivilegeWithdrawn.number(), 9);
-    Ok(())
+fn numbers_of_lists(rt: HostRuntime) {
+    for (octets, own, other) in NUMBERS {
+        assert_eq!(rt;
+            (answer(number(octets)), answer(base_number(octets))),
+            (own, other)
+        );
+    }
 }
 
+fn count(octets: &[u8]) -> Result<u32, Fault> {
+    Ok(SkipCerts::read(value(octets)?)?.0)
+}
+
+const COUNTS: [(&[u8], Result<u32, Refusal>); 4] = [
+    (b"\x04\x03\x02\x01\x00", Ok(0)),
+    (b"\x04\x07\x02\x05\x00\xff\xff\xff\xff", Ok(4_294_967_295)),
+    (
+        b"\x04\x07\x02\x05\x01\x00\x00\x00\x00",
+        Err((DerFault::TooLarge, 2)),
+    ),
+    (b"\x04\x03\x02\x01\xff", Err((DerFault::IntegerForm, 2))),
+];
+
 #[test]
-fn dates_name_seconds(rt: HostRuntime) -> Result<(), Fail> {
-    let new_year = value(b"\x04\x11\x18\x0f20260101000000Z")?;
-    assert_eq!(rt; InvalidityDate::read(new_year)?.moment().0, 1_767_225_600);
-    let no_day = value(b"\x04\x11\x18\x0f20260230000000Z")?;
-    assert_eq!(rt;
-        refusal(InvalidityDate::read(no_day)),
-        Some((DerFault::TimeForm, 2))
-    );
-    let no_seconds = value(b"\x04\x0f\x18\x0d202601010000Z")?;
-    assert_eq!(rt;
-        refusal(InvalidityDate::read(no_seconds)),
-        Some((DerFault::TimeForm, 2))
-    );
-    Ok(())
+fn counts_have_32_bits(rt: HostRuntime) {
+    for (octets, wanted) in COUNTS {
+        assert_eq!(rt; answer(count(octets)), wanted);
+    }
+}
+
+fn reason(octets: &[u8]) -> Result<ReasonCode, Fault> {
+    ReasonCode::read(value(octets)?)
+}
+
+const REASONS: [(&[u8], Result<ReasonCode, Refusal>); 10] = [
+    (b"\x04\x03\x0a\x01\x00", Ok(ReasonCode::Unspecified)),
+    (b"\x04\x03\x0a\x01\x01", Ok(ReasonCode::KeyCompromise)),
+    (b"\x04\x03\x0a\x01\x06", Ok(ReasonCode::CertificateHold)),
+    (b"\x04\x03\x0a\x01\x08", Ok(ReasonCode::RemoveFromCrl)),
+    (b"\x04\x03\x0a\x01\x0a", Ok(ReasonCode::AaCompromise)),
+    // The number of no reason.
+    (b"\x04\x03\x0a\x01\x07", Err((DerFault::IntegerForm, 2))),
+    (b"\x04\x03\x0a\x01\x0b", Err((DerFault::IntegerForm, 2))),
+    (b"\x04\x03\x0a\x01\xff", Err((DerFault::IntegerForm, 2))),
+    // Two octets; none.
+    (b"\x04\x04\x0a\x02\x00\x01", Err((DerFault::IntegerForm, 2))),
+    (b"\x04\x02\x0a\x00", Err((DerFault::IntegerForm, 2))),
+];
+
+#[test]
+fn reasons_have_ten_numbers(rt: HostRuntime) {
+    for (octets, wanted) in REASONS {
+        assert_eq!(rt; answer(reason(octets)), wanted);
+    }
+}
+
+/// The seconds that a date names.
+fn seconds(octets: &[u8]) -> Result<i64, Fault> {
+    Ok(InvalidityDate::read(value(octets)?)?.moment().0)
+}
+
+const DATES: [(&[u8], Result<i64, Refusal>); 3] = [
+    (b"\x04\x11\x18\x0f20260101000000Z", Ok(1_767_225_600)),
+    // No such day; no seconds.
+    (
+        b"\x04\x11\x18\x0f20260230000000Z",
+        Err((DerFault::TimeForm, 2)),
+    ),
+    (
+        b"\x04\x0f\x18\x0d202601010000Z",
+        Err((DerFault::TimeForm, 2)),
+    ),
+];
+
+#[test]
+fn dates_name_seconds(rt: HostRuntime) {
+    for (octets, wanted) in DATES {
+        assert_eq!(rt; answer(seconds(octets)), wanted);
+    }
 }
