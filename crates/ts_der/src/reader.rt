@@ -65,6 +65,16 @@ impl<'a> Reader<'a> {
         }
     }
 
+    /// Another reader at the same place.
+    pub fn fork(&self) -> Reader<'a>
+        ensures { result ≡ self.now }
+    {
+        Reader {
+            rest: self.rest,
+            at: self.at,
+        }
+    }
+
     /// Whether no octet is left.
     #[tactic(auto, using(crate::proofs::Ends::is_end_is))]
     pub fn is_at_end(&self) -> bool

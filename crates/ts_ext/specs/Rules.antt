@@ -1,10 +1,10 @@
 -- The rules of the values of extensions beside those of DER, in the order in which they count.
-use Rattle.std.specs.Prelude.{ℕ, suc, nat_lt, Bool, true, not, ◌&&◌, List, [], ◌∷◌, Option, Some, None, if◌then◌else◌}
+use Rattle.std.specs.Prelude.{Bool, true, not, ◌&&◌, List, [], Option, Some, None, is_none, if◌then◌else◌}
 use Rattle.std.specs.List.{list_all}
-use Rattle.std.specs.Str.{bytes_eq}
 use Rattle.ts_name.specs.declared.fault.CertRule.{CertRule}
 use Rattle.ts_name.specs.declared.fault.CertRule.TheVariants.{SubtreeBounds, AddressLength, DuplicatePolicy}
 use Rattle.ts_name.specs.General.{has_address_length, has_range_length}
+use Rattle.ts_name.specs.Repeats.{first_repeated}
 use Rattle.ts_name.specs.Subtree.{GeneralSubtree, is_unbounded}
 use Rattle.ts_ext.specs.Policies.{Information}
 use Rattle.ts_ext.specs.Points.{PointName, fullName, Point}
@@ -45,14 +45,9 @@ has_address_lengths (freshestCRL points) = list_all has_addresses points
 has_address_lengths (authorityKeyIdentifier a) = all_of has_address_length a.authorityCertIssuer
 has_address_lengths other = true
 
--- how often a policy is stated
-abbrev pub times_stated : List ℕ → List Information → ℕ
-times_stated policy [] = 0
-times_stated policy (p ∷ policies) = if bytes_eq p.policyIdentifier policy then suc (times_stated policy policies) else times_stated policy policies
-
--- no policy is stated twice (4.2.1.4)
+-- a certificate policy OID MUST NOT appear more than once (4.2.1.4)
 abbrev pub are_distinct : List Information → Bool
-are_distinct policies = list_all (λ p. not (nat_lt 1 (times_stated p.policyIdentifier policies))) policies
+are_distinct policies = is_none (first_repeated (λ p. p.policyIdentifier) [] policies)
 
 abbrev pub states_policies_once : ExtValue → Bool
 states_policies_once (certificatePolicies policies) = are_distinct policies

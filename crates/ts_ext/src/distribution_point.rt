@@ -118,6 +118,7 @@ fn read_point<'a>(element: Element<'a>) -> Result<DistributionPoint<'a>, Fault>
 }
 
 impl<'a> FromElement<'a> for DistributionPoint<'a> {
+    ghost use Rattle.std.specs.Prelude.{[]};
     ghost use Rattle.ts_ext.specs.Points.{Point, point_item};
     ghost use Rattle.ts_ext.specs.NameViews.{point_in};
 
@@ -126,6 +127,8 @@ impl<'a> FromElement<'a> for DistributionPoint<'a> {
     ghost record_of = { point_in };
 
     ghost reading = { point_item };
+
+    ghost key_of = { λ _. [] };
 
     #[tactic(auto, unfolding(ts_name::specs::Items::of_tag))]
     fn read(element: Element<'a>) -> Result<DistributionPoint<'a>, Fault> {

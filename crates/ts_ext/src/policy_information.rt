@@ -13,7 +13,7 @@ ghost use Rattle.ts_ext.specs.View.{information_in};
 use crate::fields::{SEQUENCE, next_oid};
 use crate::policy_qualifier::PolicyQualifier;
 use ts_der::{Element, Fault, OidRef, Reader};
-use ts_name::{FromElement, SequenceOf, tagged_as};
+use ts_name::{FromElement, Keyed, SequenceOf, tagged_as};
 
 /// A policy of a certificate, as it lies in the source (RFC 5280 4.2.1.4).
 #[derive(Clone, Copy)]
@@ -34,9 +34,18 @@ impl<'a> FromElement<'a> for PolicyInformation<'a> {
 
     ghost reading = { policy_information_in };
 
+    ghost key_of = { λ p. p.policyIdentifier };
+
     #[tactic(auto, unfolding(ts_name::specs::Items::of_tag))]
     fn read(element: Element<'a>) -> Result<PolicyInformation<'a>, Fault> {
         read_policy_information(tagged_as(element, SEQUENCE)?)
+    }
+}
+
+impl<'a> Keyed<'a> for PolicyInformation<'a> {
+    /// The policy.
+    fn key(&self) -> &'a [u8] {
+        self.policy_identifier.content
     }
 }
 

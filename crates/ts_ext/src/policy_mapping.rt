@@ -19,6 +19,7 @@ pub struct PolicyMapping<'a> {
 }
 
 impl<'a> FromElement<'a> for PolicyMapping<'a> {
+    ghost use Rattle.std.specs.Prelude.{[]};
     ghost use Rattle.ts_ext.specs.Policies.{Mapping};
     ghost use Rattle.ts_ext.specs.Reading.{policy_mapping_in};
 
@@ -27,6 +28,8 @@ impl<'a> FromElement<'a> for PolicyMapping<'a> {
     ghost record_of = { mapping_in };
 
     ghost reading = { policy_mapping_in };
+
+    ghost key_of = { λ _. [] };
 
     #[tactic(auto, unfolding(ts_name::specs::Items::of_tag))]
     fn read(element: Element<'a>) -> Result<PolicyMapping<'a>, Fault> {

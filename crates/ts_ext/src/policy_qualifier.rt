@@ -19,6 +19,7 @@ pub struct PolicyQualifier<'a> {
 }
 
 impl<'a> FromElement<'a> for PolicyQualifier<'a> {
+    ghost use Rattle.std.specs.Prelude.{[]};
     ghost use Rattle.ts_ext.specs.Policies.{Qualifier};
     ghost use Rattle.ts_ext.specs.Reading.{policy_qualifier_in};
 
@@ -27,6 +28,8 @@ impl<'a> FromElement<'a> for PolicyQualifier<'a> {
     ghost record_of = { qualifier_in };
 
     ghost reading = { policy_qualifier_in };
+
+    ghost key_of = { λ _. [] };
 
     #[tactic(auto, unfolding(ts_name::specs::Items::of_tag))]
     fn read(element: Element<'a>) -> Result<PolicyQualifier<'a>, Fault> {

@@ -1,12 +1,12 @@
 //! The rules of the values of extensions beside those of DER.
 
-ghost use Rattle.std.specs.Prelude.{◌≡◌, option_map, nat_lt, Some, None, if◌then◌else◌};
+ghost use Rattle.std.specs.Prelude.{◌≡◌, option_map, Some, None, if◌then◌else◌};
 ghost use Rattle.std.specs.List.{list_all};
 ghost use Rattle.ts_name.specs.General.{has_address_length, has_range_length};
 ghost use Rattle.ts_name.specs.Subtree.{is_unbounded};
 ghost use Rattle.ts_ext.specs.ExtView.{ext_in};
 ghost use Rattle.ts_ext.specs.NameViews.{names_in, subtrees_in, point_name_in, point_in, points_in, name_constraints_in};
-ghost use Rattle.ts_ext.specs.Rules.{all_of, has_point_addresses, has_addresses, times_stated, are_distinct, broken_rule};
+ghost use Rattle.ts_ext.specs.Rules.{all_of, has_point_addresses, has_addresses, are_distinct, broken_rule};
 ghost use Rattle.ts_ext.specs.Ext.{nameConstraints};
 ghost use Rattle.ts_ext.specs.Reading.{policy_information_in};
 ghost use Rattle.ts_der.specs.Element.{inside};
@@ -20,7 +20,7 @@ use crate::ext::Ext;
 use crate::name_constraints::NameConstraints;
 use crate::policy_information::PolicyInformation;
 use ts_der::Element;
-use ts_name::{CertRule, GeneralNames, SequenceItems, SequenceOf, Subtree};
+use ts_name::{CertRule, GeneralNames, SequenceOf, Subtree, first_repeated};
 
 /// Whether each IP address among names has 4 octets or 16.
 fn have_address_length(names: GeneralNames<'_>) -> bool
@@ -99,32 +99,11 @@ fn bounds_of<'a>(subtrees: Option<SequenceOf<'a, Subtree<'a>>>) -> Bounds
     bounds
 }
 
-/// Whether a policy is stated more than once among those within an element.
-fn is_stated_twice(policies: Element<'_>, policy: &[u8]) -> bool
-    ensures { result ≡ nat_lt 1 (times_stated policy.now (items_at policy_information_in (inside (now policies.entry)))) }
-{
-    let mut is_stated = false;
-    for other in SequenceItems::<PolicyInformation>::within(policies) {
-        if other.policy_identifier.content == policy {
-            if is_stated {
-                return true;
-            }
-            is_stated = true;
-        }
-    }
-    false
-}
-
-/// Whether no policy is stated twice. Without memory each is compared with each.
+/// Whether no policy is stated twice.
 fn are_distinct_policies(policies: Element<'_>) -> bool
     ensures { result ≡ are_distinct (items_at policy_information_in (inside (now policies.entry))) }
 {
-    for policy in SequenceItems::<PolicyInformation>::within(policies) {
-        if is_stated_twice(policies, policy.policy_identifier.content) {
-            return false;
-        }
-    }
-    true
+    first_repeated::<PolicyInformation>(policies).is_none()
 }
 
 /// `AddressLength`, unless each address has its length.

@@ -18,3 +18,5 @@ pub mod ItemParts
 pub mod OptionalReads
 pub mod Generals
 pub mod Subtrees
+pub mod KeyTables
+pub mod FirstRepeats

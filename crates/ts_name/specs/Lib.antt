@@ -20,3 +20,4 @@ pub mod SubtreeTable
 pub mod SubtreeView
 pub mod Sameness
 pub mod Printed
+pub mod Repeats

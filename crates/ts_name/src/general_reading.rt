@@ -107,6 +107,7 @@ impl<'a> General<'a> {
 }
 
 impl<'a> FromElement<'a> for General<'a> {
+    ghost use Rattle.std.specs.Prelude.{[]};
     ghost use Rattle.ts_name.specs.General.{GeneralName, general_of};
     ghost use Rattle.ts_name.specs.GeneralView.{general_in};
 
@@ -115,6 +116,8 @@ impl<'a> FromElement<'a> for General<'a> {
     ghost record_of = { general_in };
 
     ghost reading = { general_of };
+
+    ghost key_of = { λ _. [] };
 
     fn read(element: Element<'a>) -> Result<General<'a>, Fault> {
         read_general(element)

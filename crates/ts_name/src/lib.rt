@@ -18,6 +18,9 @@ mod name_reading;
 #[cfg(test)]
 mod name_tests;
 mod rdn;
+mod repeats;
+#[cfg(test)]
+mod repeats_tests;
 mod sameness;
 mod sequence_of;
 #[cfg(test)]
@@ -38,5 +41,6 @@ pub use general_reading::GeneralNames;
 pub use name::Name;
 pub use name_items::{Attributes, Rdns};
 pub use rdn::Rdn;
+pub use repeats::{Keyed, first_repeated};
 pub use sequence_of::{FromElement, SequenceItems, SequenceOf, tagged_as};
 pub use subtree::Subtree;

@@ -13,7 +13,7 @@ use ts_der::{DerFault, Element, Fault, OidRef, Reader};
 
 /// What an element can be read as, by its tag and its content.
 pub trait FromElement<'a>: Sized + Drop {
-    ghost use Rattle.std.specs.Prelude.{Result};
+    ghost use Rattle.std.specs.Prelude.{ℕ, List, Result};
     ghost use Rattle.ts_der.specs.declared.fault.Fault.{Fault};
     ghost use Rattle.ts_der.specs.Answer.{Answers};
     ghost use Rattle.ts_der.specs.Element.{Tlv};
@@ -26,6 +26,9 @@ pub trait FromElement<'a>: Sized + Drop {
 
     /// What an element is read as.
     ghost reading: { Tlv → Result Record Fault };
+
+    /// The octets by which a value is known among others, none unless it is `Keyed`.
+    ghost key_of: { Record → List ℕ };
 
     /// The value that an element is, or the first rule that is broken.
     fn read(element: Element<'a>) -> Result<Self, Fault>
@@ -60,6 +63,8 @@ impl<'a> FromElement<'a> for OidRef<'a> {
 
     ghost reading = { of_tag 6 (value_at oid_rules (λ c. c)) };
 
+    ghost key_of = { λ c. c };
+
     #[tactic(auto, unfolding(crate::specs::Items::of_tag))]
     fn read(element: Element<'a>) -> Result<OidRef<'a>, Fault> {
         tagged_as(element, OBJECT_IDENTIFIER)?.oid()
@@ -89,6 +94,16 @@ impl<'a, T> SequenceItems<'a, T> {
     {
         SequenceItems {
             rest: element.reader(),
+            item: PhantomData,
+        }
+    }
+
+    /// The same items once more.
+    pub fn fork(&self) -> SequenceItems<'a, T>
+        ensures { result.rest ≡ self.now.rest }
+    {
+        SequenceItems {
+            rest: self.rest.fork(),
             item: PhantomData,
         }
     }

@@ -165,6 +165,7 @@ impl<'a> Subtree<'a> {
 }
 
 impl<'a> FromElement<'a> for Subtree<'a> {
+    ghost use Rattle.std.specs.Prelude.{[]};
     ghost use Rattle.ts_name.specs.Items.{of_tag};
     ghost use Rattle.ts_name.specs.Subtree.{GeneralSubtree, subtree_of};
     ghost use Rattle.ts_name.specs.SubtreeView.{subtree_in};
@@ -174,6 +175,8 @@ impl<'a> FromElement<'a> for Subtree<'a> {
     ghost record_of = { subtree_in };
 
     ghost reading = { of_tag 0x30 subtree_of };
+
+    ghost key_of = { λ _. [] };
 
     #[tactic(auto, unfolding(crate::specs::Items::of_tag))]
     fn read(element: Element<'a>) -> Result<Subtree<'a>, Fault> {

@@ -1,0 +1,21 @@
+-- What a list states twice: the first item, by its place, that is known by the key of an earlier one.
+use Rattle.std.specs.Prelude.{ℕ, Bool, List, [], ◌∷◌, Option, Some, None, if◌then◌else◌}
+use Rattle.std.specs.Borrow.{Bor}
+use Rattle.std.specs.Cmp.Lexicographic.{slice_cmp}
+use Rattle.std.specs.List.{list_any}
+use Rattle.std.specs.List.Sorted.{IsStrictlySortedBy}
+use Rattle.std.specs.Ordering.{nat_cmp}
+use Rattle.std.specs.Str.{bytes_eq}
+
+-- a key is among keys
+abbrev pub is_among : List ℕ → List (List ℕ) → Bool
+is_among k keys = list_any (bytes_eq k) keys
+
+-- the first item whose key is among the keys seen, or is that of an earlier item
+unfoldable pub first_repeated : {A : Type 0} → (A → List ℕ) → List (List ℕ) → List A → Option A
+first_repeated key seen [] = None
+first_repeated key seen (x ∷ xs) = if is_among (key x) seen then Some x else first_repeated key (key x ∷ seen) xs
+
+-- keys in ascending order
+abbrev pub AreAscending : List (Bor (List ℕ)) → Type 0
+AreAscending keys = IsStrictlySortedBy (λ a b. slice_cmp nat_cmp a.now b.now) keys
