@@ -98,6 +98,27 @@ fn an_extension_where_it_stands(rt: HostRuntime) -> Result<(), Fail> {
     Ok(())
 }
 
+/// The place of the first extension that repeats an earlier one.
+fn repeated(octets: &[u8]) -> Result<Option<usize>, Fault> {
+    Ok(extensions(octets)?.first_repeated().map(|x| x.at))
+}
+
+#[test]
+fn a_repeated_extension_is_found_where_it_stands(rt: HostRuntime) -> Result<(), Fail> {
+    for (octets, wanted) in [
+        (HOST, None),
+        (FIVE, None),
+        // 2.5.29.98, 2.5.29.99 and again 2.5.29.99 and 2.5.29.98.
+        (
+            b"\x30\x24\x30\x07\x06\x03\x55\x1d\x62\x04\x00\x30\x07\x06\x03\x55\x1d\x63\x04\x00\x30\x07\x06\x03\x55\x1d\x63\x04\x00\x30\x07\x06\x03\x55\x1d\x62\x04\x00",
+            Some(20),
+        ),
+    ] {
+        assert_eq!(rt; repeated(octets)?, wanted);
+    }
+    Ok(())
+}
+
 #[test]
 fn the_first_rule_that_values_break(rt: HostRuntime) -> Result<(), Fail> {
     for (holder, octets, wanted) in [

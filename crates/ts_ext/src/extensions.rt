@@ -1,10 +1,11 @@
 //! The extensions of a certificate, of a list or of an entry.
 
-ghost use Rattle.std.specs.Prelude.{◌≡◌, ℕ, List, IfOk, IsOkAnd, option_map};
+ghost use Rattle.std.specs.Prelude.{◌≡◌, ℕ, List, [], IfOk, IsOkAnd, option_map};
 ghost use Rattle.ts_der.specs.Answer.{Answers, refusal};
 ghost use Rattle.ts_der.specs.View.{now};
 ghost use Rattle.ts_name.specs.Fault.{about};
 ghost use Rattle.ts_name.specs.Items.{items_at, some_of};
+ghost use Rattle.ts_name.specs.Repeats.{first_repeated as first_repeated_of};
 ghost use Rattle.ts_ext.specs.Inner.{inner_fault};
 ghost use Rattle.ts_ext.specs.Extension.{Extension as Stated, AreExtensions, extensions, standing_in, extensions_of};
 ghost use Rattle.ts_ext.specs.ExtensionView.{standing_as, standings_in, extensions_in};
@@ -15,7 +16,7 @@ use crate::ext::Ext;
 use crate::extension::Extension;
 use crate::known::Holder;
 use ts_der::{Element, Fault};
-use ts_name::{CertFault, SequenceItems, SequenceOf};
+use ts_name::{CertFault, SequenceItems, SequenceOf, first_repeated};
 
 /// Extensions, one or more (RFC 5280 4.1, 4.2).
 #[derive(Clone, Copy)]
@@ -47,6 +48,14 @@ impl<'a> Extensions<'a> {
         ensures { items_at standing_in result.rest ≡ standings_in self.entry }
     {
         self.list.iter()
+    }
+
+    /// The first extension, by its place, that has the object identifier of an earlier one, where there is one
+    /// (RFC 5280 4.2).
+    pub fn first_repeated(self) -> Option<Extension<'a>>
+        ensures { option_map standing_as result ≡ first_repeated_of (λ x. x.extnID) [] (standings_in self.entry) }
+    {
+        first_repeated(self.list.element)
     }
 
     /// The first rule that the values break, each read as `Ext::read` does and then asked for `Ext::broken_rule`, one
