@@ -10,4 +10,5 @@ pub mod KeyAndConstraints
 pub mod Lists
 pub mod Policies
 pub mod Exts
+pub mod ExtensionParts
 pub mod OneSpelling

@@ -14,3 +14,6 @@ pub mod Known
 pub mod Ext
 pub mod ExtView
 pub mod Rules
+pub mod Extension
+pub mod ExtensionView
+pub mod ValueRules

@@ -4,12 +4,10 @@ ghost use Rattle.std.specs.Prelude.{◌≡◌};
 ghost use Rattle.ts_ext.specs.Known.{arc_of, certificate_extension, list_extension, entry_extension, known_at};
 ghost use Rattle.ts_ext.specs.Ext.{layout_of};
 
-use crate::fields::{INTEGER, SEQUENCE};
+use crate::fields::{INTEGER, OCTET_STRING, SEQUENCE};
 use ts_der::OidRef;
 
 const BIT_STRING: u8 = 0x03;
-
-const OCTET_STRING: u8 = 0x04;
 
 const ENUMERATED: u8 = 0x0A;
 

@@ -18,6 +18,10 @@ mod ext;
 #[cfg(test)]
 mod ext_tests;
 mod extended_key_usage;
+mod extension;
+#[cfg(test)]
+mod extension_tests;
+mod extensions;
 mod fields;
 mod invalidity_date;
 mod issuing_distribution_point;
@@ -53,6 +57,8 @@ pub use distribution_point::{DistributionPoint, PointName};
 pub use distribution_points::DistributionPoints;
 pub use ext::Ext;
 pub use extended_key_usage::ExtendedKeyUsage;
+pub use extension::Extension;
+pub use extensions::Extensions;
 pub use invalidity_date::InvalidityDate;
 pub use issuing_distribution_point::IssuingDistributionPoint;
 pub use key_usage::KeyUsage;

@@ -1,0 +1,160 @@
+-- Extensions, as they are read, spelled and refused.
+use Rattle.std.proofs.Common.{◌≡◌, ◌≢◌, ℕ, zero, suc, ◌+◌, ◌%◌, Bool, true, false, cond, List, [], ◌∷◌, ◌++◌, length, Option, Some, Result, Ok, Err, refl, sym, ap, subst, ◌∙◌, arith}
+use Rattle.std.specs.Prelude.{map}
+use Rattle.std.proofs.lemmas.List.{append-nil}
+use Rattle.ts_der.specs.declared.fault.Fault.{Fault}
+use Rattle.ts_der.specs.Octets.{AreOctets}
+use Rattle.ts_der.specs.Answer.{◌>>=◌, Answers}
+use Rattle.ts_der.specs.Default.{flag_at}
+use Rattle.ts_der.specs.Element.{Place, Tlv, inside}
+use Rattle.ts_der.specs.Reading.{begins_with, next_at, element_at, value_at, end_at, is_end, many, many_from, behind}
+use Rattle.ts_der.proofs.Laws.{bind_ok, ok_is, element-only}
+use Rattle.ts_name.specs.declared.fault.CertFault.{CertFault}
+use Rattle.ts_name.specs.Fault.{der}
+use Rattle.ts_name.specs.Fields.{Within, oid_at}
+use Rattle.ts_name.specs.Items.{each, tagged_as, of_tag, some_of}
+use Rattle.ts_name.specs.Names.{some_rules}
+use Rattle.ts_name.specs.Rows.{object_identifier}
+use Rattle.ts_name.specs.Shape.{optional, plain, nothing, ◌then◌, no_rules, primitive, judge}
+use Rattle.ts_name.proofs.FieldParts.{oid-part}
+use Rattle.ts_name.proofs.Judging.{Judged, no_more, under, ends, then-judged, element-judged, oid-reads, Whatever}
+use Rattle.ts_name.proofs.OptionalParts.{begins-if-any}
+use Rattle.ts_name.proofs.Parts.{took, element-took}
+use Rattle.ts_name.proofs.Shapes.{end-ok, end-again}
+use Rattle.ts_ext.specs.AuthorityKey.{AreOctetsOf}
+use Rattle.ts_ext.specs.Extension.{Extension, Standing, IsExtension, AreExtensions, extension_fields, extensions, said, standing_of, standing_in, extension_of, extensions_of}
+use Rattle.ts_ext.specs.ExtensionView.{standings_in, extensions_in}
+use Rattle.ts_ext.specs.Inner.{inner_fault}
+use Rattle.ts_ext.specs.Table.{flag, list_rules}
+use Rattle.ts_ext.specs.declared.extensions.Extensions.{Extensions}
+use Rattle.ts_ext.proofs.Flags.{flag-spelled, flag-again, flag-judged}
+use Rattle.ts_ext.proofs.Formats.{Format}
+use Rattle.ts_ext.proofs.Lists.{list-format}
+
+standing-found : (e : Tlv) (x : Standing) → AreOctets e.content → standing_of e ≡ Ok x → IsExtension e.content (said x)
+unfolding standing_of
+standing-found e x fits read =
+    let i = bind_ok (oid_at (inside e)) _ x read in
+    let c = bind_ok (flag_at 0x01 i.0.1) _ x i.2 in
+    let v = bind_ok (element_at 0x04 c.0.1) _ x c.2 in
+    let d = bind_ok (end_at v.0.1) _ x v.2 in
+    let stands : Standing = record { at = e.at; extnID = i.0.0; critical = c.0.0; value = v.0.0 } in
+    let same : stands ≡ x = ok_is {A = Standing} {E = Fault} stands x d.2 in
+    let first = took oid-part (inside e) i.0.0 i.0.1 fits i.1 in
+    let second = flag-spelled 0x01 i.0.1 c.0.0 c.0.1 first.3 c.1 in
+    let third = element-took 0x04 c.0.1 v.0.0 v.0.1 second.3 v.1 in
+    let last : c.0.1.rest ≡ v.0.0.whole = third.whole ∙ (ap (λ (o : List ℕ). v.0.0.whole ++ o) (end-ok v.0.1 d.0 d.1) ∙ append-nil v.0.0.whole) in
+    let behind_id : i.0.1.rest ≡ second.0 ++ v.0.0.whole = second.2 ∙ ap (λ (o : List ℕ). second.0 ++ o) last in
+    let value : Within 0x04 AreOctetsOf v.0.0.whole v.0.0.content = record { content = v.0.0.content; fits = third.fits; spelled = third.spelled; value = refl } in
+    subst (λ (y : Standing). IsExtension e.content (said y)) same
+    (record { id = first.0; flag = second.0; value = v.0.0.whole; extnID = first.1; critical = second.1; extnValue = value; fields = first.2 ∙ ap (λ (o : List ℕ). first.0 ++ o) behind_id })
+
+extension-found : (e : Tlv) (x : Extension) → AreOctets e.content → extension_of e ≡ Ok x → IsExtension e.content x
+extension-found e x fits read =
+    let s = bind_ok (standing_of e) (λ y. Ok (said y)) x read in
+    subst (λ (y : Extension). IsExtension e.content y) (ok_is {A = Extension} {E = Fault} (said s.0) x s.2) (standing-found e s.0 fits s.1)
+
+extension-again : (e : Tlv) (x : Extension) → IsExtension e.content x → extension_of e ≡ Ok x
+unfolding standing_of
+extension-again e x is =
+    let low : 1 % 32 ≢ 31 = λ h. omega arith in
+    let a = oid-part.again (inside e) x.extnID is.id (is.flag ++ is.value) is.extnID is.fields in
+    let p : Place = record { rest = is.flag ++ is.value; at = e.start + length is.id } in
+    let begins : begins_with 0x01 is.value ≡ false =
+    ap (begins_with 0x01) (sym (append-nil is.value)) ∙ begins-if-any 0x04 AreOctetsOf is.value (Some x.extnValue) is.extnValue 0x01 refl [] refl in
+    let b = flag-again 0x01 low (omega arith) p x.critical is.flag is.value is.critical begins refl in
+    let q : Place = record { rest = is.value; at = e.start + length is.id + length is.flag } in
+    let v = element-only q 0x04 is.extnValue.content [] is.extnValue.fits (is.extnValue.spelled ∙ sym (append-nil _)) in
+    rw (a, b, v, end-again _) (ap (λ (o : List ℕ). Ok (record { extnID = x.extnID; critical = x.critical; extnValue = o })) is.extnValue.value)
+
+standing-judged : (e : Tlv) → Judged (der (standing_of e)) (judge extension_fields (inside e)) (λ x. Unit {0})
+unfolding standing_of
+standing-judged e =
+    under (oid_at (inside e)) _ _ _
+    (then-judged object_identifier (optional (flag 0x01) then primitive 0x04 no_rules then nothing) (inside e) (λ here. der (oid_at here)) _ Whatever _ refl oid-reads (λ id p.
+    under (flag_at 0x01 (behind (inside e))) _ _ _
+    (flag-judged 0x01 (primitive 0x04 no_rules then nothing) (behind (inside e)) _ _ (λ critical after.
+    under (element_at 0x04 after) _ _ _
+    (element-judged 0x04 plain no_rules after (λ v. Ok v) (λ x v. der (end_at x.1 >>= λ done. Ok (record { at = e.at; extnID = id; critical = critical; value = v }))) (judge nothing (behind after)) (λ v. Unit {0}) (λ s. Unit {0})
+    (refl, tt) (λ v h t q. ends (behind after) (record { at = e.at; extnID = id; critical = critical; value = v }) (λ s. Unit {0}) (λ r. tt)))))))
+
+extension-judged : (e : Tlv) → Judged (der (extension_of e)) (inner_fault extension_fields no_rules e) (λ x. Unit {0})
+extension-judged e = no_more _ _ _ (kept (standing_of e) _ (standing-judged e))
+  where
+    kept : (r : Result Standing Fault) (o : Option CertFault) → Judged (der r) o (λ x. Unit {0}) → Judged (der (r >>= λ x. Ok (said x))) o (λ x. Unit {0})
+    kept (Ok x) o j = (j.0, tt)
+    kept (Err f) o j = j
+
+pub extensions-format : Format extensions_of AreExtensions extensions list_rules
+extensions-format = list-format 0x30 (record { found = extension-found; again = extension-again; judged = extension-judged })
+
+-- ---- what extensions say, wherever they stand
+
+tagged-says : (e : Tlv) → of_tag 0x30 extension_of e ≡ (standing_in e >>= λ x. Ok (said x))
+unfolding of_tag
+tagged-says e = by_tag (tagged_as 0x30 e)
+  where
+    by_tag : (r : Result Tlv Fault) → (r >>= extension_of) ≡ ((r >>= standing_of) >>= λ x. Ok (said x))
+    by_tag (Ok t) = refl
+    by_tag (Err f) = refl
+
+abbrev says : Standing × Place → Result (Extension × Place) Fault
+says x = Ok (said x.0, x.1)
+
+each-says : (here : Place) → each (of_tag 0x30 extension_of) here ≡ (each standing_in here >>= says)
+unfolding each
+each-says here = by_next (next_at here)
+  where
+    by_value : (after : Place) (r : Result Standing Fault) → ((r >>= λ x. Ok (said x)) >>= λ x. Ok (x, after)) ≡ ((r >>= λ x. Ok (x, after)) >>= says)
+    by_value after (Ok x) = refl
+    by_value after (Err f) = refl
+
+    by_next : (r : Result (Tlv × Place) Fault) → (r >>= λ e. of_tag 0x30 extension_of e.0 >>= λ x. Ok (x, e.1)) ≡ ((r >>= λ e. standing_in e.0 >>= λ x. Ok (x, e.1)) >>= says)
+    by_next (Ok e) = ap (λ (r : Result Extension Fault). r >>= λ x. Ok (x, e.1)) (tagged-says e.0) ∙ by_value e.1 (standing_in e.0)
+    by_next (Err f) = refl
+
+all-say : (n : ℕ) (here : Place) → many_from n (each (of_tag 0x30 extension_of)) here ≡ (many_from n (each standing_in) here >>= λ xs. Ok (map said xs))
+all-say zero here = refl
+all-say (suc n) here = by_end (λ after. all-say n after) (is_end here.rest)
+  where
+    others : Standing × Place → Result (List Standing) Fault
+    others x = many_from n (each standing_in) x.1 >>= λ ys. Ok (x.0 ∷ ys)
+
+    their : Extension × Place → Result (List Extension) Fault
+    their x = many_from n (each (of_tag 0x30 extension_of)) x.1 >>= λ ys. Ok (x.0 ∷ ys)
+
+    by_others : (x : Standing) (r : Result (List Standing) Fault) → ((r >>= λ ys. Ok (map said ys)) >>= λ ys. Ok (said x ∷ ys)) ≡ ((r >>= λ ys. Ok (x ∷ ys)) >>= λ ys. Ok (map said ys))
+    by_others x (Ok ys) = refl
+    by_others x (Err f) = refl
+
+    they : Type 0
+    they = (after : Place) → many_from n (each (of_tag 0x30 extension_of)) after ≡ (many_from n (each standing_in) after >>= λ xs. Ok (map said xs))
+
+    by_item : they → (r : Result (Standing × Place) Fault) → ((r >>= says) >>= their) ≡ ((r >>= others) >>= λ xs. Ok (map said xs))
+    by_item more (Ok x) = ap (λ (r : Result (List Extension) Fault). r >>= λ ys. Ok (said x.0 ∷ ys)) (more x.1) ∙ by_others x.0 (many_from n (each standing_in) x.1)
+    by_item more (Err f) = refl
+
+    by_end : they → (b : Bool) → cond b (Ok []) (each (of_tag 0x30 extension_of) here >>= their) ≡ (cond b (Ok []) (each standing_in here >>= others) >>= λ xs. Ok (map said xs))
+    by_end more true = refl
+    by_end more false = ap (λ (r : Result (Extension × Place) Fault). r >>= their) (each-says here) ∙ by_item more (each standing_in here)
+
+some-say : (e : Tlv) → extensions_of e ≡ (some_of standing_in e >>= λ xs. Ok (map said xs))
+unfolding some_of many
+some-say e =
+    ap (λ (r : Result (List Extension) Fault). r >>= λ xs. value_at some_rules (λ c. c) e >>= λ some. Ok xs) (all-say (length e.content) (inside e))
+    ∙ by_all (many_from (length e.content) (each standing_in) (inside e))
+  where
+    by_some : (xs : List Standing) (r : Result (List ℕ) Fault) → (r >>= λ some. Ok (map said xs)) ≡ ((r >>= λ some. Ok xs) >>= λ ys. Ok (map said ys))
+    by_some xs (Ok c) = refl
+    by_some xs (Err f) = refl
+
+    by_all : (r : Result (List Standing) Fault)
+        → ((r >>= λ xs. Ok (map said xs)) >>= λ xs. value_at some_rules (λ c. c) e >>= λ some. Ok xs)
+        ≡ ((r >>= λ xs. value_at some_rules (λ c. c) e >>= λ some. Ok xs) >>= λ xs. Ok (map said xs))
+    by_all (Ok xs) = by_some xs (value_at some_rules (λ c. c) e)
+    by_all (Err f) = refl
+
+-- a list that was read is seen as what its extensions say
+pub say : (e : Tlv) (r : Result Extensions Fault) → Answers standings_in r (some_of standing_in e) → Answers extensions_in r (extensions_of e)
+say e (Ok x) a = some-say e ∙ ap (λ (r : Result (List Standing) Fault). r >>= λ xs. Ok (map said xs)) a
+say e (Err f) a = some-say e ∙ ap (λ (r : Result (List Standing) Fault). r >>= λ xs. Ok (map said xs)) a

@@ -1,0 +1,77 @@
+-- Extensions of certificates, lists and entries of lists (RFC 5280 4.1, 4.2, 5.1, Appendix A.1).
+use Rattle.std.specs.Prelude.{◌≡◌, ℕ, Bool, List, ◌++◌, Result, Ok}
+use Rattle.ts_der.specs.declared.fault.Fault.{Fault}
+use Rattle.ts_der.specs.Answer.{◌>>=◌}
+use Rattle.ts_der.specs.Default.{flag_at}
+use Rattle.ts_der.specs.Element.{Tlv, inside}
+use Rattle.ts_der.specs.Reading.{element_at, end_at}
+use Rattle.ts_name.specs.Fields.{Within, IsOid, oid_at}
+use Rattle.ts_name.specs.Items.{of_tag, some_of, AreSome}
+use Rattle.ts_name.specs.Rows.{object_identifier}
+use Rattle.ts_name.specs.Shape.{Row, Shape, items, optional, nothing, ◌then◌, no_rules, primitive, sequence}
+use Rattle.ts_ext.specs.AuthorityKey.{AreOctetsOf}
+use Rattle.ts_ext.specs.Spelling.{IfTrue}
+use Rattle.ts_ext.specs.Table.{flag}
+
+-- what an extension says: the content of its object identifier, whether it is critical, the octets of its value
+pub record Extension : Type 0 where
+  pub extnID : List ℕ
+  pub critical : Bool
+  pub extnValue : List ℕ
+
+-- ---- spelling
+
+-- Extension ::= SEQUENCE { extnID OBJECT IDENTIFIER, critical BOOLEAN DEFAULT FALSE, extnValue OCTET STRING }
+pub record IsExtension (content : List ℕ) (x : Extension) : Type 0 where
+  pub id : List ℕ
+  pub flag : List ℕ
+  pub value : List ℕ
+  pub extnID : Within 0x06 IsOid id x.extnID
+  pub critical : IfTrue 0x01 flag x.critical
+  pub extnValue : Within 0x04 AreOctetsOf value x.extnValue
+  pub fields : content ≡ id ++ (flag ++ value)
+
+-- Extensions ::= SEQUENCE SIZE (1..MAX) OF Extension
+abbrev pub AreExtensions : List ℕ → List Extension → Type 0
+AreExtensions = AreSome (Within 0x30 IsExtension)
+
+-- ---- the table
+
+abbrev pub extension_fields : Shape
+extension_fields = object_identifier then optional (flag 0x01) then primitive 0x04 no_rules then nothing
+
+abbrev pub extension : Row
+extension = sequence extension_fields
+
+abbrev pub extensions : Shape
+extensions = items extension
+
+-- ---- reading
+
+-- an extension where it stands: the place of its SEQUENCE, and the element of its value
+pub record Standing : Type 0 where
+  pub at : ℕ
+  pub extnID : List ℕ
+  pub critical : Bool
+  pub value : Tlv
+
+-- what it says, wherever it stands
+abbrev pub said : Standing → Extension
+said x = record { extnID = x.extnID; critical = x.critical; extnValue = x.value.content }
+
+unfoldable pub standing_of : Tlv → Result Standing Fault
+standing_of e = do
+  id ← oid_at (inside e)
+  critical ← flag_at 0x01 id.1
+  value ← element_at 0x04 critical.1
+  done ← end_at value.1
+  Ok (record { at = e.at; extnID = id.0; critical = critical.0; value = value.0 })
+
+abbrev pub standing_in : Tlv → Result Standing Fault
+standing_in = of_tag 0x30 standing_of
+
+abbrev pub extension_of : Tlv → Result Extension Fault
+extension_of e = standing_of e >>= λ x. Ok (said x)
+
+abbrev pub extensions_of : Tlv → Result (List Extension) Fault
+extensions_of = some_of (of_tag 0x30 extension_of)

@@ -1,0 +1,31 @@
+-- The first rule that the values of extensions break, one extension after another (RFC 5280 4.2, 5.2, 5.3).
+use Rattle.std.specs.Prelude.{ℕ, List, [], ◌∷◌, Option, None, Result, Ok, Err, option_map}
+use Rattle.ts_der.specs.declared.fault.Fault.{Fault}
+use Rattle.ts_name.specs.declared.fault.CertFault.{CertFault}
+use Rattle.ts_name.specs.Fault.{breaks}
+use Rattle.ts_name.specs.Shape.{◌or_else◌}
+use Rattle.ts_ext.specs.declared.known.Holder.{Holder}
+use Rattle.ts_ext.specs.declared.known.Holder.TheVariants.{Certificate}
+use Rattle.ts_ext.specs.Ext.{ExtValue, ext_of, ext_fault}
+use Rattle.ts_ext.specs.Extension.{Standing}
+use Rattle.ts_ext.specs.Known.{known_at}
+use Rattle.ts_ext.specs.Rules.{broken_rule}
+
+-- the place of a rule that is not one of DER: the extension of a certificate, none elsewhere
+abbrev pub rule_place : Holder → ℕ → ℕ
+rule_place Certificate at = at
+rule_place other at = 0
+
+-- the rule beside those of DER that a value breaks, where it was read
+abbrev pub content_fault : ℕ → Result ExtValue Fault → Option CertFault
+content_fault at (Ok value) = option_map (breaks at) (broken_rule value)
+content_fault at (Err fault) = None
+
+-- the first rule that the value of one extension breaks: of DER, then the others
+abbrev pub value_fault : Holder → Standing → Option CertFault
+value_fault holder x = ext_fault (known_at holder x.extnID) x.value or_else content_fault (rule_place holder x.at) (ext_of (known_at holder x.extnID) x.value)
+
+-- the first that any of them breaks
+abbrev pub values_fault : Holder → List Standing → Option CertFault
+values_fault holder [] = None
+values_fault holder (x ∷ xs) = value_fault holder x or_else values_fault holder xs

@@ -1,0 +1,65 @@
+//! An extension, whatever its value says.
+
+ghost use Rattle.ts_der.specs.Answer.{Answers};
+ghost use Rattle.ts_der.specs.View.{now};
+ghost use Rattle.ts_ext.specs.Extension.{standing_of};
+ghost use Rattle.ts_ext.specs.ExtensionView.{standing_as};
+
+use crate::fields::{BOOLEAN, OCTET_STRING, SEQUENCE, next_oid};
+use ts_der::{Element, Fault, OidRef};
+use ts_name::{FromElement, Keyed, tagged_as};
+
+/// An extension of a certificate, of a list or of an entry, as it lies in the source (RFC 5280 4.1, 4.2).
+#[derive(Clone, Copy)]
+pub struct Extension<'a> {
+    /// The offset of its SEQUENCE.
+    pub at: usize,
+    /// What it is known by.
+    pub id: OidRef<'a>,
+    /// Whether who does not process it is to refuse what holds it.
+    pub critical: bool,
+    /// The OCTET STRING that holds its value.
+    pub value: Element<'a>,
+}
+
+impl<'a> FromElement<'a> for Extension<'a> {
+    ghost use Rattle.ts_ext.specs.Extension.{Standing, standing_in};
+
+    ghost Record = { Standing };
+
+    ghost record_of = { standing_as };
+
+    ghost reading = { standing_in };
+
+    ghost key_of = { λ x. x.extnID };
+
+    #[tactic(auto, unfolding(ts_name::specs::Items::of_tag))]
+    fn read(element: Element<'a>) -> Result<Extension<'a>, Fault> {
+        read_extension(tagged_as(element, SEQUENCE)?)
+    }
+}
+
+impl<'a> Keyed<'a> for Extension<'a> {
+    /// The object identifier.
+    fn key(&self) -> &'a [u8] {
+        self.id.content
+    }
+}
+
+/// The extension that a SEQUENCE is.
+#[tactic(auto, unfolding(crate::specs::Extension::standing_of))]
+fn read_extension<'a>(element: Element<'a>) -> Result<Extension<'a>, Fault>
+    ensures { Answers standing_as result (standing_of (now element.entry)) }
+{
+    let mut fields = element.reader();
+    let id = next_oid(&mut fields)?;
+    let critical = fields.flag(BOOLEAN)?;
+    let value = fields.element(OCTET_STRING)?;
+    fields.end()?;
+    Ok(Extension {
+        at: element.at,
+        id,
+        critical,
+        value,
+    })
+}

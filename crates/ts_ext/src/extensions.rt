@@ -1,0 +1,109 @@
+//! The extensions of a certificate, of a list or of an entry.
+
+ghost use Rattle.std.specs.Prelude.{◌≡◌, ℕ, List, [], IfOk, IsOkAnd, option_map};
+ghost use Rattle.ts_der.specs.Answer.{Answers, refusal};
+ghost use Rattle.ts_der.specs.View.{now};
+ghost use Rattle.ts_name.specs.Fault.{about};
+ghost use Rattle.ts_name.specs.Items.{items_at, some_of};
+ghost use Rattle.ts_name.specs.Repeats.{first_repeated as first_repeated_of};
+ghost use Rattle.ts_ext.specs.Inner.{inner_fault};
+ghost use Rattle.ts_ext.specs.Extension.{Extension as Stated, AreExtensions, extensions, standing_in, extensions_of};
+ghost use Rattle.ts_ext.specs.ExtensionView.{standing_as, standings_in, extensions_in};
+ghost use Rattle.ts_ext.specs.Table.{list_rules};
+ghost use Rattle.ts_ext.specs.ValueRules.{rule_place, value_fault, values_fault};
+
+use crate::ext::Ext;
+use crate::extension::Extension;
+use crate::known::Holder;
+use ts_der::{Element, Fault};
+use ts_name::{CertFault, SequenceItems, SequenceOf, first_repeated};
+
+/// Extensions, one or more (RFC 5280 4.1, 4.2).
+#[derive(Clone, Copy)]
+pub struct Extensions<'a> {
+    /// The extensions.
+    pub list: SequenceOf<'a, Extension<'a>>,
+}
+
+impl<'a> Extensions<'a> {
+    /// The list that a SEQUENCE's content is, whatever the values say.
+    ///
+    /// # Errors
+    ///
+    /// The first rule that is broken, with its place: of each extension in turn, its header (a SEQUENCE), its object
+    /// identifier (`OidForm`), of critical, where a BOOLEAN stands, its header, `BooleanForm` and, of FALSE, which is the
+    /// default, `DefaultEncoded`, the header of its value (an OCTET STRING), and `Trailing`; then `Empty` where there is
+    /// no extension.
+    pub fn read(element: Element<'a>) -> Result<Extensions<'a>, Fault>
+        ensures found { IfOk result (λ x. AreExtensions element.entry.content.now (extensions_in x)) }
+        ensures only { (xs : List Stated) → AreExtensions element.entry.content.now xs → IsOkAnd result (λ x. extensions_in x ≡ xs) }
+        ensures fault { option_map about (refusal result) ≡ inner_fault extensions list_rules (now element.entry) }
+        ensures exact { Answers extensions_in result (extensions_of (now element.entry)) }
+    {
+        read_extensions(element)
+    }
+
+    /// The extensions, in their order.
+    pub fn iter(self) -> SequenceItems<'a, Extension<'a>>
+        ensures { items_at standing_in result.rest ≡ standings_in self.entry }
+    {
+        self.list.iter()
+    }
+
+    /// The first extension, by its place, that has the object identifier of an earlier one, where there is one
+    /// (RFC 5280 4.2).
+    pub fn first_repeated(self) -> Option<Extension<'a>>
+        ensures { option_map standing_as result ≡ first_repeated_of (λ x. x.extnID) [] (standings_in self.entry) }
+    {
+        first_repeated(self.list.element)
+    }
+
+    /// The first rule that the values break, each read as `Ext::read` does and then asked for `Ext::broken_rule`, one
+    /// extension after another. The place of a rule beside those of DER is the extension in a certificate, and 0 in a
+    /// list.
+    pub fn broken_rule(self, holder: Holder) -> Option<CertFault>
+        ensures { result ≡ values_fault holder (standings_in self.entry) }
+    {
+        for extension in self.iter() {
+            if let Some(fault) = broken_value(holder, extension) {
+                return Some(fault);
+            }
+        }
+        None
+    }
+}
+
+fn read_extensions<'a>(element: Element<'a>) -> Result<Extensions<'a>, Fault>
+    ensures { Answers standings_in result (some_of standing_in (now element.entry)) }
+{
+    Ok(Extensions {
+        list: SequenceOf::read(element)?,
+    })
+}
+
+/// The place of a rule beside those of DER that the value of an extension at this place breaks.
+fn place_of(holder: Holder, at: usize) -> usize
+    ensures { result ≡ rule_place holder at }
+{
+    match holder {
+        Holder::Certificate => at,
+        Holder::List | Holder::Entry => 0,
+    }
+}
+
+/// The first rule that the value of an extension breaks.
+fn broken_value<'a>(holder: Holder, extension: Extension<'a>) -> Option<CertFault>
+    ensures { result ≡ value_fault holder (standing_as extension.entry) }
+{
+    let Extension { at, id, value, .. } = extension;
+    match Ext::read(holder, id, value) {
+        Ok(ext) => {
+            let kind = ext.broken_rule()?;
+            Some(CertFault {
+                kind,
+                at: place_of(holder, at),
+            })
+        }
+        Err(fault) => Some(fault.into()),
+    }
+}
