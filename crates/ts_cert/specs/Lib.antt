@@ -7,3 +7,4 @@ pub mod Time
 pub mod CertView
 pub mod Reading
 pub mod Table
+pub mod Printed

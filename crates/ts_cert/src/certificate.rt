@@ -1,9 +1,10 @@
 //! Certificates.
 
-ghost use Rattle.std.specs.Prelude.{◌≡◌, IfOk, IsOkAnd};
+ghost use Rattle.std.specs.Prelude.{◌≡◌, ◌↔◌, IfOk, IsOkAnd, IsTrue};
 ghost use Rattle.std.specs.Option.{option_copied};
 ghost use Rattle.ts_der.specs.Answer.{Answers, refusal};
 ghost use Rattle.ts_name.specs.NameView.{rdns_in};
+ghost use Rattle.ts_name.specs.Sameness.{canon_name};
 ghost use Rattle.ts_cert.specs.Certificate.{Certificate};
 ghost use Rattle.ts_cert.specs.Reading.{certificate_of};
 ghost use Rattle.ts_cert.specs.Spelling.{IsCertificate};
@@ -98,6 +99,18 @@ impl<'a> Cert<'a> {
         ensures { rdns_in result ≡ (cert_in self.entry).tbsCertificate.subject }
     {
         self.subject
+    }
+
+    /// Whether issuer and subject are one name (RFC 5280 6.1).
+    pub fn is_self_issued(self) -> bool
+        ensures { IsTrue result ↔ (canon_name (cert_in self.entry).tbsCertificate.issuer ≡ canon_name (cert_in self.entry).tbsCertificate.subject) }
+    {
+        let Cert {
+            issuer,
+            subject,
+            ..
+        } = self;
+        issuer.same(subject)
     }
 
     /// The subject's public key and its algorithm (RFC 5280 4.1.2.7).

@@ -7,6 +7,9 @@ mod certificate;
 mod fields;
 mod key;
 pub mod laws;
+mod owned;
+#[cfg(test)]
+mod owned_tests;
 mod shape;
 mod tbs;
 #[cfg(test)]
@@ -17,5 +20,6 @@ mod version;
 pub use algorithm::AlgorithmIdentifier;
 pub use certificate::{Cert, MAX_CERTIFICATE};
 pub use key::SubjectPublicKeyInfo;
+pub use owned::{OwnedCert, OwnedCertFault};
 pub use time::{Time, TimeForm, Validity};
 pub use version::Version;

@@ -11,4 +11,5 @@ pub mod Lists
 pub mod Policies
 pub mod Exts
 pub mod ExtensionParts
+pub mod Soundness
 pub mod OneSpelling

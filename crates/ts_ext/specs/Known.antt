@@ -65,3 +65,7 @@ extension_of Entry arc = entry_extension arc
 unfoldable pub known_at : Holder → List ℕ → Option Known
 known_at holder (joint ∷ ce ∷ arc ∷ []) = if joint == 0x55 && ce == 0x1D then extension_of holder arc else None
 known_at holder octets = None
+
+-- the content octets of its object identifier
+abbrev pub identifier_of : Known → List ℕ
+identifier_of known = 0x55 ∷ 0x1D ∷ arc_of known ∷ []

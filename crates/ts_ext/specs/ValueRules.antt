@@ -1,13 +1,13 @@
 -- The first rule that the values of extensions break, one extension after another (RFC 5280 4.2, 5.2, 5.3).
-use Rattle.std.specs.Prelude.{ℕ, List, [], ◌∷◌, Option, None, Result, Ok, Err, option_map}
+use Rattle.std.specs.Prelude.{◌≡◌, ℕ, List, [], ◌∷◌, Option, None, Result, Ok, Err, option_map}
 use Rattle.ts_der.specs.declared.fault.Fault.{Fault}
 use Rattle.ts_name.specs.declared.fault.CertFault.{CertFault}
 use Rattle.ts_name.specs.Fault.{breaks}
 use Rattle.ts_name.specs.Shape.{◌or_else◌}
 use Rattle.ts_ext.specs.declared.known.Holder.{Holder}
 use Rattle.ts_ext.specs.declared.known.Holder.TheVariants.{Certificate}
-use Rattle.ts_ext.specs.Ext.{ExtValue, ext_of, ext_fault}
-use Rattle.ts_ext.specs.Extension.{Standing}
+use Rattle.ts_ext.specs.Ext.{ExtValue, IsExt, ext_of, ext_fault}
+use Rattle.ts_ext.specs.Extension.{Extension, Standing}
 use Rattle.ts_ext.specs.Known.{known_at}
 use Rattle.ts_ext.specs.Rules.{broken_rule}
 
@@ -29,3 +29,13 @@ value_fault holder x = ext_fault (known_at holder x.extnID) x.value or_else cont
 abbrev pub values_fault : Holder → List Standing → Option CertFault
 values_fault holder [] = None
 values_fault holder (x ∷ xs) = value_fault holder x or_else values_fault holder xs
+
+-- ---- lists whose values break no rule
+
+-- the value of an extension is spelled as that extension asks, and breaks none of the other rules
+abbrev pub IsSound : Holder → Extension → Type 0
+IsSound holder x = (value : ExtValue) × IsExt (known_at holder x.extnID) x.extnValue value × (broken_rule value ≡ None)
+
+abbrev pub AreSound : Holder → List Extension → Type 0
+AreSound holder [] = Unit {0}
+AreSound holder (x ∷ xs) = IsSound holder x × AreSound holder xs

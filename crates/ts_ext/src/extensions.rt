@@ -1,6 +1,8 @@
 //! The extensions of a certificate, of a list or of an entry.
 
-ghost use Rattle.std.specs.Prelude.{◌≡◌, ℕ, List, [], IfOk, IsOkAnd, option_map};
+ghost use Rattle.std.specs.List.{find};
+ghost use Rattle.std.specs.Str.{bytes_eq};
+ghost use Rattle.std.specs.Prelude.{◌≡◌, ◌↔◌, ℕ, List, [], None, IfOk, IsOkAnd, option_map};
 ghost use Rattle.ts_der.specs.Answer.{Answers, refusal};
 ghost use Rattle.ts_der.specs.View.{now};
 ghost use Rattle.ts_name.specs.Fault.{about};
@@ -9,12 +11,13 @@ ghost use Rattle.ts_name.specs.Repeats.{first_repeated as first_repeated_of};
 ghost use Rattle.ts_ext.specs.Inner.{inner_fault};
 ghost use Rattle.ts_ext.specs.Extension.{Extension as Stated, AreExtensions, extensions, standing_in, extensions_of};
 ghost use Rattle.ts_ext.specs.ExtensionView.{standing_as, standings_in, extensions_in};
+ghost use Rattle.ts_ext.specs.Known.{identifier_of};
 ghost use Rattle.ts_ext.specs.Table.{list_rules};
-ghost use Rattle.ts_ext.specs.ValueRules.{rule_place, value_fault, values_fault};
+ghost use Rattle.ts_ext.specs.ValueRules.{rule_place, value_fault, values_fault, AreSound};
 
 use crate::ext::Ext;
 use crate::extension::Extension;
-use crate::known::Holder;
+use crate::known::{Holder, Known};
 use ts_der::{Element, Fault};
 use ts_name::{CertFault, SequenceItems, SequenceOf, first_repeated};
 
@@ -50,6 +53,19 @@ impl<'a> Extensions<'a> {
         self.list.iter()
     }
 
+    /// The first of the extensions that is known as this one, if there is one.
+    pub fn find(self, known: Known) -> Option<Extension<'a>>
+        ensures { option_map standing_as result ≡ find (λ x. bytes_eq x.extnID (identifier_of known)) (standings_in self.entry) }
+    {
+        let wanted = [0x55, 0x1D, known.arc()];
+        for extension in self.iter() {
+            if extension.id.content == wanted.as_slice() {
+                return Some(extension);
+            }
+        }
+        None
+    }
+
     /// The first extension, by its place, that has the object identifier of an earlier one, where there is one
     /// (RFC 5280 4.2).
     pub fn first_repeated(self) -> Option<Extension<'a>>
@@ -62,7 +78,9 @@ impl<'a> Extensions<'a> {
     /// extension after another. The place of a rule beside those of DER is the extension in a certificate, and 0 in a
     /// list.
     pub fn broken_rule(self, holder: Holder) -> Option<CertFault>
-        ensures { result ≡ values_fault holder (standings_in self.entry) }
+        ensures fault { result ≡ values_fault holder (standings_in self.entry) }
+        // None exactly where each value is one that its extension has and breaks no rule.
+        ensures sound { (result ≡ None) ↔ AreSound holder (extensions_in self.entry) }
     {
         for extension in self.iter() {
             if let Some(fault) = broken_value(holder, extension) {

@@ -1,0 +1,135 @@
+-- Extensions whose values break no rule.
+use Rattle.std.proofs.Common.{◌≡◌, ◌↔◌, ℕ, zero, suc, Bool, true, false, cond, List, [], ◌∷◌, ◌++◌, length, Option, Some, None, Result, Ok, Err, refl, sym, ap, subst, ◌∙◌}
+use Rattle.std.specs.Prelude.{map, option_map}
+use Rattle.ts_der.specs.declared.fault.Fault.{Fault}
+use Rattle.ts_der.specs.Octets.{AreOctets}
+use Rattle.ts_der.specs.Answer.{◌>>=◌}
+use Rattle.ts_der.specs.Default.{flag_at}
+use Rattle.ts_der.specs.Element.{Place, Tlv, inside}
+use Rattle.ts_der.specs.Reading.{next_at, element_at, end_at, is_end}
+use Rattle.ts_der.proofs.Elements.{next-found}
+use Rattle.ts_der.proofs.Laws.{bind_ok, ok_is}
+use Rattle.ts_der.proofs.OctetLists.{AreOctets-part, AreOctets-back}
+use Rattle.ts_name.specs.declared.fault.CertFault.{CertFault}
+use Rattle.ts_name.specs.declared.fault.CertRule.{CertRule}
+use Rattle.ts_name.specs.Fault.{about, der, breaks}
+use Rattle.ts_name.specs.Fields.{oid_at}
+use Rattle.ts_name.specs.Items.{each, tagged_as, of_tag, first_then, upto_from, items_at}
+use Rattle.ts_name.specs.Shape.{◌or_else◌}
+use Rattle.ts_name.proofs.FieldParts.{oid-part}
+use Rattle.ts_name.proofs.Judging.{Judged}
+use Rattle.ts_name.proofs.Parts.{took, element-took}
+use Rattle.ts_ext.specs.declared.known.Holder.{Holder}
+use Rattle.ts_ext.specs.declared.known.Known.{Known}
+use Rattle.ts_ext.specs.Ext.{ExtValue, IsExt, ext_of, ext_fault}
+use Rattle.ts_ext.specs.Extension.{Extension, Standing, said, standing_of, standing_in}
+use Rattle.ts_ext.specs.Known.{known_at}
+use Rattle.ts_ext.specs.Rules.{broken_rule}
+use Rattle.ts_ext.specs.ValueRules.{rule_place, content_fault, value_fault, values_fault, IsSound, AreSound}
+use Rattle.ts_ext.proofs.Exts.{ext-found, ext-again, ext-judged}
+use Rattle.ts_ext.proofs.Flags.{flag-spelled}
+
+-- ---- the octets of values
+
+-- the value of each is octets
+abbrev AllOctets : List Standing → Type 0
+AllOctets [] = Unit {0}
+AllOctets (x ∷ xs) = AreOctets x.value.content × AllOctets xs
+
+standing-octets : (e : Tlv) (x : Standing) → AreOctets e.content → standing_of e ≡ Ok x → AreOctets x.value.content
+unfolding standing_of
+standing-octets e x fits read =
+    let i = bind_ok (oid_at (inside e)) _ x read in
+    let c = bind_ok (flag_at 0x01 i.0.1) _ x i.2 in
+    let v = bind_ok (element_at 0x04 c.0.1) _ x c.2 in
+    let d = bind_ok (end_at v.0.1) _ x v.2 in
+    let stands : Standing = record { at = e.at; extnID = i.0.0; critical = c.0.0; value = v.0.0 } in
+    let first = took oid-part (inside e) i.0.0 i.0.1 fits i.1 in
+    let second = flag-spelled 0x01 i.0.1 c.0.0 c.0.1 first.3 c.1 in
+    let third = element-took 0x04 c.0.1 v.0.0 v.0.1 second.3 v.1 in
+    subst (λ (y : Standing). AreOctets y.value.content) (ok_is {A = Standing} {E = Fault} stands x d.2) third.inner
+
+tagged-octets : (e : Tlv) (x : Standing) → AreOctets e.content → standing_in e ≡ Ok x → AreOctets x.value.content
+unfolding of_tag tagged_as
+tagged-octets e x fits read =
+    let t = bind_ok (tagged_as 0x30 e) standing_of x read in
+    standing-octets t.0 x (subst (λ (y : Tlv). AreOctets y.content) (same t.0 t.1) fits) t.2
+  where
+    by_tag : (b : Bool) (y : Tlv) (f : Fault) → cond {A = Result Tlv Fault} b (Ok e) (Err f) ≡ Ok y → e ≡ y
+    by_tag true y f r = ok_is {E = Fault} e y r
+    by_tag false y f r = absurd cc
+
+    same : (y : Tlv) → tagged_as 0x30 e ≡ Ok y → e ≡ y
+    same y r = by_tag _ y _ r
+
+each-octets : (here : Place) (x : Standing) (after : Place) → AreOctets here.rest → each standing_in here ≡ Ok (x, after) → AreOctets x.value.content × AreOctets after.rest
+unfolding each
+each-octets here x after fits read =
+    let e = bind_ok (next_at here) (λ e. standing_in e.0 >>= λ y. Ok (y, e.1)) (x, after) read in
+    let v = bind_ok (standing_in e.0.0) (λ y. Ok (y, e.0.1)) (x, after) e.2 in
+    let s = next-found here e.0.0 e.0.1 fits e.1 in
+    let inner : AreOctets e.0.0.content = AreOctets-part e.0.0.tag e.0.0.content e.0.1.rest (subst AreOctets (s.whole ∙ ap (λ (w : List ℕ). w ++ e.0.1.rest) s.spelled) fits) in
+    let outer : AreOctets e.0.1.rest = AreOctets-back e.0.0.whole e.0.1.rest (subst AreOctets s.whole fits) in
+    subst (λ (p : Standing × Place). AreOctets p.0.value.content × AreOctets p.1.rest) (ok_is {A = Standing × Place} {E = Fault} (v.0, e.0.1) (x, after) v.2)
+    (tagged-octets e.0.0 v.0 inner v.1, outer)
+
+upto-octets : (n : ℕ) (here : Place) → AreOctets here.rest → AllOctets (upto_from n standing_in here)
+upto-octets zero here fits = tt
+upto-octets (suc n) here fits = by_end (λ after fits. upto-octets n after fits) (is_end here.rest)
+  where
+    by_item : ((after : Place) → AreOctets after.rest → AllOctets (upto_from n standing_in after)) → (r : Result (Standing × Place) Fault) → each standing_in here ≡ r → AllOctets (first_then r (upto_from n standing_in))
+    by_item more (Ok x) e = let o = each-octets here x.0 x.1 fits e in (o.0, more x.1 o.1)
+    by_item more (Err f) e = tt
+
+    by_end : ((after : Place) → AreOctets after.rest → AllOctets (upto_from n standing_in after)) → (b : Bool) → AllOctets (cond b [] (first_then (each standing_in here) (upto_from n standing_in)))
+    by_end more true = tt
+    by_end more false = by_item more (each standing_in here) refl
+
+all-octets : (here : Place) → AreOctets here.rest → AllOctets (items_at standing_in here)
+unfolding items_at
+all-octets here fits = upto-octets (length here.rest) here fits
+
+-- ---- one value
+
+neither : (a b : Option CertFault) → (a or_else b) ≡ None → (a ≡ None) × (b ≡ None)
+neither None b e = (refl, e)
+neither (Some f) b e = absurd cc
+
+none-broken : (at : ℕ) (o : Option CertRule) → option_map (breaks at) o ≡ None → o ≡ None
+none-broken at None e = refl
+none-broken at (Some k) e = absurd cc
+
+sound-if : (holder : Holder) (x : Standing) → AreOctets x.value.content → value_fault holder x ≡ None → IsSound holder (said x)
+sound-if holder x fits e = by_value (ext_of k x.value) refl (neither (ext_fault k x.value) _ e)
+  where
+    k : Option Known
+    k = known_at holder x.extnID
+
+    by_value : (r : Result ExtValue Fault) → ext_of k x.value ≡ r → (ext_fault k x.value ≡ None) × (content_fault (rule_place holder x.at) r ≡ None) → IsSound holder (said x)
+    by_value (Ok v) read n = (v, ext-found k x.value v fits read, none-broken (rule_place holder x.at) (broken_rule v) n.1)
+    by_value (Err f) read n =
+        let j = subst (λ (r : Result ExtValue Fault). Judged (der r) (ext_fault k x.value) (λ v. Unit {0})) read (ext-judged k x.value) in
+        absurd (some-none (about f) (sym j ∙ n.0))
+      where
+        some-none : (y : CertFault) → Some y ≡ None → ⊥
+        some-none y h = cc
+
+sound-then : (holder : Holder) (x : Standing) → IsSound holder (said x) → value_fault holder x ≡ None
+sound-then holder x is =
+    let k = known_at holder x.extnID in
+    let read = ext-again k x.value is.0 is.1 in
+    let j = subst (λ (r : Result ExtValue Fault). Judged (der r) (ext_fault k x.value) (λ v. Unit {0})) read (ext-judged k x.value) in
+    rw (j.0, read, is.2) refl
+
+-- ---- all of them
+
+are-sound : (holder : Holder) (xs : List Standing) → AllOctets xs → values_fault holder xs ≡ None → AreSound holder (map said xs)
+are-sound holder [] fits e = tt
+are-sound holder (x ∷ xs) fits e = let n = neither (value_fault holder x) (values_fault holder xs) e in (sound-if holder x fits.0 n.0, are-sound holder xs fits.1 n.1)
+
+no-fault : (holder : Holder) (xs : List Standing) → AreSound holder (map said xs) → values_fault holder xs ≡ None
+no-fault holder [] are = refl
+no-fault holder (x ∷ xs) are = ap (λ (o : Option CertFault). o or_else values_fault holder xs) (sound-then holder x are.0) ∙ no-fault holder xs are.1
+
+pub sound : (holder : Holder) (here : Place) → AreOctets here.rest → (values_fault holder (items_at standing_in here) ≡ None) ↔ AreSound holder (map said (items_at standing_in here))
+sound holder here fits = (are-sound holder (items_at standing_in here) (all-octets here fits), no-fault holder (items_at standing_in here))
