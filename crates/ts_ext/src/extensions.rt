@@ -82,12 +82,7 @@ impl<'a> Extensions<'a> {
         // None exactly where each value is one that its extension has and breaks no rule.
         ensures sound { (result ≡ None) ↔ AreSound holder (extensions_in self.entry) }
     {
-        for extension in self.iter() {
-            if let Some(fault) = broken_value(holder, extension) {
-                return Some(fault);
-            }
-        }
-        None
+        first_broken_value(self, holder)
     }
 }
 
@@ -97,6 +92,18 @@ fn read_extensions<'a>(element: Element<'a>) -> Result<Extensions<'a>, Fault>
     Ok(Extensions {
         list: SequenceOf::read(element)?,
     })
+}
+
+/// The first rule that the values of a list break.
+fn first_broken_value(extensions: Extensions<'_>, holder: Holder) -> Option<CertFault>
+    ensures { result ≡ values_fault holder (standings_in extensions.entry) }
+{
+    for extension in extensions.iter() {
+        if let Some(fault) = broken_value(holder, extension) {
+            return Some(fault);
+        }
+    }
+    None
 }
 
 /// The place of a rule beside those of DER that the value of an extension at this place breaks.
