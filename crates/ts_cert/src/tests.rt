@@ -102,6 +102,8 @@ const NEGATIVE: &[u8] =
 /// The algorithm identifier of all these, without parameters.
 const ALGORITHM: &[u8] = b"\x30\x06\x06\x04\x88\x37\x01\x01";
 
+const LARGEST: [u8; 65_536] = [0x30; 65_536];
+
 const TOO_LARGE: [u8; 65_537] = [0x30; 65_537];
 
 /// The octets of a certificate by themselves: its serial number, what is signed, the algorithm, the algorithm of its
@@ -124,20 +126,8 @@ fn parts<'a>(octets: &'a [u8]) -> Option<Parts<'a>> {
     ))
 }
 
-/// Whether the issuer of a certificate is its subject.
-fn is_own_issuer(octets: &[u8]) -> Option<bool> {
-    let cert = Cert::read(octets).ok()?;
-    Some(cert.issuer().same(cert.subject()))
-}
-
-/// Whether these are the parameters of a certificate's algorithm.
-fn has_parameters<'a>(octets: &'a [u8], wanted: Option<&'a [u8]>) -> Option<bool> {
-    let cert = Cert::read(octets).ok()?;
-    Some(cert.signature_algorithm().parameters == wanted)
-}
-
 #[test]
-fn reads_names_and_octets_where_they_lie(rt: HostRuntime) {
+fn reads_octets_where_they_lie(rt: HostRuntime) {
     assert!(rt;
         parts(L)
             == Some((
@@ -149,59 +139,68 @@ fn reads_names_and_octets_where_they_lie(rt: HostRuntime) {
                 &L[106..]
             ))
     );
-    let null = b"\x05\x00".as_slice();
-    let parameters = (
-        has_parameters(L, None),
-        has_parameters(WITH_PARAMETERS, Some(null)),
-    );
-    assert!(rt; (parameters, is_own_issuer(L)) == ((Some(true), Some(true)), Some(false)));
 }
 
-/// The version of a certificate, whether its serial number is negative, and from when to when it is valid.
-type Values = (Version, bool, (TimeForm, i64), (TimeForm, i64));
+/// The version of a certificate, whether its serial number is negative, and whether its issuer is its subject.
+type Values = (Version, bool, bool);
 
-fn values(octets: &[u8]) -> Option<Values> {
+/// The forms in which a certificate writes from when to when it is valid, and those moments.
+type Times = (TimeForm, i64, TimeForm, i64);
+
+/// What stands for parameters that are absent. It is no element.
+const ABSENT: &[u8] = b"absent";
+
+/// The values of a certificate, its times, and the parameters of its algorithm.
+fn values<'a>(octets: &'a [u8]) -> Option<(Values, Times, &'a [u8])> {
     let cert = Cert::read(octets).ok()?;
     let Validity {
-        not_before,
-        not_after,
+        not_before: from,
+        not_after: to,
     } = cert.validity();
     Some((
-        cert.version(),
-        cert.serial_number().is_negative(),
-        (not_before.form, not_before.moment.0),
-        (not_after.form, not_after.moment.0),
+        (
+            cert.version(),
+            cert.serial_number().is_negative(),
+            cert.issuer().same(cert.subject()),
+        ),
+        (from.form, from.moment.0, to.form, to.moment.0),
+        cert.signature_algorithm().parameters.unwrap_or(ABSENT),
     ))
 }
 
-/// 2026-01-01T00:00:00Z.
-const FROM: (TimeForm, i64) = (TimeForm::Utc, 1_767_225_600);
+/// 2026-01-01 and 2027-01-01, both at midnight.
+const A_YEAR: Times = (TimeForm::Utc, 1_767_225_600, TimeForm::Utc, 1_798_761_600);
 
-/// 2027-01-01T00:00:00Z.
-const TO: (TimeForm, i64) = (TimeForm::Utc, 1_798_761_600);
+/// The end of 2049 and the beginning of 2050.
+const TWO_FORMS: Times = (
+    TimeForm::Utc,
+    2_524_607_999,
+    TimeForm::General,
+    2_524_608_000,
+);
 
-/// Certificates and their values.
-const VALUES: [(&[u8], Values); 6] = [
-    (L, (Version::V3, false, FROM, TO)),
-    (VERSION_1, (Version::V1, false, FROM, TO)),
-    (VERSION_2, (Version::V2, false, FROM, TO)),
+/// Certificates, with their values, times and parameters.
+const VALUES: [(&[u8], Values, Times, &[u8]); 6] = [
+    (L, (Version::V3, false, false), A_YEAR, ABSENT),
+    (VERSION_1, (Version::V1, false, false), A_YEAR, ABSENT),
+    (VERSION_2, (Version::V2, false, false), A_YEAR, ABSENT),
+    (GENERAL, (Version::V3, false, false), TWO_FORMS, ABSENT),
     (
-        GENERAL,
-        (
-            Version::V3,
-            false,
-            (TimeForm::Utc, 2_524_607_999),
-            (TimeForm::General, 2_524_608_000),
-        ),
+        WITH_PARAMETERS,
+        (Version::V3, false, false),
+        A_YEAR,
+        b"\x05\x00",
     ),
-    (WITH_PARAMETERS, (Version::V3, false, FROM, TO)),
-    (NEGATIVE, (Version::V3, true, FROM, TO)),
+    (NEGATIVE, (Version::V3, true, false), A_YEAR, ABSENT),
 ];
 
 #[test]
-fn reads_versions_signs_and_times(rt: HostRuntime) {
-    for &(octets, wanted) in &VALUES {
-        assert!(rt; values(octets) == Some(wanted), "{octets:?}");
+fn reads_versions_signs_times_and_parameters(rt: HostRuntime) {
+    for &(octets, wanted, times, parameters) in &VALUES {
+        assert!(rt;
+            values(octets) == Some((wanted, times, parameters)),
+            "{octets:?}"
+        );
     }
 }
 
@@ -213,6 +212,8 @@ fn refusal(octets: &[u8]) -> Option<(CertRule, usize)> {
     }
 }
 
+const TRUNCATED: CertRule = CertRule::Der(DerFault::Truncated);
+
 const TRAILING: CertRule = CertRule::Der(DerFault::Trailing);
 
 const BITS_FORM: CertRule = CertRule::Der(DerFault::BitsForm);
@@ -220,7 +221,9 @@ const BITS_FORM: CertRule = CertRule::Der(DerFault::BitsForm);
 const INTEGER_FORM: CertRule = CertRule::Der(DerFault::IntegerForm);
 
 /// Octets of no certificate, with the first rule that they break and where.
-const REFUSALS: [(&[u8], CertRule, usize); 19] = [
+const REFUSALS: [(&[u8], CertRule, usize); 21] = [
+    (&TOO_LARGE, CertRule::Der(DerFault::TooLarge), 0),
+    (&LARGEST, TRUNCATED, 2),
     (L_AND_MORE, TRAILING, 138),
     (ENCODED_DEFAULT, CertRule::Der(DerFault::DefaultEncoded), 5),
     (VERSION_4, CertRule::Version, 7),
@@ -250,12 +253,8 @@ fn names_the_first_rule_that_is_broken(rt: HostRuntime) {
 }
 
 #[test]
-fn refuses_each_front_and_what_is_too_large(rt: HostRuntime) {
-    let truncated = CertRule::Der(DerFault::Truncated);
+fn refuses_each_front(rt: HostRuntime) {
     for length in 0..L.len() {
-        assert!(rt; refusal(&L[..length]) == Some((truncated, 0)), "{length}");
+        assert!(rt; refusal(&L[..length]) == Some((TRUNCATED, 0)), "{length}");
     }
-    let too_large = CertRule::Der(DerFault::TooLarge);
-    let refused = (refusal(&TOO_LARGE), refusal(&TOO_LARGE[1..]));
-    assert!(rt; (refusal(L), refused) == (None, (Some((too_large, 0)), Some((truncated, 2)))));
 }
