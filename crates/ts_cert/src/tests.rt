@@ -1,7 +1,6 @@
 //! Rows by hand. The octets were made by another tool, and the places counted.
 
 use super::*;
-use std::test::Fail;
 use ts_der::DerFault;
 use ts_name::{CertFault, CertRule};
 
@@ -103,151 +102,159 @@ const NEGATIVE: &[u8] =
 /// The algorithm identifier of all these, without parameters.
 const ALGORITHM: &[u8] = b"\x30\x06\x06\x04\x88\x37\x01\x01";
 
+const LARGEST: [u8; 65_536] = [0x30; 65_536];
+
 const TOO_LARGE: [u8; 65_537] = [0x30; 65_537];
 
-fn refusal(octets: &[u8]) -> Option<(CertRule, usize)> {
-    Cert::read(octets).err().map(|fault| (fault.kind, fault.at))
+/// The octets of a certificate by themselves: its serial number, what is signed, the algorithm, the algorithm of its
+/// key, its key and its signature.
+type Parts<'a> = (&'a [u8], &'a [u8], &'a [u8], &'a [u8], &'a [u8], &'a [u8]);
+
+fn parts<'a>(octets: &'a [u8]) -> Option<Parts<'a>> {
+    let cert = Cert::read(octets).ok()?;
+    let SubjectPublicKeyInfo {
+        algorithm,
+        subject_public_key,
+    } = cert.subject_public_key_info();
+    Some((
+        cert.serial_number().octets,
+        cert.tbs(),
+        cert.signature_algorithm().whole,
+        algorithm.algorithm,
+        subject_public_key,
+        cert.signature(),
+    ))
 }
 
 #[test]
-fn reads_the_fields(rt: HostRuntime) -> Result<(), CertFault> {
-    let cert = Cert::read(L)?;
-    assert_eq!(rt; cert.version(), Version::V3);
-    assert_eq!(rt; cert.serial_number().octets, b"\x02".as_slice());
-    assert_eq!(rt; cert.tbs(), &L[3..95]);
-    assert_eq!(rt; cert.signature_algorithm().whole, ALGORITHM);
-    assert_eq!(rt; cert.signature_algorithm().parameters, None);
-    assert_eq!(rt; cert.validity().not_before.form, TimeForm::Utc);
-    assert_eq!(rt; cert.validity().not_before.moment.0, 1_767_225_600);
-    assert_eq!(rt; cert.validity().not_after.moment.0, 1_798_761_600);
-    assert!(rt; !cert.issuer().same(cert.subject()));
-    assert_eq!(rt;
-        cert.subject_public_key_info().subject_public_key,
-        b"b".as_slice()
+fn reads_octets_where_they_lie(rt: HostRuntime) {
+    assert!(rt;
+        parts(L)
+            == Some((
+                b"\x02".as_slice(),
+                &L[3..95],
+                ALGORITHM,
+                &ALGORITHM[4..],
+                b"b".as_slice(),
+                &L[106..]
+            ))
     );
-    assert_eq!(rt;
-        cert.subject_public_key_info().algorithm.algorithm,
-        &ALGORITHM[4..]
-    );
-    assert_eq!(rt; cert.signature(), &L[106..]);
-    Ok(())
 }
 
-#[test]
-fn reads_versions_times_and_parameters(rt: HostRuntime) -> Result<(), CertFault> {
-    assert_eq!(rt; Cert::read(VERSION_1)?.version(), Version::V1);
-    assert_eq!(rt; Cert::read(VERSION_2)?.version(), Version::V2);
-    let validity = Cert::read(GENERAL)?.validity();
-    assert_eq!(rt; validity.not_before.moment.0, 2_524_607_999);
-    assert_eq!(rt; validity.not_after.form, TimeForm::General);
-    assert_eq!(rt; validity.not_after.moment.0, 2_524_608_000);
-    let null = b"\x05\x00".as_slice();
-    assert_eq!(rt;
-        Cert::read(WITH_PARAMETERS)?
-            .signature_algorithm()
-            .parameters,
-        Some(null)
-    );
-    assert!(rt; Cert::read(NEGATIVE)?.serial_number().is_negative());
-    Ok(())
+/// The version of a certificate, whether its serial number is negative, and whether its issuer is its subject.
+type Values = (Version, bool, bool);
+
+/// The forms in which a certificate writes from when to when it is valid, and those moments.
+type Times = (TimeForm, i64, TimeForm, i64);
+
+/// What stands for parameters that are absent. It is no element.
+const ABSENT: &[u8] = b"absent";
+
+/// The values of a certificate, its times, and the parameters of its algorithm.
+fn values<'a>(octets: &'a [u8]) -> Option<(Values, Times, &'a [u8])> {
+    let cert = Cert::read(octets).ok()?;
+    let Validity {
+        not_before: from,
+        not_after: to,
+    } = cert.validity();
+    Some((
+        (
+            cert.version(),
+            cert.serial_number().is_negative(),
+            cert.issuer().same(cert.subject()),
+        ),
+        (from.form, from.moment.0, to.form, to.moment.0),
+        cert.signature_algorithm().parameters.unwrap_or(ABSENT),
+    ))
 }
 
+/// 2026-01-01 and 2027-01-01, both at midnight.
+const A_YEAR: Times = (TimeForm::Utc, 1_767_225_600, TimeForm::Utc, 1_798_761_600);
+
+/// The end of 2049 and the beginning of 2050.
+const TWO_FORMS: Times = (
+    TimeForm::Utc,
+    2_524_607_999,
+    TimeForm::General,
+    2_524_608_000,
+);
+
+/// Certificates, with their values, times and parameters.
+const VALUES: [(&[u8], Values, Times, &[u8]); 6] = [
+    (L, (Version::V3, false, false), A_YEAR, ABSENT),
+    (VERSION_1, (Version::V1, false, false), A_YEAR, ABSENT),
+    (VERSION_2, (Version::V2, false, false), A_YEAR, ABSENT),
+    (GENERAL, (Version::V3, false, false), TWO_FORMS, ABSENT),
+    (
+        WITH_PARAMETERS,
+        (Version::V3, false, false),
+        A_YEAR,
+        b"\x05\x00",
+    ),
+    (NEGATIVE, (Version::V3, true, false), A_YEAR, ABSENT),
+];
+
 #[test]
-fn refuses_each_front(rt: HostRuntime) -> Result<(), Fail> {
-    for length in 0..L.len() {
-        assert_eq!(rt;
-            refusal(&L[..length]),
-            Some((CertRule::Der(DerFault::Truncated), 0))
+fn reads_versions_signs_times_and_parameters(rt: HostRuntime) {
+    for &(octets, wanted, times, parameters) in &VALUES {
+        assert!(rt;
+            values(octets) == Some((wanted, times, parameters)),
+            "{octets:?}"
         );
     }
-    assert_eq!(rt; refusal(L), None);
-    assert_eq!(rt;
-        refusal(L_AND_MORE),
-        Some((CertRule::Der(DerFault::Trailing), 138))
-    );
-    assert_eq!(rt;
-        refusal(&TOO_LARGE),
-        Some((CertRule::Der(DerFault::TooLarge), 0))
-    );
-    assert_eq!(rt;
-        refusal(&TOO_LARGE[1..]),
-        Some((CertRule::Der(DerFault::Truncated), 2))
-    );
-    Ok(())
+}
+
+/// The rule that a certificate breaks, and where.
+fn refusal(octets: &[u8]) -> Option<(CertRule, usize)> {
+    match Cert::read(octets) {
+        Ok(_) => None,
+        Err(CertFault { kind, at }) => Some((kind, at)),
+    }
+}
+
+const TRUNCATED: CertRule = CertRule::Der(DerFault::Truncated);
+
+const TRAILING: CertRule = CertRule::Der(DerFault::Trailing);
+
+const BITS_FORM: CertRule = CertRule::Der(DerFault::BitsForm);
+
+const INTEGER_FORM: CertRule = CertRule::Der(DerFault::IntegerForm);
+
+/// Octets of no certificate, with the first rule that they break and where.
+const REFUSALS: [(&[u8], CertRule, usize); 21] = [
+    (&TOO_LARGE, CertRule::Der(DerFault::TooLarge), 0),
+    (&LARGEST, TRUNCATED, 2),
+    (L_AND_MORE, TRAILING, 138),
+    (ENCODED_DEFAULT, CertRule::Der(DerFault::DefaultEncoded), 5),
+    (VERSION_4, CertRule::Version, 7),
+    (LONG_VERSION, CertRule::Version, 7),
+    (VERSION_FORM, INTEGER_FORM, 7),
+    (VERSION_BEFORE_TRAILING, CertRule::Version, 7),
+    (VERSION_TRAILING, TRAILING, 10),
+    (SERIAL_FORM, INTEGER_FORM, 10),
+    (PARAMETERS_OUTSIDE, CertRule::AlgorithmMismatch, 95),
+    (PARAMETERS_INSIDE, CertRule::AlgorithmMismatch, 97),
+    (TWO_PARAMETERS, TRAILING, 105),
+    (TRAILING_IN_TBS, TRAILING, 95),
+    (TRAILING_IN_CERTIFICATE, TRAILING, 138),
+    (UNUSED_BIT, BITS_FORM, 91),
+    (NO_SUCH_DAY, CertRule::Der(DerFault::TimeForm), 37),
+    (NO_TIME, CertRule::Der(DerFault::WrongTag), 52),
+    (THREE_TIMES, TRAILING, 67),
+    (EMPTY_RDN, CertRule::Der(DerFault::Empty), 22),
+    (NULL_BITS, BITS_FORM, 102),
+];
+
+#[test]
+fn names_the_first_rule_that_is_broken(rt: HostRuntime) {
+    for &(octets, kind, at) in &REFUSALS {
+        assert!(rt; refusal(octets) == Some((kind, at)), "{octets:?}");
+    }
 }
 
 #[test]
-fn names_the_first_rule_of_versions_and_algorithms(rt: HostRuntime) -> Result<(), Fail> {
-    assert_eq!(rt;
-        refusal(ENCODED_DEFAULT),
-        Some((CertRule::Der(DerFault::DefaultEncoded), 5))
-    );
-    assert_eq!(rt; refusal(VERSION_4), Some((CertRule::Version, 7)));
-    assert_eq!(rt; refusal(LONG_VERSION), Some((CertRule::Version, 7)));
-    assert_eq!(rt;
-        refusal(VERSION_FORM),
-        Some((CertRule::Der(DerFault::IntegerForm), 7))
-    );
-    assert_eq!(rt;
-        refusal(VERSION_BEFORE_TRAILING),
-        Some((CertRule::Version, 7))
-    );
-    assert_eq!(rt;
-        refusal(VERSION_TRAILING),
-        Some((CertRule::Der(DerFault::Trailing), 10))
-    );
-    assert_eq!(rt;
-        refusal(SERIAL_FORM),
-        Some((CertRule::Der(DerFault::IntegerForm), 10))
-    );
-    assert_eq!(rt;
-        refusal(PARAMETERS_OUTSIDE),
-        Some((CertRule::AlgorithmMismatch, 95))
-    );
-    assert_eq!(rt;
-        refusal(PARAMETERS_INSIDE),
-        Some((CertRule::AlgorithmMismatch, 97))
-    );
-    assert_eq!(rt;
-        refusal(TWO_PARAMETERS),
-        Some((CertRule::Der(DerFault::Trailing), 105))
-    );
-    Ok(())
-}
-
-#[test]
-fn names_the_first_rule_of_other_fields(rt: HostRuntime) -> Result<(), Fail> {
-    assert_eq!(rt;
-        refusal(TRAILING_IN_TBS),
-        Some((CertRule::Der(DerFault::Trailing), 95))
-    );
-    assert_eq!(rt;
-        refusal(TRAILING_IN_CERTIFICATE),
-        Some((CertRule::Der(DerFault::Trailing), 138))
-    );
-    assert_eq!(rt;
-        refusal(UNUSED_BIT),
-        Some((CertRule::Der(DerFault::BitsForm), 91))
-    );
-    assert_eq!(rt;
-        refusal(NO_SUCH_DAY),
-        Some((CertRule::Der(DerFault::TimeForm), 37))
-    );
-    assert_eq!(rt;
-        refusal(NO_TIME),
-        Some((CertRule::Der(DerFault::WrongTag), 52))
-    );
-    assert_eq!(rt;
-        refusal(THREE_TIMES),
-        Some((CertRule::Der(DerFault::Trailing), 67))
-    );
-    assert_eq!(rt;
-        refusal(EMPTY_RDN),
-        Some((CertRule::Der(DerFault::Empty), 22))
-    );
-    assert_eq!(rt;
-        refusal(NULL_BITS),
-        Some((CertRule::Der(DerFault::BitsForm), 102))
-    );
-    Ok(())
+fn refuses_each_front(rt: HostRuntime) {
+    for length in 0..L.len() {
+        assert!(rt; refusal(&L[..length]) == Some((TRUNCATED, 0)), "{length}");
+    }
 }

@@ -1,9 +1,9 @@
 //! Rows by hand: one certificate under one anchor. The octets were made by another tool.
 
 use super::*;
-use std::test::Fail;
+use std::alloc::Global;
 use ts_cert::Cert;
-use ts_der::{OidRef, Reader};
+use ts_der::Reader;
 use ts_name::CertFault;
 use ts_sig::DigestCheck;
 use ts_time::Moment;
@@ -49,7 +49,7 @@ const FIRST: i64 = 1_767_225_600;
 /// 2027-01-01, its last.
 const LAST: i64 = 1_798_761_600;
 
-/// The position and the number of the reason, none where the chain is valid.
+/// The position of the certificate and the number of the reason, none where the chain is valid.
 fn judge(anchor: &[u8], cert: &[u8], moment: i64) -> Result<Option<(u8, u8)>, CertFault> {
     let anchor = Anchor::of(&Cert::read(anchor)?);
     let inputs = Inputs {
@@ -63,62 +63,78 @@ fn judge(anchor: &[u8], cert: &[u8], moment: i64) -> Result<Option<(u8, u8)>, Ce
     )
 }
 
-#[test]
-fn judges_moments(rt: HostRuntime) -> Result<(), CertFault> {
-    assert_eq!(rt; judge(R, L, JUNE)?, None);
-    assert_eq!(rt; judge(R, L, FIRST)?, None);
-    assert_eq!(rt; judge(R, L, FIRST - 1)?, Some((1, 3)));
-    assert_eq!(rt; judge(R, L, LAST)?, None);
-    assert_eq!(rt; judge(R, L, LAST + 1)?, Some((1, 4)));
-    Ok(())
-}
+/// An anchor, a certificate and a moment, with the position and the number of the reason, none where the chain is
+/// valid.
+const CHAINS: [(&[u8], &[u8], i64, Option<(u8, u8)>); 12] = [
+    (R, L, JUNE, None),
+    (R, L, FIRST, None),
+    (R, L, FIRST - 1, Some((1, 3))),
+    (R, L, LAST, None),
+    (R, L, LAST + 1, Some((1, 4))),
+    (R, FORGED, JUNE, Some((1, 2))),
+    (R, SMALL, JUNE, None),
+    (R, STRANGE, JUNE, Some((1, 7))),
+    (R, FORGED_AND_STRANGE, LAST + 1, Some((1, 2))),
+    (R, STRANGE, LAST + 1, Some((1, 4))),
+    (R_NULL, L, JUNE, None),
+    (R_PARAMETERS, L, JUNE, Some((1, 2))),
+];
 
 #[test]
-fn judges_signatures_and_names(rt: HostRuntime) -> Result<(), CertFault> {
-    assert_eq!(rt; judge(R, FORGED, JUNE)?, Some((1, 2)));
-    assert_eq!(rt; judge(R, SMALL, JUNE)?, None);
-    assert_eq!(rt; judge(R, STRANGE, JUNE)?, Some((1, 7)));
-    assert_eq!(rt; judge(R, FORGED_AND_STRANGE, LAST + 1)?, Some((1, 2)));
-    assert_eq!(rt; judge(R, STRANGE, LAST + 1)?, Some((1, 4)));
-    Ok(())
-}
-
-#[test]
-fn judges_parameters_of_keys(rt: HostRuntime) -> Result<(), CertFault> {
-    assert_eq!(rt; judge(R_NULL, L, JUNE)?, None);
-    assert_eq!(rt; judge(R_PARAMETERS, L, JUNE)?, Some((1, 2)));
-    Ok(())
-}
-
-fn reasons<'a>(oid: OidRef<'a>) -> [(Reason<'a>, &'static str); 18] {
-    [
-        (Reason::AnchorPurpose, "AnchorPurpose"),
-        (Reason::Signature, "Signature"),
-        (Reason::TooEarly, "TooEarly"),
-        (Reason::Expired, "Expired"),
-        (Reason::Revoked(6), "Revoked 6"),
-        (Reason::Undetermined, "Undetermined"),
-        (Reason::IssuerName, "IssuerName"),
-        (Reason::UnsupportedConstraint, "UnsupportedConstraint"),
-        (Reason::NotPermitted, "NotPermitted"),
-        (Reason::Excluded, "Excluded"),
-        (Reason::PolicyRequired, "PolicyRequired"),
-        (Reason::MapsAny, "MapsAny"),
-        (Reason::NotCa, "NotCa"),
-        (Reason::PathLength, "PathLength"),
-        (Reason::KeyUsage, "KeyUsage"),
-        (Reason::CriticalExtension(oid), "CriticalExtension 1.2.3.4"),
-        (Reason::FinalPolicy, "FinalPolicy"),
-        (Reason::Purpose, "Purpose"),
-    ]
-}
-
-#[test]
-fn prints_reasons(rt: HostRuntime) -> Result<(), Fail> {
-    let oid = Reader::new(b"\x06\x03\x2a\x03\x04").element(0x06)?.oid()?;
-    for (reason, text) in reasons(oid) {
-        let printed = format!(in rt.alloc(); "{reason}")?;
-        assert_eq!(rt; printed.as_str(), text);
+fn judges_moments_signatures_names_and_parameters(rt: HostRuntime) {
+    for &(anchor, cert, moment, verdict) in &CHAINS {
+        assert!(rt;
+            judge(anchor, cert, moment) == Ok(verdict),
+            "{cert:?} at {moment}"
+        );
     }
-    Ok(())
+}
+
+/// Whether a reason is printed so.
+fn is_printed(alloc: Global, reason: Reason<'_>, text: &str) -> Option<bool> {
+    let printed = format!(in alloc; "{reason}").ok()?;
+    Some(printed.as_str() == text)
+}
+
+/// Whether the reason that names a critical extension is printed so.
+fn is_critical(alloc: Global, oid: &[u8], text: &str) -> Option<bool> {
+    let oid = Reader::new(oid).element(0x06).ok()?.oid().ok()?;
+    is_printed(alloc, Reason::CriticalExtension(oid), text)
+}
+
+/// The other reasons and their texts.
+const REASONS: [(Reason<'static>, &str); 17] = [
+    (Reason::AnchorPurpose, "AnchorPurpose"),
+    (Reason::Signature, "Signature"),
+    (Reason::TooEarly, "TooEarly"),
+    (Reason::Expired, "Expired"),
+    (Reason::Revoked(6), "Revoked 6"),
+    (Reason::Undetermined, "Undetermined"),
+    (Reason::IssuerName, "IssuerName"),
+    (Reason::UnsupportedConstraint, "UnsupportedConstraint"),
+    (Reason::NotPermitted, "NotPermitted"),
+    (Reason::Excluded, "Excluded"),
+    (Reason::PolicyRequired, "PolicyRequired"),
+    (Reason::MapsAny, "MapsAny"),
+    (Reason::NotCa, "NotCa"),
+    (Reason::PathLength, "PathLength"),
+    (Reason::KeyUsage, "KeyUsage"),
+    (Reason::FinalPolicy, "FinalPolicy"),
+    (Reason::Purpose, "Purpose"),
+];
+
+#[test]
+fn prints_reasons(rt: HostRuntime) {
+    for &(reason, text) in &REASONS {
+        assert!(rt;
+            is_printed(rt.alloc(), reason, text) == Some(true),
+            "{text}"
+        );
+    }
+    let critical = is_critical(
+        rt.alloc(),
+        b"\x06\x03\x2a\x03\x04",
+        "CriticalExtension 1.2.3.4",
+    );
+    assert!(rt; critical == Some(true));
 }
