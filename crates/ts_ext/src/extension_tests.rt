@@ -98,6 +98,11 @@ fn an_extension_where_it_stands(rt: HostRuntime) -> Result<(), Fail> {
     Ok(())
 }
 
+/// The place of the extension that is known so.
+fn found(octets: &[u8], known: Known) -> Result<Option<usize>, Fault> {
+    Ok(extensions(octets)?.find(known).map(|x| x.at))
+}
+
 /// The place of the first extension that repeats an earlier one.
 fn repeated(octets: &[u8]) -> Result<Option<usize>, Fault> {
     Ok(extensions(octets)?.first_repeated().map(|x| x.at))
@@ -149,4 +154,15 @@ fn the_first_rule_that_values_break(rt: HostRuntime) -> Result<(), Fail> {
         assert_eq!(rt; rule(holder, octets)?, wanted);
     }
     Ok(())
+}
+
+#[test]
+fn an_extension_is_found_by_its_name(rt: HostRuntime) {
+    for (octets, known, wanted) in [
+        (HOST, Known::SubjectAltName, Some(2)),
+        (HOST, Known::IssuerAltName, None),
+        (FIVE, Known::SubjectAltName, Some(11)),
+    ] {
+        assert!(rt; found(octets, known) == Ok(wanted));
+    }
 }
