@@ -1,34 +1,32 @@
 -- Extensions, as they are read, spelled and refused.
-use Rattle.std.proofs.Common.{◌≡◌, ◌≢◌, ℕ, zero, suc, ◌+◌, ◌%◌, Bool, true, false, cond, List, [], ◌∷◌, ◌++◌, length, Option, Some, Result, Ok, Err, refl, sym, ap, subst, ◌∙◌, arith}
-use Rattle.std.specs.Prelude.{map}
+use Rattle.std.proofs.Common.{◌≡◌, ◌≢◌, ℕ, ◌+◌, ◌%◌, false, List, [], ◌++◌, length, Option, Some, None, Result, Ok, Err, refl, sym, ap, subst, ◌∙◌, arith}
+use Rattle.std.specs.Prelude.{option_map}
 use Rattle.std.proofs.lemmas.List.{append-nil}
 use Rattle.ts_der.specs.declared.fault.Fault.{Fault}
 use Rattle.ts_der.specs.Octets.{AreOctets}
-use Rattle.ts_der.specs.Answer.{◌>>=◌, Answers}
+use Rattle.ts_der.specs.Answer.{◌>>=◌}
 use Rattle.ts_der.specs.Default.{flag_at}
 use Rattle.ts_der.specs.Element.{Place, Tlv, inside}
-use Rattle.ts_der.specs.Reading.{begins_with, next_at, element_at, value_at, end_at, is_end, many, many_from, behind}
+use Rattle.ts_der.specs.Reading.{begins_with, element_at, end_at, behind}
 use Rattle.ts_der.proofs.Laws.{bind_ok, ok_is, element-only}
 use Rattle.ts_name.specs.declared.fault.CertFault.{CertFault}
-use Rattle.ts_name.specs.Fault.{der}
+use Rattle.ts_name.specs.Fault.{der, breaks}
 use Rattle.ts_name.specs.Fields.{Within, oid_at}
-use Rattle.ts_name.specs.Items.{each, tagged_as, of_tag, some_of}
-use Rattle.ts_name.specs.Names.{some_rules}
+use Rattle.ts_name.specs.Items.{each, of_tag}
 use Rattle.ts_name.specs.Rows.{object_identifier}
-use Rattle.ts_name.specs.Shape.{optional, plain, nothing, ◌then◌, no_rules, primitive, judge}
+use Rattle.ts_name.specs.Shape.{optional, plain, tagged, no_other, nothing, ◌then◌, ◌or_else◌, no_rules, primitive, judge}
 use Rattle.ts_name.proofs.FieldParts.{oid-part}
 use Rattle.ts_name.proofs.Judging.{Judged, no_more, under, ends, then-judged, element-judged, oid-reads, Whatever}
 use Rattle.ts_name.proofs.OptionalParts.{begins-if-any}
-use Rattle.ts_name.proofs.Parts.{took, element-took}
+use Rattle.ts_name.proofs.ItemParts.{tag-part, tag-reads, some-judged, alone-found, alone-again, alone-judged}
+use Rattle.ts_name.proofs.Parts.{Part, took, element-took}
 use Rattle.ts_name.proofs.Shapes.{end-ok, end-again}
 use Rattle.ts_ext.specs.AuthorityKey.{AreOctetsOf}
-use Rattle.ts_ext.specs.Extension.{Extension, Standing, IsExtension, AreExtensions, extension_fields, extensions, said, standing_of, standing_in, extension_of, extensions_of}
-use Rattle.ts_ext.specs.ExtensionView.{standings_in, extensions_in}
+use Rattle.ts_ext.specs.Extension.{Extension, Standing, IsExtension, AreExtensions, AreExplicit, extension_fields, extension, extensions, explicit_extensions, said, standing_of, standing_in, extension_of, extensions_of, explicit_extensions_of, standings_of, explicit_standings_of}
 use Rattle.ts_ext.specs.Inner.{inner_fault}
 use Rattle.ts_ext.specs.Table.{flag, list_rules}
-use Rattle.ts_ext.specs.declared.extensions.Extensions.{Extensions}
 use Rattle.ts_ext.proofs.Flags.{flag-spelled, flag-again, flag-judged}
-use Rattle.ts_ext.proofs.Formats.{Format}
+use Rattle.ts_ext.proofs.Formats.{Format, value_of}
 use Rattle.ts_ext.proofs.Lists.{list-format}
 
 standing-found : (e : Tlv) (x : Standing) → AreOctets e.content → standing_of e ≡ Ok x → IsExtension e.content (said x)
@@ -85,76 +83,27 @@ extension-judged e = no_more _ _ _ (kept (standing_of e) _ (standing-judged e))
     kept (Ok x) o j = (j.0, tt)
     kept (Err f) o j = j
 
+-- ---- lists of extensions
+
+pub standings-judged : (e : Tlv) → Judged (der (standings_of e)) (judge extensions (inside e) or_else option_map (breaks e.at) (list_rules e.content)) (λ xs. Unit {0})
+standings-judged e = some-judged extension standing_in Whatever (tag-reads 0x30 extension_fields no_rules standing_of Whatever (λ x. no_more _ _ _ (standing-judged x))) e
+
+pub explicit_standings-judged : (e : Tlv) → Judged (der (explicit_standings_of e)) (judge explicit_extensions (inside e) or_else None) (λ xs. Unit {0})
+explicit_standings-judged e =
+    alone-judged (tagged 0x30 extensions list_rules no_other) (of_tag 0x30 standings_of) Whatever (λ octets. refl)
+    (tag-reads 0x30 extensions list_rules standings_of Whatever standings-judged) e
+
 pub extensions-format : Format extensions_of AreExtensions extensions list_rules
 extensions-format = list-format 0x30 (record { found = extension-found; again = extension-again; judged = extension-judged })
 
--- ---- what extensions say, wherever they stand
+extensions-part : Part (each (of_tag 0x30 extensions_of)) AreExplicit
+extensions-part = tag-part 0x30 extensions_of AreExtensions (value_of extensions-format 0x30)
 
-tagged-says : (e : Tlv) → of_tag 0x30 extension_of e ≡ (standing_in e >>= λ x. Ok (said x))
-unfolding of_tag
-tagged-says e = by_tag (tagged_as 0x30 e)
-  where
-    by_tag : (r : Result Tlv Fault) → (r >>= extension_of) ≡ ((r >>= standing_of) >>= λ x. Ok (said x))
-    by_tag (Ok t) = refl
-    by_tag (Err f) = refl
-
-abbrev says : Standing × Place → Result (Extension × Place) Fault
-says x = Ok (said x.0, x.1)
-
-each-says : (here : Place) → each (of_tag 0x30 extension_of) here ≡ (each standing_in here >>= says)
-unfolding each
-each-says here = by_next (next_at here)
-  where
-    by_value : (after : Place) (r : Result Standing Fault) → ((r >>= λ x. Ok (said x)) >>= λ x. Ok (x, after)) ≡ ((r >>= λ x. Ok (x, after)) >>= says)
-    by_value after (Ok x) = refl
-    by_value after (Err f) = refl
-
-    by_next : (r : Result (Tlv × Place) Fault) → (r >>= λ e. of_tag 0x30 extension_of e.0 >>= λ x. Ok (x, e.1)) ≡ ((r >>= λ e. standing_in e.0 >>= λ x. Ok (x, e.1)) >>= says)
-    by_next (Ok e) = ap (λ (r : Result Extension Fault). r >>= λ x. Ok (x, e.1)) (tagged-says e.0) ∙ by_value e.1 (standing_in e.0)
-    by_next (Err f) = refl
-
-all-say : (n : ℕ) (here : Place) → many_from n (each (of_tag 0x30 extension_of)) here ≡ (many_from n (each standing_in) here >>= λ xs. Ok (map said xs))
-all-say zero here = refl
-all-say (suc n) here = by_end (λ after. all-say n after) (is_end here.rest)
-  where
-    others : Standing × Place → Result (List Standing) Fault
-    others x = many_from n (each standing_in) x.1 >>= λ ys. Ok (x.0 ∷ ys)
-
-    their : Extension × Place → Result (List Extension) Fault
-    their x = many_from n (each (of_tag 0x30 extension_of)) x.1 >>= λ ys. Ok (x.0 ∷ ys)
-
-    by_others : (x : Standing) (r : Result (List Standing) Fault) → ((r >>= λ ys. Ok (map said ys)) >>= λ ys. Ok (said x ∷ ys)) ≡ ((r >>= λ ys. Ok (x ∷ ys)) >>= λ ys. Ok (map said ys))
-    by_others x (Ok ys) = refl
-    by_others x (Err f) = refl
-
-    they : Type 0
-    they = (after : Place) → many_from n (each (of_tag 0x30 extension_of)) after ≡ (many_from n (each standing_in) after >>= λ xs. Ok (map said xs))
-
-    by_item : they → (r : Result (Standing × Place) Fault) → ((r >>= says) >>= their) ≡ ((r >>= others) >>= λ xs. Ok (map said xs))
-    by_item more (Ok x) = ap (λ (r : Result (List Extension) Fault). r >>= λ ys. Ok (said x.0 ∷ ys)) (more x.1) ∙ by_others x.0 (many_from n (each standing_in) x.1)
-    by_item more (Err f) = refl
-
-    by_end : they → (b : Bool) → cond b (Ok []) (each (of_tag 0x30 extension_of) here >>= their) ≡ (cond b (Ok []) (each standing_in here >>= others) >>= λ xs. Ok (map said xs))
-    by_end more true = refl
-    by_end more false = ap (λ (r : Result (Extension × Place) Fault). r >>= their) (each-says here) ∙ by_item more (each standing_in here)
-
-some-say : (e : Tlv) → extensions_of e ≡ (some_of standing_in e >>= λ xs. Ok (map said xs))
-unfolding some_of many
-some-say e =
-    ap (λ (r : Result (List Extension) Fault). r >>= λ xs. value_at some_rules (λ c. c) e >>= λ some. Ok xs) (all-say (length e.content) (inside e))
-    ∙ by_all (many_from (length e.content) (each standing_in) (inside e))
-  where
-    by_some : (xs : List Standing) (r : Result (List ℕ) Fault) → (r >>= λ some. Ok (map said xs)) ≡ ((r >>= λ some. Ok xs) >>= λ ys. Ok (map said ys))
-    by_some xs (Ok c) = refl
-    by_some xs (Err f) = refl
-
-    by_all : (r : Result (List Standing) Fault)
-        → ((r >>= λ xs. Ok (map said xs)) >>= λ xs. value_at some_rules (λ c. c) e >>= λ some. Ok xs)
-        ≡ ((r >>= λ xs. value_at some_rules (λ c. c) e >>= λ some. Ok xs) >>= λ xs. Ok (map said xs))
-    by_all (Ok xs) = by_some xs (value_at some_rules (λ c. c) e)
-    by_all (Err f) = refl
-
--- a list that was read is seen as what its extensions say
-pub say : (e : Tlv) (r : Result Extensions Fault) → Answers standings_in r (some_of standing_in e) → Answers extensions_in r (extensions_of e)
-say e (Ok x) a = some-say e ∙ ap (λ (r : Result (List Standing) Fault). r >>= λ xs. Ok (map said xs)) a
-say e (Err f) a = some-say e ∙ ap (λ (r : Result (List Standing) Fault). r >>= λ xs. Ok (map said xs)) a
+pub explicit_extensions-format : Format explicit_extensions_of AreExplicit explicit_extensions no_rules
+explicit_extensions-format =
+    record {
+      found = alone-found (of_tag 0x30 extensions_of) AreExplicit extensions-part;
+      again = alone-again (of_tag 0x30 extensions_of) AreExplicit extensions-part;
+      judged = alone-judged (tagged 0x30 extensions list_rules no_other) (of_tag 0x30 extensions_of) Whatever (λ octets. refl)
+        (tag-reads 0x30 extensions list_rules extensions_of Whatever extensions-format.judged);
+    }

@@ -11,5 +11,6 @@ pub mod Lists
 pub mod Policies
 pub mod Exts
 pub mod ExtensionParts
+pub mod Said
 pub mod Soundness
 pub mod OneSpelling

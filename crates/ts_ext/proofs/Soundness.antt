@@ -3,7 +3,7 @@ use Rattle.std.proofs.Common.{◌≡◌, ◌↔◌, ℕ, zero, suc, Bool, true, 
 use Rattle.std.specs.Prelude.{map, option_map}
 use Rattle.ts_der.specs.declared.fault.Fault.{Fault}
 use Rattle.ts_der.specs.Octets.{AreOctets}
-use Rattle.ts_der.specs.Answer.{◌>>=◌}
+use Rattle.ts_der.specs.Answer.{◌>>=◌, refusal}
 use Rattle.ts_der.specs.Default.{flag_at}
 use Rattle.ts_der.specs.Element.{Place, Tlv, inside}
 use Rattle.ts_der.specs.Reading.{next_at, element_at, end_at, is_end}
@@ -14,15 +14,16 @@ use Rattle.ts_name.specs.declared.fault.CertFault.{CertFault}
 use Rattle.ts_name.specs.declared.fault.CertRule.{CertRule}
 use Rattle.ts_name.specs.Fault.{about, der, breaks}
 use Rattle.ts_name.specs.Fields.{oid_at}
-use Rattle.ts_name.specs.Items.{each, tagged_as, of_tag, first_then, upto_from, items_at}
+use Rattle.ts_name.specs.Items.{each, alone, tagged_as, of_tag, first_then, upto_from, items_at}
 use Rattle.ts_name.specs.Shape.{◌or_else◌}
 use Rattle.ts_name.proofs.FieldParts.{oid-part}
+use Rattle.ts_name.proofs.ItemParts.{some-walked}
 use Rattle.ts_name.proofs.Judging.{Judged}
 use Rattle.ts_name.proofs.Parts.{took, element-took}
 use Rattle.ts_ext.specs.declared.known.Holder.{Holder}
 use Rattle.ts_ext.specs.declared.known.Known.{Known}
-use Rattle.ts_ext.specs.Ext.{ExtValue, IsExt, ext_of, ext_fault}
-use Rattle.ts_ext.specs.Extension.{Extension, Standing, said, standing_of, standing_in}
+use Rattle.ts_ext.specs.Ext.{ExtValue, ext_of, ext_fault}
+use Rattle.ts_ext.specs.Extension.{Standing, said, standing_of, standing_in, standings_of, explicit_standings_of}
 use Rattle.ts_ext.specs.Known.{known_at}
 use Rattle.ts_ext.specs.Rules.{broken_rule}
 use Rattle.ts_ext.specs.ValueRules.{rule_place, content_fault, value_fault, values_fault, IsSound, AreSound}
@@ -32,7 +33,7 @@ use Rattle.ts_ext.proofs.Flags.{flag-spelled}
 -- ---- the octets of values
 
 -- the value of each is octets
-abbrev AllOctets : List Standing → Type 0
+abbrev pub AllOctets : List Standing → Type 0
 AllOctets [] = Unit {0}
 AllOctets (x ∷ xs) = AreOctets x.value.content × AllOctets xs
 
@@ -49,18 +50,19 @@ standing-octets e x fits read =
     let third = element-took 0x04 c.0.1 v.0.0 v.0.1 second.3 v.1 in
     subst (λ (y : Standing). AreOctets y.value.content) (ok_is {A = Standing} {E = Fault} stands x d.2) third.inner
 
-tagged-octets : (e : Tlv) (x : Standing) → AreOctets e.content → standing_in e ≡ Ok x → AreOctets x.value.content
-unfolding of_tag tagged_as
-tagged-octets e x fits read =
-    let t = bind_ok (tagged_as 0x30 e) standing_of x read in
-    standing-octets t.0 x (subst (λ (y : Tlv). AreOctets y.content) (same t.0 t.1) fits) t.2
+tagged-is : (tag : ℕ) (e y : Tlv) → tagged_as tag e ≡ Ok y → e ≡ y
+unfolding tagged_as
+tagged-is tag e y r = by_tag _ y _ r
   where
     by_tag : (b : Bool) (y : Tlv) (f : Fault) → cond {A = Result Tlv Fault} b (Ok e) (Err f) ≡ Ok y → e ≡ y
     by_tag true y f r = ok_is {E = Fault} e y r
     by_tag false y f r = absurd cc
 
-    same : (y : Tlv) → tagged_as 0x30 e ≡ Ok y → e ≡ y
-    same y r = by_tag _ y _ r
+tagged-octets : (e : Tlv) (x : Standing) → AreOctets e.content → standing_in e ≡ Ok x → AreOctets x.value.content
+unfolding of_tag
+tagged-octets e x fits read =
+    let t = bind_ok (tagged_as 0x30 e) standing_of x read in
+    standing-octets t.0 x (subst (λ (y : Tlv). AreOctets y.content) (tagged-is 0x30 e t.0 t.1) fits) t.2
 
 each-octets : (here : Place) (x : Standing) (after : Place) → AreOctets here.rest → each standing_in here ≡ Ok (x, after) → AreOctets x.value.content × AreOctets after.rest
 unfolding each
@@ -123,13 +125,36 @@ sound-then holder x is =
 
 -- ---- all of them
 
-are-sound : (holder : Holder) (xs : List Standing) → AllOctets xs → values_fault holder xs ≡ None → AreSound holder (map said xs)
+pub are-sound : (holder : Holder) (xs : List Standing) → AllOctets xs → values_fault holder xs ≡ None → AreSound holder (map said xs)
 are-sound holder [] fits e = tt
 are-sound holder (x ∷ xs) fits e = let n = neither (value_fault holder x) (values_fault holder xs) e in (sound-if holder x fits.0 n.0, are-sound holder xs fits.1 n.1)
 
-no-fault : (holder : Holder) (xs : List Standing) → AreSound holder (map said xs) → values_fault holder xs ≡ None
+pub no-fault : (holder : Holder) (xs : List Standing) → AreSound holder (map said xs) → values_fault holder xs ≡ None
 no-fault holder [] are = refl
 no-fault holder (x ∷ xs) are = ap (λ (o : Option CertFault). o or_else values_fault holder xs) (sound-then holder x are.0) ∙ no-fault holder xs are.1
 
 pub sound : (holder : Holder) (here : Place) → AreOctets here.rest → (values_fault holder (items_at standing_in here) ≡ None) ↔ AreSound holder (map said (items_at standing_in here))
 sound holder here fits = (are-sound holder (items_at standing_in here) (all-octets here fits), no-fault holder (items_at standing_in here))
+
+-- ---- lists that were read
+
+some-octets : (e : Tlv) (xs : List Standing) → AreOctets e.content → standings_of e ≡ Ok xs → AllOctets xs
+some-octets e xs fits read = subst AllOctets (ok_is {A = List Standing} {E = Fault} (items_at standing_in (inside e)) xs (sym (some-walked standing_in e (ap (λ r. refusal r) (sym read))) ∙ read)) (all-octets (inside e) fits)
+
+-- the content of what stands next is octets
+element-octets : {A : Type 0} (tag : ℕ) (value : Tlv → Result A Fault) (P : A → Type 0) → ((e : Tlv) (x : A) → AreOctets e.content → value e ≡ Ok x → P x)
+    → (e : Tlv) (x : A) → AreOctets e.content → alone (of_tag tag value) e ≡ Ok x → P x
+unfolding alone each of_tag
+element-octets {A} tag value P all e x fits read =
+    let a = bind_ok (each (of_tag tag value) (inside e)) _ x read in
+    let d = bind_ok (end_at a.0.1) _ x a.2 in
+    let n = bind_ok (next_at (inside e)) (λ y. of_tag tag value y.0 >>= λ v. Ok (v, y.1)) a.0 a.1 in
+    let v = bind_ok (of_tag tag value n.0.0) (λ v. Ok (v, n.0.1)) a.0 n.2 in
+    let t = bind_ok (tagged_as tag n.0.0) value v.0 v.1 in
+    let s = next-found (inside e) n.0.0 n.0.1 fits n.1 in
+    let inner : AreOctets n.0.0.content = AreOctets-part n.0.0.tag n.0.0.content n.0.1.rest (subst AreOctets (s.whole ∙ ap (λ (w : List ℕ). w ++ n.0.1.rest) s.spelled) fits) in
+    let same : v.0 ≡ x = ap (λ (p : A × Place). p.0) (ok_is {A = A × Place} {E = Fault} (v.0, n.0.1) a.0 v.2) ∙ ok_is {A = A} {E = Fault} a.0.0 x d.2 in
+    subst P same (all t.0 v.0 (subst (λ (y : Tlv). AreOctets y.content) (tagged-is tag n.0.0 t.0 t.1) inner) t.2)
+
+pub explicit-octets : (e : Tlv) (xs : List Standing) → AreOctets e.content → explicit_standings_of e ≡ Ok xs → AllOctets xs
+explicit-octets = element-octets 0x30 standings_of AllOctets some-octets

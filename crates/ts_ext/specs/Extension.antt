@@ -6,12 +6,12 @@ use Rattle.ts_der.specs.Default.{flag_at}
 use Rattle.ts_der.specs.Element.{Tlv, inside}
 use Rattle.ts_der.specs.Reading.{element_at, end_at}
 use Rattle.ts_name.specs.Fields.{Within, IsOid, oid_at}
-use Rattle.ts_name.specs.Items.{of_tag, some_of, AreSome}
+use Rattle.ts_name.specs.Items.{alone, of_tag, some_of, AreSome}
 use Rattle.ts_name.specs.Rows.{object_identifier}
-use Rattle.ts_name.specs.Shape.{Row, Shape, items, optional, nothing, ◌then◌, no_rules, primitive, sequence}
+use Rattle.ts_name.specs.Shape.{Row, Shape, items, optional, tagged, no_other, nothing, ◌then◌, no_rules, primitive, sequence}
 use Rattle.ts_ext.specs.AuthorityKey.{AreOctetsOf}
 use Rattle.ts_ext.specs.Spelling.{IfTrue}
-use Rattle.ts_ext.specs.Table.{flag}
+use Rattle.ts_ext.specs.Table.{flag, list_rules}
 
 -- what an extension says: the content of its object identifier, whether it is critical, the octets of its value
 pub record Extension : Type 0 where
@@ -35,6 +35,10 @@ pub record IsExtension (content : List ℕ) (x : Extension) : Type 0 where
 abbrev pub AreExtensions : List ℕ → List Extension → Type 0
 AreExtensions = AreSome (Within 0x30 IsExtension)
 
+-- EXPLICIT Extensions, by the content of the explicit tag
+abbrev pub AreExplicit : List ℕ → List Extension → Type 0
+AreExplicit = Within 0x30 AreExtensions
+
 -- ---- the table
 
 abbrev pub extension_fields : Shape
@@ -45,6 +49,9 @@ extension = sequence extension_fields
 
 abbrev pub extensions : Shape
 extensions = items extension
+
+abbrev pub explicit_extensions : Shape
+explicit_extensions = tagged 0x30 extensions list_rules no_other then nothing
 
 -- ---- reading
 
@@ -75,3 +82,13 @@ extension_of e = standing_of e >>= λ x. Ok (said x)
 
 abbrev pub extensions_of : Tlv → Result (List Extension) Fault
 extensions_of = some_of (of_tag 0x30 extension_of)
+
+-- extensions where they stand, and the same behind an explicit tag
+abbrev pub standings_of : Tlv → Result (List Standing) Fault
+standings_of = some_of standing_in
+
+abbrev pub explicit_standings_of : Tlv → Result (List Standing) Fault
+explicit_standings_of = alone (of_tag 0x30 standings_of)
+
+abbrev pub explicit_extensions_of : Tlv → Result (List Extension) Fault
+explicit_extensions_of = alone (of_tag 0x30 extensions_of)

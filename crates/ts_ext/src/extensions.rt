@@ -6,10 +6,11 @@ ghost use Rattle.std.specs.Prelude.{◌≡◌, ◌↔◌, ℕ, List, [], None, I
 ghost use Rattle.ts_der.specs.Answer.{Answers, refusal};
 ghost use Rattle.ts_der.specs.View.{now};
 ghost use Rattle.ts_name.specs.Fault.{about};
-ghost use Rattle.ts_name.specs.Items.{items_at, some_of};
+ghost use Rattle.ts_name.specs.Shape.{no_rules};
+ghost use Rattle.ts_name.specs.Items.{items_at};
 ghost use Rattle.ts_name.specs.Repeats.{first_repeated as first_repeated_of};
 ghost use Rattle.ts_ext.specs.Inner.{inner_fault};
-ghost use Rattle.ts_ext.specs.Extension.{Extension as Stated, AreExtensions, extensions, standing_in, extensions_of};
+ghost use Rattle.ts_ext.specs.Extension.{Extension as Stated, AreExtensions, AreExplicit, extensions, explicit_extensions, standing_in, extensions_of, explicit_extensions_of, standings_of, explicit_standings_of};
 ghost use Rattle.ts_ext.specs.ExtensionView.{standing_as, standings_in, extensions_in};
 ghost use Rattle.ts_ext.specs.Known.{identifier_of};
 ghost use Rattle.ts_ext.specs.Table.{list_rules};
@@ -17,9 +18,10 @@ ghost use Rattle.ts_ext.specs.ValueRules.{rule_place, value_fault, values_fault,
 
 use crate::ext::Ext;
 use crate::extension::Extension;
+use crate::fields::SEQUENCE;
 use crate::known::{Holder, Known};
 use ts_der::{Element, Fault};
-use ts_name::{CertFault, SequenceItems, SequenceOf, first_repeated};
+use ts_name::{CertFault, SequenceItems, SequenceOf, first_repeated, tagged_as};
 
 /// Extensions, one or more (RFC 5280 4.1, 4.2).
 #[derive(Clone, Copy)]
@@ -42,8 +44,27 @@ impl<'a> Extensions<'a> {
         ensures only { (xs : List Stated) → AreExtensions element.entry.content.now xs → IsOkAnd result (λ x. extensions_in x ≡ xs) }
         ensures fault { option_map about (refusal result) ≡ inner_fault extensions list_rules (now element.entry) }
         ensures exact { Answers extensions_in result (extensions_of (now element.entry)) }
+        // The same with the place of each.
+        ensures placed { Answers standings_in result (standings_of (now element.entry)) }
     {
         read_extensions(element)
+    }
+
+    /// The list that the one SEQUENCE within an explicit tag is, whatever the values say.
+    ///
+    /// # Errors
+    ///
+    /// The first rule that is broken, with its place: the header and the tag of the SEQUENCE, the rules of `read`, and
+    /// `Trailing`.
+    pub fn read_explicit(element: Element<'a>) -> Result<Extensions<'a>, Fault>
+        ensures found { IfOk result (λ x. AreExplicit element.entry.content.now (extensions_in x)) }
+        ensures only { (xs : List Stated) → AreExplicit element.entry.content.now xs → IsOkAnd result (λ x. extensions_in x ≡ xs) }
+        ensures fault { option_map about (refusal result) ≡ inner_fault explicit_extensions no_rules (now element.entry) }
+        ensures exact { Answers extensions_in result (explicit_extensions_of (now element.entry)) }
+        // The same with the place of each.
+        ensures placed { Answers standings_in result (explicit_standings_of (now element.entry)) }
+    {
+        read_within(element)
     }
 
     /// The extensions, in their order.
@@ -87,11 +108,21 @@ impl<'a> Extensions<'a> {
 }
 
 fn read_extensions<'a>(element: Element<'a>) -> Result<Extensions<'a>, Fault>
-    ensures { Answers standings_in result (some_of standing_in (now element.entry)) }
+    ensures { Answers standings_in result (standings_of (now element.entry)) }
 {
     Ok(Extensions {
         list: SequenceOf::read(element)?,
     })
+}
+
+#[tactic(auto, unfolding(ts_name::specs::Items::alone, ts_name::specs::Items::each, ts_name::specs::Items::of_tag))]
+fn read_within<'a>(element: Element<'a>) -> Result<Extensions<'a>, Fault>
+    ensures { Answers standings_in result (explicit_standings_of (now element.entry)) }
+{
+    let mut rest = element.reader();
+    let extensions = read_extensions(tagged_as(rest.next()?, SEQUENCE)?)?;
+    rest.end()?;
+    Ok(extensions)
 }
 
 /// The first rule that the values of a list break.
