@@ -1,5 +1,6 @@
 -- Certificates: what is read is spelled so, and what is spelled so is read.
-use Rattle.std.proofs.Common.{◌≡◌, ℕ, ◌+◌, Bool, true, false, cond, ltb, List, [], ◌++◌, length, Result, Ok, Err, refl, sym, ap, subst, ◌∙◌}
+use Rattle.std.proofs.Common.{◌≡◌, ℕ, ◌+◌, Bool, true, false, cond, ltb, eqb, List, [], ◌++◌, length, Option, Some, None, Result, Ok, Err, refl, sym, ap, subst, ◌∙◌}
+use Rattle.std.specs.Prelude.{map, option_map, unwrap_or}
 use Rattle.std.specs.Str.{bytes_eq}
 use Rattle.std.proofs.lemmas.Bool.{ltb-false, le-ltb}
 use Rattle.std.proofs.lemmas.Slice.Eq.{bytes_eq-Decides}
@@ -7,6 +8,7 @@ use Rattle.std.proofs.lemmas.List.{append-nil}
 use Rattle.ts_der.specs.declared.fault.DerFault.TheVariants.{TooLarge}
 use Rattle.ts_der.specs.declared.fault.Fault.{Fault}
 use Rattle.ts_der.specs.Octets.{AreOctets}
+use Rattle.ts_der.specs.Answer.{◌>>=◌}
 use Rattle.ts_der.specs.Element.{Place, Tlv, spell, inside, spelled_at}
 use Rattle.ts_der.specs.Reading.{begins_with, element_at, end_at}
 use Rattle.ts_der.proofs.OctetLists.{AreOctets-back}
@@ -14,23 +16,201 @@ use Rattle.ts_der.proofs.Laws.{bind_ok, ok_is, element-only}
 use Rattle.ts_der.proofs.Unique.{one-element}
 use Rattle.ts_name.specs.declared.fault.CertRule.TheVariants.{Der, AlgorithmMismatch}
 use Rattle.ts_name.specs.declared.fault.CertFault.{CertFault}
-use Rattle.ts_cert.specs.Certificate.{Algorithm, Tbs, Certificate}
 use Rattle.ts_name.specs.Fault.{der, breaks}
-use Rattle.ts_name.specs.Fields.{Within}
-use Rattle.ts_cert.specs.Spelling.{IsAlgorithm, IsTbs, IsSigned, IsCertificate, version_octets}
-use Rattle.ts_cert.specs.Version.{version_at}
-use Rattle.ts_name.specs.Fields.{integer_at, bits_at, name_at}
-use Rattle.ts_cert.specs.Reading.{algorithm_of, algorithm_at, validity_at, key_at, tbs_of, Unagreed, signed_of, agreed, whole_of, certificate_of}
+use Rattle.ts_name.specs.Fields.{Within, IfAny, IsInteger, integer_at, bits_at, name_at, optional_of}
 use Rattle.ts_name.proofs.Shapes.{end-ok, end-again}
-use Rattle.ts_name.proofs.Parts.{took, element-took, der-ok}
+use Rattle.ts_name.proofs.Parts.{Value, took, element-took, der-ok}
 use Rattle.ts_name.proofs.FieldParts.{integer-part, bits-part, name-part}
-use Rattle.ts_cert.proofs.KeyParts.{algorithm-value, algorithm-part, key-part}
+use Rattle.ts_name.proofs.OptionalParts.{begins-if-any, optional-found, optional-again}
+use Rattle.ts_ext.specs.Extension.{Extension, Standing, said, AreExplicit, explicit_standings_of, explicit_extensions_of}
+use Rattle.ts_ext.proofs.ExtensionParts.{explicit_extensions-format}
+use Rattle.ts_ext.proofs.Formats.{value_of}
+use Rattle.ts_ext.proofs.Said.{optional-sees, explicit_extensions-see}
+use Rattle.ts_ext.proofs.Soundness.{AllOctets, explicit-octets}
+use Rattle.ts_name.specs.Canon.{Attr}
+use Rattle.ts_name.specs.NameSpelling.{IsName}
+use Rattle.ts_cert.specs.declared.time.Validity.{Validity}
+use Rattle.ts_cert.specs.declared.version.Version.{Version}
+use Rattle.ts_cert.specs.Certificate.{Algorithm, KeyInfo, Tbs, Certificate}
+use Rattle.ts_cert.specs.Rules.{LateFields, standings, TbsStanding, extensions_fault}
+use Rattle.ts_cert.specs.Spelling.{IsAlgorithm, IsValidity, IsKeyInfo, IsUniqueIdentifier, IsTbs, IsSigned, IsCertificate, version_octets}
+use Rattle.ts_cert.specs.Version.{version_at}
+use Rattle.ts_cert.specs.Reading.{algorithm_of, algorithm_at, validity_at, key_at, unique_identifier_of, late_fields_at, tbs_of, Unagreed, signed_of, agreed, unless_broken, whole_of, certificate_of}
+use Rattle.ts_cert.proofs.FieldRules.{Has, KeepsRules, rules-kept, rules-again}
+use Rattle.ts_cert.proofs.KeyParts.{algorithm-value, algorithm-part, key-part, unique_identifier-format}
 use Rattle.ts_cert.proofs.Periods.{validity-part, version-found, version-again}
 
 -- ---- what is signed
 
-tbs-found : (e : Tlv) (t : Tbs) → AreOctets e.content → tbs_of e ≡ Ok t → IsTbs e.content t
-unfolding tbs_of
+explicit-part : Value 0xA3 explicit_extensions_of AreExplicit
+explicit-part = value_of explicit_extensions-format 0xA3
+
+unique-part : (tag : ℕ) → Value tag unique_identifier_of IsUniqueIdentifier
+unique-part tag = value_of unique_identifier-format tag
+
+-- the extensions, as what they say
+said-read : (here : Place) (o : Option (List Standing)) (after : Place) → optional_of 0xA3 explicit_standings_of here ≡ Ok (o, after)
+    → optional_of 0xA3 explicit_extensions_of here ≡ Ok (option_map (map said) o, after)
+said-read here o after read = optional-sees 0xA3 (map said) explicit_standings_of explicit_extensions_of explicit_extensions-see here ∙ rw read refl
+
+-- the octets of their values
+standings-octets : (here : Place) (o : Option (List Standing)) (after : Place) → AreOctets here.rest → optional_of 0xA3 explicit_standings_of here ≡ Ok (o, after) → AllOctets (unwrap_or o [])
+unfolding optional_of
+standings-octets here o after fits read = by_tag (begins_with 0xA3 here.rest) read
+  where
+    by_tag : (b : Bool) → cond {A = Result (Option (List Standing) × Place) Fault} b (element_at 0xA3 here >>= λ e. explicit_standings_of e.0 >>= λ x. Ok (Some x, e.1)) (Ok (None, here)) ≡ Ok (o, after) → AllOctets (unwrap_or o [])
+    by_tag true r =
+        let e = bind_ok (element_at 0xA3 here) (λ e. explicit_standings_of e.0 >>= λ x. Ok (Some x, e.1)) (o, after) r in
+        let x = bind_ok (explicit_standings_of e.0.0) (λ x. Ok (Some x, e.0.1)) (o, after) e.2 in
+        let t = element-took 0xA3 here e.0.0 e.0.1 fits e.1 in
+        subst (λ (p : Option (List Standing) × Place). AllOctets (unwrap_or p.0 [])) (ok_is {A = Option (List Standing) × Place} {E = Fault} (Some x.0, e.0.1) (o, after) x.2) (explicit-octets e.0.0 x.0 t.inner x.1)
+    by_tag false r = subst (λ (p : Option (List Standing) × Place). AllOctets (unwrap_or p.0 [])) (ok_is {A = Option (List Standing) × Place} {E = Fault} (None, here) (o, after) r) tt
+
+-- the fields at the end: unique identifiers and extensions
+record EndsWith (here : Place) (l : LateFields) : Type 0 where
+  pub issuer_id : List ℕ
+  pub subject_id : List ℕ
+  pub last : List ℕ
+  pub issuerUniqueID : IfAny 0x81 IsUniqueIdentifier issuer_id l.issuerUniqueID
+  pub subjectUniqueID : IfAny 0x82 IsUniqueIdentifier subject_id l.subjectUniqueID
+  pub extensions : IfAny 0xA3 AreExplicit last (option_map (map said) l.extensions)
+  pub fields : here.rest ≡ issuer_id ++ (subject_id ++ last)
+  pub octets : AllOctets (standings l)
+
+ends-found : (here : Place) (l : LateFields) → AreOctets here.rest → late_fields_at here ≡ Ok l → EndsWith here l
+unfolding late_fields_at
+ends-found here l fits read =
+    let i = bind_ok (optional_of 0x81 unique_identifier_of here) _ l read in
+    let u = bind_ok (optional_of 0x82 unique_identifier_of i.0.1) _ l i.2 in
+    let o = bind_ok (optional_of 0xA3 explicit_standings_of u.0.1) _ l u.2 in
+    let d = bind_ok (end_at o.0.1) _ l o.2 in
+    let made : LateFields = record { issuerUniqueID = i.0.0; subjectUniqueID = u.0.0; extensions = o.0.0; issuerUniqueID_at = here.at; subjectUniqueID_at = i.0.1.at; extensions_at = u.0.1.at } in
+    let m = optional-found 0x81 unique_identifier_of IsUniqueIdentifier (unique-part 0x81) here i.0.0 i.0.1 fits i.1 in
+    let n = optional-found 0x82 unique_identifier_of IsUniqueIdentifier (unique-part 0x82) i.0.1 u.0.0 u.0.1 m.3 u.1 in
+    let x = optional-found 0xA3 explicit_extensions_of AreExplicit explicit-part u.0.1 (option_map (map said) o.0.0) o.0.1 n.3 (said-read u.0.1 o.0.0 o.0.1 o.1) in
+    let at_last : u.0.1.rest ≡ x.0 = x.2 ∙ (ap (λ (r : List ℕ). x.0 ++ r) (end-ok o.0.1 d.0 d.1) ∙ append-nil x.0) in
+    subst (EndsWith here) (ok_is {A = LateFields} {E = Fault} made l d.2)
+    (record {
+      issuer_id = m.0;
+      subject_id = n.0;
+      last = x.0;
+      issuerUniqueID = m.1;
+      subjectUniqueID = n.1;
+      extensions = x.1;
+      fields = m.2 ∙ ap (λ (r : List ℕ). m.0 ++ r) (n.2 ∙ ap (λ (r : List ℕ). n.0 ++ r) at_last);
+      octets = standings-octets u.0.1 o.0.0 o.0.1 n.3 o.1;
+    })
+
+-- the fields at the front: serial number, algorithm, issuer
+record BeginsWith (here after : Place) (number : List ℕ) (a : Algorithm) (name : List (List Attr)) : Type 0 where
+  pub serial : List ℕ
+  pub algorithm : List ℕ
+  pub issued_by : List ℕ
+  pub serialNumber : Within 0x02 IsInteger serial number
+  pub signature : Within 0x30 IsAlgorithm algorithm a
+  pub issuer : Within 0x30 IsName issued_by name
+  pub fields : here.rest ≡ serial ++ (algorithm ++ (issued_by ++ after.rest))
+  pub octets : AreOctets after.rest
+
+begins-found : (here second third after : Place) (number : List ℕ) (a : Algorithm) (name : List (List Attr)) → AreOctets here.rest
+    → integer_at here ≡ Ok (number, second) → algorithm_at second ≡ Ok (a, third) → name_at third ≡ Ok (name, after) → BeginsWith here after number a name
+begins-found here second third after number a name fits one two three =
+    let s = took integer-part here number second fits one in
+    let x = took algorithm-part second a third s.3 two in
+    let i = took name-part third name after x.3 three in
+    record {
+      serial = s.0;
+      algorithm = x.0;
+      issued_by = i.0;
+      serialNumber = s.1;
+      signature = x.1;
+      issuer = i.1;
+      fields = s.2 ∙ ap (λ (r : List ℕ). s.0 ++ r) (x.2 ∙ ap (λ (r : List ℕ). x.0 ++ r) i.2);
+      octets = i.3;
+    }
+
+-- the fields behind them: validity, subject, key
+record GoesOnWith (here after : Place) (v : Validity) (name : List (List Attr)) (k : KeyInfo) : Type 0 where
+  pub period : List ℕ
+  pub issued_to : List ℕ
+  pub key : List ℕ
+  pub validity : Within 0x30 IsValidity period v
+  pub subject : Within 0x30 IsName issued_to name
+  pub subjectPublicKeyInfo : Within 0x30 IsKeyInfo key k
+  pub fields : here.rest ≡ period ++ (issued_to ++ (key ++ after.rest))
+  pub octets : AreOctets after.rest
+
+goes-on-found : (here second third after : Place) (v : Validity) (name : List (List Attr)) (k : KeyInfo) → AreOctets here.rest
+    → validity_at here ≡ Ok (v, second) → name_at second ≡ Ok (name, third) → key_at third ≡ Ok (k, after) → GoesOnWith here after v name k
+goes-on-found here second third after v name k fits one two three =
+    let p = took validity-part here v second fits one in
+    let u = took name-part second name third p.3 two in
+    let x = took key-part third k after u.3 three in
+    record {
+      period = p.0;
+      issued_to = u.0;
+      key = x.0;
+      validity = p.1;
+      subject = u.1;
+      subjectPublicKeyInfo = x.1;
+      fields = p.2 ∙ ap (λ (r : List ℕ). p.0 ++ r) (u.2 ∙ ap (λ (r : List ℕ). u.0 ++ r) x.2);
+      octets = x.3;
+    }
+
+-- a record of what stands here
+made_of : Version → List ℕ → Algorithm → List (List Attr) → Validity → List (List Attr) → KeyInfo → LateFields → Tbs
+made_of v n a i p u k l =
+    record {
+      version = v;
+      serialNumber = n;
+      signature = a;
+      issuer = i;
+      validity = p;
+      subject = u;
+      subjectPublicKeyInfo = k;
+      issuerUniqueID = l.issuerUniqueID;
+      subjectUniqueID = l.subjectUniqueID;
+      extensions = option_map (map said) l.extensions;
+    }
+
+together : (content : List ℕ) (first second third : Place) (v : Version) (n : List ℕ) (a : Algorithm) (i : List (List Attr)) (p : Validity) (u : List (List Attr)) (k : KeyInfo) (l : LateFields)
+    → content ≡ version_octets v ++ first.rest → BeginsWith first second n a i → GoesOnWith second third p u k → EndsWith third l → IsTbs content (made_of v n a i p u k l)
+unfolding made_of
+together content first second third v n a i p u k l version begins goes ends =
+    let at_third : second.rest ≡ goes.period ++ (goes.issued_to ++ (goes.key ++ (ends.issuer_id ++ (ends.subject_id ++ ends.last)))) =
+    goes.fields ∙ ap (λ (r : List ℕ). goes.period ++ (goes.issued_to ++ (goes.key ++ r))) ends.fields in
+    let at_second : first.rest ≡ begins.serial ++ (begins.algorithm ++ (begins.issued_by ++ (goes.period ++ (goes.issued_to ++ (goes.key ++ (ends.issuer_id ++ (ends.subject_id ++ ends.last))))))) =
+    begins.fields ∙ ap (λ (r : List ℕ). begins.serial ++ (begins.algorithm ++ (begins.issued_by ++ r))) at_third in
+    record {
+      serial = begins.serial;
+      algorithm = begins.algorithm;
+      issued_by = begins.issued_by;
+      period = goes.period;
+      issued_to = goes.issued_to;
+      key = goes.key;
+      issuer_id = ends.issuer_id;
+      subject_id = ends.subject_id;
+      last = ends.last;
+      serialNumber = begins.serialNumber;
+      signature = begins.signature;
+      issuer = begins.issuer;
+      validity = goes.validity;
+      subject = goes.subject;
+      subjectPublicKeyInfo = goes.subjectPublicKeyInfo;
+      issuerUniqueID = ends.issuerUniqueID;
+      subjectUniqueID = ends.subjectUniqueID;
+      extensions = ends.extensions;
+      fields = version ∙ ap (λ (r : List ℕ). version_octets v ++ r) at_second;
+    }
+
+-- what is signed, as it was read
+record FoundTbs (content : List ℕ) (t : TbsStanding) : Type 0 where
+  pub is : IsTbs content t.fields
+  pub octets : AllOctets (standings t.late)
+  pub has : Has t.fields t.late
+
+tbs-found : (e : Tlv) (t : TbsStanding) → AreOctets e.content → tbs_of e ≡ Ok t → FoundTbs e.content t
+unfolding tbs_of made_of
 tbs-found e t fits read =
     let v = bind_ok (version_at (inside e)) _ t read in
     let s = bind_ok (der (integer_at v.0.1)) _ t v.2 in
@@ -39,42 +219,60 @@ tbs-found e t fits read =
     let p = bind_ok (der (validity_at i.0.1)) _ t i.2 in
     let u = bind_ok (der (name_at p.0.1)) _ t p.2 in
     let k = bind_ok (der (key_at u.0.1)) _ t u.2 in
-    let d = bind_ok (der (end_at k.0.1)) _ t k.2 in
-    let made : Tbs = record { version = v.0.0; serialNumber = s.0.0; signature = a.0.0; issuer = i.0.0; validity = p.0.0; subject = u.0.0; subjectPublicKeyInfo = k.0.0 } in
-    let same : made ≡ t = ok_is {A = Tbs} {E = CertFault} made t d.2 in
+    let l = bind_ok (der (late_fields_at k.0.1)) _ t k.2 in
+    let made : TbsStanding = record { fields = made_of v.0.0 s.0.0 a.0.0 i.0.0 p.0.0 u.0.0 k.0.0 l.0; late = l.0 } in
     let version = version-found (inside e) v.0.0 v.0.1 fits v.1 in
-    let serial = took integer-part v.0.1 s.0.0 s.0.1 (AreOctets-back (version_octets v.0.0) v.0.1.rest (subst AreOctets version fits)) (der-ok (integer_at v.0.1) s.0 s.1) in
-    let algorithm = took algorithm-part s.0.1 a.0.0 a.0.1 serial.3 (der-ok (algorithm_at s.0.1) a.0 a.1) in
-    let issuer = took name-part a.0.1 i.0.0 i.0.1 algorithm.3 (der-ok (name_at a.0.1) i.0 i.1) in
-    let period = took validity-part i.0.1 p.0.0 p.0.1 issuer.3 (der-ok (validity_at i.0.1) p.0 p.1) in
-    let subject = took name-part p.0.1 u.0.0 u.0.1 period.3 (der-ok (name_at p.0.1) u.0 u.1) in
-    let key = took key-part u.0.1 k.0.0 k.0.1 subject.3 (der-ok (key_at u.0.1) k.0 k.1) in
-    let at_key : u.0.1.rest ≡ key.0 = key.2 ∙ (ap (λ (r : List ℕ). key.0 ++ r) (end-ok k.0.1 d.0 (der-ok (end_at k.0.1) d.0 d.1)) ∙ append-nil key.0) in
-    let at_subject : p.0.1.rest ≡ subject.0 ++ key.0 = subject.2 ∙ ap (λ (r : List ℕ). subject.0 ++ r) at_key in
-    let at_period : i.0.1.rest ≡ period.0 ++ (subject.0 ++ key.0) = period.2 ∙ ap (λ (r : List ℕ). period.0 ++ r) at_subject in
-    let at_issuer : a.0.1.rest ≡ issuer.0 ++ (period.0 ++ (subject.0 ++ key.0)) = issuer.2 ∙ ap (λ (r : List ℕ). issuer.0 ++ r) at_period in
-    let at_algorithm : s.0.1.rest ≡ algorithm.0 ++ (issuer.0 ++ (period.0 ++ (subject.0 ++ key.0))) = algorithm.2 ∙ ap (λ (r : List ℕ). algorithm.0 ++ r) at_issuer in
-    let at_serial : v.0.1.rest ≡ serial.0 ++ (algorithm.0 ++ (issuer.0 ++ (period.0 ++ (subject.0 ++ key.0)))) = serial.2 ∙ ap (λ (r : List ℕ). serial.0 ++ r) at_algorithm in
-    subst (λ (x : Tbs). IsTbs e.content x) same (record {
-      serial = serial.0;
-      algorithm = algorithm.0;
-      issued_by = issuer.0;
-      period = period.0;
-      issued_to = subject.0;
-      key = key.0;
-      serialNumber = serial.1;
-      signature = algorithm.1;
-      issuer = issuer.1;
-      validity = period.1;
-      subject = subject.1;
-      subjectPublicKeyInfo = key.1;
-      fields = version ∙ ap (λ (r : List ℕ). version_octets v.0.0 ++ r) at_serial;
+    let begins = begins-found v.0.1 s.0.1 a.0.1 i.0.1 s.0.0 a.0.0 i.0.0 (AreOctets-back (version_octets v.0.0) v.0.1.rest (subst AreOctets version fits))
+    (der-ok (integer_at v.0.1) s.0 s.1) (der-ok (algorithm_at s.0.1) a.0 a.1) (der-ok (name_at a.0.1) i.0 i.1) in
+    let goes = goes-on-found i.0.1 p.0.1 u.0.1 k.0.1 p.0.0 u.0.0 k.0.0 begins.octets
+    (der-ok (validity_at i.0.1) p.0 p.1) (der-ok (name_at p.0.1) u.0 u.1) (der-ok (key_at u.0.1) k.0 k.1) in
+    let ends = ends-found k.0.1 l.0 goes.octets (der-ok (late_fields_at k.0.1) l.0 l.1) in
+    subst (FoundTbs e.content) (ok_is {A = TbsStanding} {E = CertFault} made t l.2)
+    (record {
+      is = together e.content v.0.1 i.0.1 k.0.1 v.0.0 s.0.0 a.0.0 i.0.0 p.0.0 u.0.0 k.0.0 l.0 version begins goes ends;
+      octets = ends.octets;
+      has = record { issuer = refl; subject = refl; extensions = refl };
     })
 
-tbs-again : (e : Tlv) (t : Tbs) → IsTbs e.content t → tbs_of e ≡ Ok t
-unfolding tbs_of
+-- the extensions that stand where these are spelled
+standings-again : (here : Place) (xs : Option (List Extension)) (w : List ℕ) → IfAny 0xA3 AreExplicit w xs → here.rest ≡ w
+    → (o : Option (List Standing)) × (optional_of 0xA3 explicit_standings_of here ≡ Ok (o, record { rest = []; at = here.at + length w })) × (option_map (map said) o ≡ xs)
+standings-again here xs w is e =
+    let after : Place = record { rest = []; at = here.at + length w } in
+    let read = optional-again 0xA3 explicit_extensions_of AreExplicit explicit-part here xs w [] is refl (e ∙ sym (append-nil w)) in
+    let seen = sym (optional-sees 0xA3 (map said) explicit_standings_of explicit_extensions_of explicit_extensions-see here) ∙ read in
+    let o = bind_ok (optional_of 0xA3 explicit_standings_of here) (λ (x : Option (List Standing) × Place). Ok (option_map (map said) x.0, x.1)) (xs, after) seen in
+    let same = ok_is {A = Option (List Extension) × Place} {E = Fault} (option_map (map said) o.0.0, o.0.1) (xs, after) o.2 in
+    let place : o.0.1 ≡ after = ap (λ (p : Option (List Extension) × Place). p.1) same in
+    (o.0.0, o.1 ∙ ap (λ (p : Place). Ok (o.0.0, p)) place, ap (λ (p : Option (List Extension) × Place). p.0) same)
+
+-- fields at the end do not begin with another tag
+ends-otherwise : {A : Type 0} (tag : ℕ) (Spells : List ℕ → A → Type 0) (w : List ℕ) (x : Option A) → IfAny tag Spells w x → (other : ℕ) → eqb tag other ≡ false → begins_with other w ≡ false
+ends-otherwise tag Spells w x is other differs = ap (begins_with other) (sym (append-nil w)) ∙ begins-if-any tag Spells w x is other differs [] refl
+
+ends-again : (here : Place) (i s : Option (ℕ × List ℕ)) (xs : Option (List Extension)) (w v last : List ℕ)
+    → IfAny 0x81 IsUniqueIdentifier w i → IfAny 0x82 IsUniqueIdentifier v s → IfAny 0xA3 AreExplicit last xs → here.rest ≡ w ++ (v ++ last)
+    → (l : LateFields) × (late_fields_at here ≡ Ok l) × (l.issuerUniqueID ≡ i) × (l.subjectUniqueID ≡ s) × (option_map (map said) l.extensions ≡ xs)
+unfolding late_fields_at
+ends-again here i s xs w v last first second third e =
+    let no_second : begins_with 0x82 last ≡ false = ends-otherwise 0xA3 AreExplicit last xs third 0x82 refl in
+    let no_first : begins_with 0x81 (v ++ last) ≡ false = begins-if-any 0x82 IsUniqueIdentifier v s second 0x81 refl last (ends-otherwise 0xA3 AreExplicit last xs third 0x81 refl) in
+    let m = optional-again 0x81 unique_identifier_of IsUniqueIdentifier (unique-part 0x81) here i w (v ++ last) first no_first e in
+    let p1 : Place = record { rest = v ++ last; at = here.at + length w } in
+    let n = optional-again 0x82 unique_identifier_of IsUniqueIdentifier (unique-part 0x82) p1 s v last second no_second refl in
+    let p2 : Place = record { rest = last; at = p1.at + length v } in
+    let x = standings-again p2 xs last third refl in
+    let d = end-again (p2.at + length last) in
+    let l : LateFields = record { issuerUniqueID = i; subjectUniqueID = s; extensions = x.0; issuerUniqueID_at = here.at; subjectUniqueID_at = p1.at; extensions_at = p2.at } in
+    (l, rw (m, n, x.1, d) refl, refl, refl, x.2)
+
+tbs-again : (e : Tlv) (t : Tbs) → IsTbs e.content t → (s : TbsStanding) × (tbs_of e ≡ Ok s) × (s.fields ≡ t) × Has t s.late
+unfolding tbs_of made_of
 tbs-again e t is =
-    let r6 : List ℕ = is.key in
+    let r9 : List ℕ = is.last in
+    let r8 : List ℕ = is.subject_id ++ r9 in
+    let r7 : List ℕ = is.issuer_id ++ r8 in
+    let r6 : List ℕ = is.key ++ r7 in
     let r5 : List ℕ = is.issued_to ++ r6 in
     let r4 : List ℕ = is.period ++ r5 in
     let r3 : List ℕ = is.issued_by ++ r4 in
@@ -93,13 +291,16 @@ tbs-again e t is =
     let p5 : Place = record { rest = r5; at = p4.at + length is.period } in
     let u = name-part.again p5 t.subject is.issued_to r6 is.subject refl in
     let p6 : Place = record { rest = r6; at = p5.at + length is.issued_to } in
-    let k = key-part.again p6 t.subjectPublicKeyInfo is.key [] is.subjectPublicKeyInfo (sym (append-nil is.key)) in
-    let d = end-again (p6.at + length is.key) in
-    rw (v, s, a, i, p, u, k, d) refl
+    let k = key-part.again p6 t.subjectPublicKeyInfo is.key r7 is.subjectPublicKeyInfo refl in
+    let p7 : Place = record { rest = r7; at = p6.at + length is.key } in
+    let l = ends-again p7 t.issuerUniqueID t.subjectUniqueID t.extensions is.issuer_id is.subject_id is.last is.issuerUniqueID is.subjectUniqueID is.extensions refl in
+    let made : TbsStanding = record { fields = made_of t.version t.serialNumber t.signature t.issuer t.validity t.subject t.subjectPublicKeyInfo l.0; late = l.0 } in
+    (made, rw (v, s, a, i, p, u, k, l.1) refl, rw (l.2, l.3, l.4) refl, record { issuer = sym l.2; subject = sym l.3; extensions = sym l.4 })
 
 -- ---- what is signed, with its signature
 
-signed-found : (e : Tlv) (s : Unagreed) → AreOctets e.content → signed_of e ≡ Ok s → IsSigned e.content s.certificate
+signed-found : (e : Tlv) (s : Unagreed) → AreOctets e.content → signed_of e ≡ Ok s
+    → IsSigned e.content s.certificate × AllOctets (standings s.late) × Has s.certificate.tbsCertificate s.late
 unfolding signed_of
 signed-found e s fits read =
     let t = bind_ok (der (element_at 0x30 (inside e))) _ s read in
@@ -108,7 +309,7 @@ signed-found e s fits read =
     let a = bind_ok (der (algorithm_of i.0.0)) _ s i.2 in
     let b = bind_ok (der (bits_at i.0.1)) _ s a.2 in
     let d = bind_ok (der (end_at b.0.1)) _ s b.2 in
-    let made : Unagreed = record { certificate = record { tbs = t.0.0.whole; tbsCertificate = f.0; signatureAlgorithm = a.0; signatureValue = b.0.0 }; identifier_at = i.0.0.at } in
+    let made : Unagreed = record { certificate = record { tbs = t.0.0.whole; tbsCertificate = f.0.fields; signatureAlgorithm = a.0; signatureValue = b.0.0 }; identifier_at = i.0.0.at; late = f.0.late } in
     let same : made ≡ s = ok_is {A = Unagreed} {E = CertFault} made s d.2 in
     let tbs = element-took 0x30 (inside e) t.0.0 t.0.1 fits (der-ok (element_at 0x30 (inside e)) t.0 t.1) in
     let identifier = element-took 0x30 t.0.1 i.0.0 i.0.1 tbs.outer (der-ok (element_at 0x30 t.0.1) i.0 i.1) in
@@ -116,16 +317,20 @@ signed-found e s fits read =
     let at_bits : i.0.1.rest ≡ bits.0 = bits.2 ∙ (ap (λ (r : List ℕ). bits.0 ++ r) (end-ok b.0.1 d.0 (der-ok (end_at b.0.1) d.0 d.1)) ∙ append-nil bits.0) in
     let at_identifier : t.0.1.rest ≡ i.0.0.whole ++ bits.0 = identifier.whole ∙ ap (λ (r : List ℕ). i.0.0.whole ++ r) at_bits in
     let algorithm = algorithm-value.found i.0.0 a.0 identifier.inner identifier.spelled (der-ok (algorithm_of i.0.0) a.0 a.1) in
-    subst (λ (x : Unagreed). IsSigned e.content x.certificate) same (record {
+    let found = tbs-found t.0.0 f.0 tbs.inner f.1 in
+    subst (λ (x : Unagreed). IsSigned e.content x.certificate × AllOctets (standings x.late) × Has x.certificate.tbsCertificate x.late) same
+    (record {
       identifier = i.0.0.whole;
       bits = bits.0;
-      tbsCertificate = record { content = t.0.0.content; fits = tbs.fits; spelled = tbs.spelled; value = tbs-found t.0.0 f.0 tbs.inner f.1 };
+      tbsCertificate = record { content = t.0.0.content; fits = tbs.fits; spelled = tbs.spelled; value = found.is };
       signatureAlgorithm = record { content = i.0.0.content; fits = identifier.fits; spelled = identifier.spelled; value = algorithm };
       signatureValue = bits.1;
       fields = tbs.whole ∙ ap (λ (r : List ℕ). t.0.0.whole ++ r) at_identifier;
-    })
+    },
+    found.octets, found.has)
 
-signed-again : (e : Tlv) (c : Certificate) → IsSigned e.content c → signed_of e ≡ Ok (record { certificate = c; identifier_at = e.start + length c.tbs })
+signed-again : (e : Tlv) (c : Certificate) → IsSigned e.content c
+    → (l : LateFields) × (signed_of e ≡ Ok (record { certificate = c; identifier_at = e.start + length c.tbs; late = l })) × Has c.tbsCertificate l
 unfolding signed_of
 signed-again e c is =
     let t = is.tbsCertificate in
@@ -141,8 +346,9 @@ signed-again e c is =
     let p2 : Place = record { rest = r2; at = p1.at + length (spell 0x30 a.content) } in
     let bits = bits-part.again p2 c.signatureValue is.bits [] is.signatureValue (sym (append-nil is.bits)) in
     let done = end-again (p2.at + length is.bits) in
-    rw (first, fields, second, algorithm, bits, done)
-    (ap (λ (o : List ℕ). Ok (record { certificate = record { tbs = o; tbsCertificate = c.tbsCertificate; signatureAlgorithm = c.signatureAlgorithm; signatureValue = c.signatureValue }; identifier_at = e.start + length o })) (sym t.spelled))
+    let made : Tbs → List ℕ → Unagreed = λ f o. record { certificate = record { tbs = o; tbsCertificate = f; signatureAlgorithm = c.signatureAlgorithm; signatureValue = c.signatureValue }; identifier_at = e.start + length o; late = fields.0.late } in
+    let read : signed_of e ≡ Ok (made fields.0.fields (spell 0x30 t.content)) = rw (first, fields.1, second, algorithm, bits, done) refl in
+    (fields.0.late, read ∙ (ap (λ (f : Tbs). Ok (made f (spell 0x30 t.content))) fields.2 ∙ ap (λ (o : List ℕ). Ok (made c.tbsCertificate o)) (sym t.spelled)), fields.3)
 
 -- ---- certificates
 
@@ -165,20 +371,31 @@ agreed-ok s c read = by_test (bytes_eq s.certificate.tbsCertificate.signature.wh
     by_test true t e = ((bytes_eq-Decides s.certificate.tbsCertificate.signature.whole s.certificate.signatureAlgorithm.whole).0 t, ok_is {E = CertFault} s.certificate c e)
     by_test false t e = absurd cc
 
-whole-found : (octets : List ℕ) (c : Certificate) → AreOctets octets → whole_of octets ≡ Ok c → Within 0x30 IsSigned octets c × (c.tbsCertificate.signature ≡ c.signatureAlgorithm)
+kept-ok : (o : Option CertFault) (x c : Certificate) → unless_broken o x ≡ Ok c → (o ≡ None) × (x ≡ c)
+kept-ok None x c e = (refl, ok_is {E = CertFault} x c e)
+kept-ok (Some f) x c e = absurd cc
+
+-- the parts of a certificate that was read
+abbrev IsWhole : List ℕ → Certificate → Type 0
+IsWhole octets c = Within 0x30 IsSigned octets c × (c.tbsCertificate.signature ≡ c.signatureAlgorithm) × KeepsRules c.tbsCertificate
+
+whole-found : (octets : List ℕ) (c : Certificate) → AreOctets octets → whole_of octets ≡ Ok c → IsWhole octets c
 unfolding whole_of
 whole-found octets c fits read =
     let here : Place = record { rest = octets; at = 0 } in
     let e = bind_ok (der (element_at 0x30 here)) _ c read in
     let s = bind_ok (signed_of e.0.0) _ c e.2 in
     let d = bind_ok (der (end_at e.0.1)) _ c s.2 in
+    let g = bind_ok (agreed s.0) _ c d.2 in
     let t = element-took 0x30 here e.0.0 e.0.1 fits (der-ok (element_at 0x30 here) e.0 e.1) in
     let whole : octets ≡ e.0.0.whole = t.whole ∙ (ap (λ (r : List ℕ). e.0.0.whole ++ r) (end-ok e.0.1 d.0 (der-ok (end_at e.0.1) d.0 d.1)) ∙ append-nil e.0.0.whole) in
-    let is = signed-found e.0.0 s.0 t.inner s.1 in
-    let same = agreed-ok s.0 c d.2 in
+    let signed = signed-found e.0.0 s.0 t.inner s.1 in
+    let is = signed.0 in
+    let same = agreed-ok s.0 g.0 g.1 in
+    let kept = kept-ok (extensions_fault s.0.certificate.tbsCertificate.version s.0.late) g.0 c g.2 in
     let one = one-algorithm is.tbsCertificate.value.algorithm is.identifier s.0.certificate.tbsCertificate.signature s.0.certificate.signatureAlgorithm is.tbsCertificate.value.signature is.signatureAlgorithm same.0 in
-    subst (λ (x : Certificate). Within 0x30 IsSigned octets x × (x.tbsCertificate.signature ≡ x.signatureAlgorithm)) same.1
-    (record { content = e.0.0.content; fits = t.fits; spelled = whole ∙ t.spelled; value = is }, one)
+    let rules = rules-kept s.0.certificate.tbsCertificate s.0.late signed.2 signed.1 kept.0 in
+    subst (IsWhole octets) (same.1 ∙ kept.1) (record { content = e.0.0.content; fits = t.fits; spelled = whole ∙ t.spelled; value = is }, one, rules)
 
 pub certificate-found : (octets : List ℕ) (c : Certificate) → AreOctets octets → certificate_of octets ≡ Ok c → IsCertificate octets c
 unfolding certificate_of
@@ -186,7 +403,9 @@ certificate-found octets c fits read = by_size (ltb 65536 (length octets)) refl 
   where
     by_size : (b : Bool) → ltb 65536 (length octets) ≡ b → cond b (Err (breaks 0 (Der TooLarge))) (whole_of octets) ≡ Ok c → IsCertificate octets c
     by_size true t e = absurd cc
-    by_size false t e = let w = whole-found octets c fits e in record { size = ltb-false 65536 (length octets) t; whole = w.0; agree = w.1 }
+    by_size false t e =
+        let w = whole-found octets c fits e in
+        record { size = ltb-false 65536 (length octets) t; whole = w.0; agree = w.1; version = w.2.0; distinct = w.2.1; sound = w.2.2 }
 
 pub certificate-again : (octets : List ℕ) (c : Certificate) → IsCertificate octets c → certificate_of octets ≡ Ok c
 unfolding certificate_of whole_of agreed
@@ -198,4 +417,6 @@ certificate-again octets c is =
     let s = signed-again (spelled_at 0 0x30 w.content) c w.value in
     let d = end-again (0 + length (spell 0x30 w.content)) in
     let agree : bytes_eq c.tbsCertificate.signature.whole c.signatureAlgorithm.whole ≡ true = (bytes_eq-Decides c.tbsCertificate.signature.whole c.signatureAlgorithm.whole).1 (ap (λ (a : Algorithm). a.whole) is.agree) in
-    rw (small, one, s, d, agree) refl
+    let rules : KeepsRules c.tbsCertificate = (is.version, is.distinct, is.sound) in
+    let kept = rules-again c.tbsCertificate s.0 s.2 rules in
+    rw (small, one, s.1, d, agree, kept) refl

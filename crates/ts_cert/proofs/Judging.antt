@@ -13,13 +13,14 @@ use Rattle.ts_der.specs.Rules.{first_broken}
 use Rattle.ts_der.specs.Element.{Place, Tlv, inside, spell, length_octets}
 use Rattle.ts_der.specs.Header.{tag_of, header_size, length_of, header_rules}
 use Rattle.ts_der.specs.Reading.{fault_at, is_end, element_of, behind, next_at, element_at, optional_at, value_at, end_at, begins_with, located}
+use Rattle.ts_der.specs.BitString.{bits_rules}
 use Rattle.ts_der.specs.Integer.{integer_rules}
 use Rattle.ts_time.specs.Reading.{utc_in, general_in, utc_value, general_value}
 use Rattle.ts_name.specs.declared.fault.CertRule.{CertRule}
 use Rattle.ts_name.specs.declared.fault.CertRule.TheVariants.{Der, Version as VersionRule, AlgorithmMismatch}
 use Rattle.ts_name.specs.declared.fault.CertFault.{CertFault}
 use Rattle.ts_name.specs.Fault.{der, breaks}
-use Rattle.ts_name.specs.Fields.{oid_at, integer_at, bits_at, name_at}
+use Rattle.ts_name.specs.Fields.{oid_at, integer_at, bits_at, name_at, optional_of}
 use Rattle.ts_name.specs.Rows.{object_identifier, integer, bit_string, name}
 use Rattle.ts_cert.specs.declared.time.Time.{Time}
 use Rattle.ts_cert.specs.declared.time.TimeForm.TheVariants.{Utc, General}
@@ -27,10 +28,15 @@ use Rattle.ts_cert.specs.declared.version.Version.{Version}
 use Rattle.ts_cert.specs.declared.version.Version.TheVariants.{V1, V2, V3}
 use Rattle.ts_cert.specs.Version.{version_named, number_of, not_default, version_of, version_if, version_at}
 use Rattle.ts_cert.specs.Time.{time_of, time_at, validity_of}
-use Rattle.ts_cert.specs.Reading.{parameters_at, algorithm_of, algorithm_at, validity_at, key_of, key_at, tbs_of, Unagreed, signed_of, agreed, whole_of, certificate_of}
-use Rattle.ts_cert.specs.Certificate.{Tbs, Certificate}
-use Rattle.ts_cert.specs.Table.{algorithm_identifier, time, validity, subject_public_key_info, is_version, version_rules, version_number, default_rules, version, tbs_certificate, certificate, nth, from_front, signature_element, signature_algorithm_element, algorithms_fault, certificate_fault}
-use Rattle.ts_name.specs.Shape.{any, optional, Shape, nothing, plain, ◌then◌, ◌or_else◌, header_fault, row_fault, judge, der_rules, no_rules, one_rule}
+use Rattle.ts_cert.specs.Reading.{parameters_at, algorithm_of, algorithm_at, validity_at, key_of, key_at, unique_identifier_of, late_fields_at, tbs_of, Unagreed, signed_of, agreed, unless_broken, whole_of, certificate_of}
+use Rattle.ts_cert.specs.Certificate.{Certificate}
+use Rattle.ts_cert.specs.Rules.{LateFields, TbsStanding, extensions_fault}
+use Rattle.ts_cert.specs.Table.{algorithm_identifier, time, validity, subject_public_key_info, is_version, version_rules, version_number, default_rules, version, unique_identifier, tbs_certificate, certificate, nth, from_front, signature_element, signature_algorithm_element, algorithms_fault, fields_fault, certificate_fault}
+use Rattle.ts_name.specs.Shape.{any, optional, tagged, no_other, Shape, nothing, plain, ◌then◌, ◌or_else◌, header_fault, row_fault, judge, der_rules, no_rules, one_rule}
+use Rattle.ts_name.proofs.OptionalParts.{optional-judged}
+use Rattle.ts_ext.specs.Extension.{explicit_extensions, explicit_standings_of}
+use Rattle.ts_ext.proofs.ExtensionParts.{explicit_standings-judged}
+use Rattle.ts_cert.proofs.KeyParts.{unique_identifier-format}
 use Rattle.ts_name.proofs.Judging.{Judged, refusal-judged, bind, no_more, no_less, Headed, next-judged, element-judged, Reads, within-reads, then-judged, end-judged, under, ends, value-judged, Whatever, oid-reads, integer-reads, bits-reads, next-reads, regroup, name-reads}
 
 -- ---- algorithm identifiers
@@ -256,8 +262,11 @@ version-then {B} others here f Q k = by_start (begins_with 0xA0 here.rest) k
 abbrev key_fields : Shape
 key_fields = algorithm_identifier then bit_string then nothing
 
+abbrev last_fields : Shape
+last_fields = optional (unique_identifier 0x81) then optional (unique_identifier 0x82) then optional (tagged 0xA3 explicit_extensions no_rules no_other) then nothing
+
 abbrev tbs_fields : Shape
-tbs_fields = optional version then integer then algorithm_identifier then name then validity then name then subject_public_key_info then nothing
+tbs_fields = optional version then integer then algorithm_identifier then name then validity then name then subject_public_key_info then last_fields
 
 abbrev certificate_fields : Shape
 certificate_fields = tbs_certificate then algorithm_identifier then bit_string then nothing
@@ -268,27 +277,45 @@ identifier-place true here after e = ap (λ (p : Place). element_of (behind p)) 
 identifier-place false here after e = ap (λ (p : Place). element_of (behind p)) e
 
 -- the algorithm identifier within what is signed
-abbrev SignedWith : Tlv → Tbs → Type 0
-SignedWith e t = t.signature.whole ≡ (nth (cond (begins_with 0xA0 e.content) 2 1) (inside e)).whole
+abbrev SignedWith : Tlv → TbsStanding → Type 0
+SignedWith e t = t.fields.signature.whole ≡ (nth (cond (begins_with 0xA0 e.content) 2 1) (inside e)).whole
+
+-- a unique identifier
+unique-judged : (e : Tlv) → Judged (der (unique_identifier_of e)) (judge plain (inside e) or_else option_map (breaks e.at) (der_rules bits_rules e.content)) (λ u. Unit {0})
+unique-judged e = unique_identifier-format.judged e
+
+late-judged : (here : Place) → Judged (der (late_fields_at here)) (judge last_fields here) (λ l. Unit {0})
+unfolding late_fields_at
+late-judged here =
+    under (optional_of 0x81 unique_identifier_of here) _ _ _
+    (optional-judged 0x81 plain (der_rules bits_rules) (optional (unique_identifier 0x82) then optional (tagged 0xA3 explicit_extensions no_rules no_other) then nothing) here unique_identifier_of _ Whatever _ unique-judged (λ issuer second.
+    under (optional_of 0x82 unique_identifier_of second) _ _ _
+    (optional-judged 0x82 plain (der_rules bits_rules) (optional (tagged 0xA3 explicit_extensions no_rules no_other) then nothing) second unique_identifier_of _ Whatever _ unique-judged (λ subject third.
+    under (optional_of 0xA3 explicit_standings_of third) _ _ _
+    (optional-judged 0xA3 explicit_extensions no_rules nothing third explicit_standings_of _ Whatever _ explicit_standings-judged (λ extensions after. ends after _ _ (λ h. tt)))))))
 
 tbs-judged : (e : Tlv) → Judged (tbs_of e) (judge tbs_fields (inside e) or_else None) (SignedWith e)
 unfolding tbs_of
 tbs-judged e =
     no_more _ _ _
-    (version-then (integer then algorithm_identifier then name then validity then name then subject_public_key_info then nothing) (inside e) _ (SignedWith e) (λ version at1 place.
+    (version-then (integer then algorithm_identifier then name then validity then name then subject_public_key_info then last_fields) (inside e) _ (SignedWith e) (λ version at1 place.
     let at2 = behind at1 in
     let at3 = behind at2 in
     let at4 = behind at3 in
     let at5 = behind at4 in
     let at6 = behind at5 in
-    then-judged integer (algorithm_identifier then name then validity then name then subject_public_key_info then nothing) at1 (λ here. der (integer_at here)) _ Whatever (SignedWith e) refl integer-reads (λ serial p1.
-    then-judged algorithm_identifier (name then validity then name then subject_public_key_info then nothing) at2 (λ here. der (algorithm_at here)) _ (λ e a. a.whole ≡ e.whole) (SignedWith e) refl algorithm-reads (λ signature same.
-    then-judged name (validity then name then subject_public_key_info then nothing) at3 (λ here. der (name_at here)) _ Whatever (SignedWith e) refl name-reads (λ issuer p3.
-    then-judged validity (name then subject_public_key_info then nothing) at4 (λ here. der (validity_at here)) _ Whatever (SignedWith e) refl validity-reads (λ period p4.
-    then-judged name (subject_public_key_info then nothing) at5 (λ here. der (name_at here)) _ Whatever (SignedWith e) refl name-reads (λ subject p5.
-    then-judged subject_public_key_info nothing at6 (λ here. der (key_at here)) _ Whatever (SignedWith e) refl key-reads (λ key p6.
+    then-judged integer (algorithm_identifier then name then validity then name then subject_public_key_info then last_fields) at1 (λ here. der (integer_at here)) _ Whatever (SignedWith e) refl integer-reads (λ serial p1.
+    then-judged algorithm_identifier (name then validity then name then subject_public_key_info then last_fields) at2 (λ here. der (algorithm_at here)) _ (λ e a. a.whole ≡ e.whole) (SignedWith e) refl algorithm-reads (λ signature same.
+    then-judged name (validity then name then subject_public_key_info then last_fields) at3 (λ here. der (name_at here)) _ Whatever (SignedWith e) refl name-reads (λ issuer p3.
+    then-judged validity (name then subject_public_key_info then last_fields) at4 (λ here. der (validity_at here)) _ Whatever (SignedWith e) refl validity-reads (λ period p4.
+    then-judged name (subject_public_key_info then last_fields) at5 (λ here. der (name_at here)) _ Whatever (SignedWith e) refl name-reads (λ subject p5.
+    then-judged subject_public_key_info last_fields at6 (λ here. der (key_at here)) _ Whatever (SignedWith e) refl key-reads (λ key p6.
     no_less _ _ _
-    (end-judged (behind at6) _ None (SignedWith e) (λ done. (refl, same ∙ ap (λ (x : Tlv). x.whole) (identifier-place (begins_with 0xA0 e.content) (inside e) at1 place))))))))))))
+    (bind (der (late_fields_at (behind at6))) _ (judge last_fields (behind at6)) None Whatever_read (SignedWith e) (late-judged (behind at6)) (λ late h.
+    (refl, same ∙ ap (λ (x : Tlv). x.whole) (identifier-place (begins_with 0xA0 e.content) (inside e) at1 place))))))))))))
+  where
+    Whatever_read : LateFields → Type 0
+    Whatever_read l = Unit {0}
 
 -- both algorithm identifiers, and the place of the outer one
 abbrev Identified : Tlv → Unagreed → Type 0
@@ -296,6 +323,11 @@ Identified e s =
     (s.certificate.tbsCertificate.signature.whole ≡ (nth (cond (begins_with 0xA0 (nth 0 (inside e)).content) 2 1) (inside (nth 0 (inside e)))).whole)
     × (s.certificate.signatureAlgorithm.whole ≡ (nth 1 (inside e)).whole)
     × (s.identifier_at ≡ (nth 1 (inside e)).at)
+
+-- a reading that was judged is that of what it read
+itself : {A : Type 0} (r : Result A CertFault) (o : Option CertFault) (P : A → Type 0) → Judged r o P → Judged r o (λ x. P x × (r ≡ Ok x))
+itself (Ok x) o P j = (j.0, (j.1, refl))
+itself (Err f) o P j = j
 
 signed-judged : (e : Tlv) → Judged (signed_of e) (judge certificate_fields (inside e) or_else None) (Identified e)
 unfolding signed_of
@@ -307,25 +339,51 @@ signed-judged e =
     no_less _ _ _
     (end-judged (behind (behind (behind (inside e)))) _ None (Identified e) (λ done. (refl, (inner, outer, refl))))))))
 
-whole-judged : (octets : List ℕ) → Judged (whole_of octets) (judge (certificate then nothing) (from_front octets) or_else algorithms_fault octets) (λ c. Unit {0})
-unfolding whole_of agreed
-whole-judged octets =
-    subst (λ o. Judged (der (element_at 0x30 (from_front octets)) >>= λ e. signed_of e.0 >>= λ shape. der (end_at e.1) >>= λ done. agreed shape) o (λ c. Unit {0}))
-    (sym (regroup (header_fault (from_front octets) or_else row_fault certificate (element_of (from_front octets))) (judge nothing (behind (from_front octets))) (algorithms_fault octets)))
-    (element-judged 0x30 certificate_fields no_rules (from_front octets) signed_of (λ e shape. der (end_at e.1) >>= λ done. agreed shape) _ (Identified (element_of (from_front octets))) (λ c. Unit {0})
-    (signed-judged (element_of (from_front octets))) (λ shape h t same.
-    end-judged (behind (from_front octets)) (λ done. agreed shape) (algorithms_fault octets) (λ c. Unit {0}) (λ e. compared shape same)))
+-- both algorithm identifiers are one
+agreed-judged : (octets : List ℕ) (shape : Unagreed) → Identified (element_of (from_front octets)) shape → Judged (agreed shape) (algorithms_fault octets) (λ c. Unit {0})
+unfolding agreed
+agreed-judged octets shape same =
+    subst (λ (b : Bool). Judged (agreed shape) (cond b None (Some (breaks (signature_algorithm_element octets).at AlgorithmMismatch))) (λ c. Unit {0}))
+    (ap (λ (xs : List ℕ). bytes_eq xs shape.certificate.signatureAlgorithm.whole) same.0 ∙ ap (λ (xs : List ℕ). bytes_eq (signature_element octets).whole xs) same.1)
+    (by_test (bytes_eq shape.certificate.tbsCertificate.signature.whole shape.certificate.signatureAlgorithm.whole) (signature_algorithm_element octets).at same.2)
   where
-    by_test : (shape : Unagreed) (b : Bool) (at : ℕ) → shape.identifier_at ≡ at
+    by_test : (b : Bool) (at : ℕ) → shape.identifier_at ≡ at
         → Judged (cond b (Ok shape.certificate) (Err (breaks shape.identifier_at AlgorithmMismatch))) (cond b None (Some (breaks at AlgorithmMismatch))) (λ c. Unit {0})
-    by_test shape true at e = (refl, tt)
-    by_test shape false at e = rw e refl
+    by_test true at e = (refl, tt)
+    by_test false at e = rw e refl
 
-    compared : (shape : Unagreed) → Identified (element_of (from_front octets)) shape → Judged (agreed shape) (algorithms_fault octets) (λ c. Unit {0})
-    compared shape same =
-        subst (λ (b : Bool). Judged (agreed shape) (cond b None (Some (breaks (signature_algorithm_element octets).at AlgorithmMismatch))) (λ c. Unit {0}))
-        (ap (λ (xs : List ℕ). bytes_eq xs shape.certificate.signatureAlgorithm.whole) same.0 ∙ ap (λ (xs : List ℕ). bytes_eq (signature_element octets).whole xs) same.1)
-        (by_test shape (bytes_eq shape.certificate.tbsCertificate.signature.whole shape.certificate.signatureAlgorithm.whole) (signature_algorithm_element octets).at same.2)
+-- the rules of the fields
+rules-judged : (o : Option CertFault) (c : Certificate) → Judged (unless_broken o c) o (λ c. Unit {0})
+rules-judged None c = (refl, tt)
+rules-judged (Some f) c = refl
+
+whole-judged : (octets : List ℕ) → Judged (whole_of octets) (judge (certificate then nothing) (from_front octets) or_else algorithms_fault octets or_else fields_fault (signed_of (nth 0 (from_front octets)))) (λ c. Unit {0})
+unfolding whole_of
+whole-judged octets =
+    subst (λ o. Judged (der (element_at 0x30 (from_front octets)) >>= λ e. signed_of e.0 >>= λ shape. der (end_at e.1) >>= λ done. rest shape) o (λ c. Unit {0}))
+    (sym (grouped (header_fault (from_front octets) or_else row_fault certificate (element_of (from_front octets))) (judge nothing (behind (from_front octets))) (algorithms_fault octets) fields))
+    (element-judged 0x30 certificate_fields no_rules (from_front octets) signed_of (λ e shape. der (end_at e.1) >>= λ done. rest shape) _ IsRead (λ c. Unit {0})
+    (itself (signed_of front) _ (Identified front) (signed-judged front)) (λ shape h t same.
+    end-judged (behind (from_front octets)) (λ done. rest shape) (algorithms_fault octets or_else fields) (λ c. Unit {0}) (λ e.
+    bind (agreed shape) (λ c. unless_broken (extensions_fault shape.certificate.tbsCertificate.version shape.late) c) (algorithms_fault octets) fields (λ c. Unit {0}) (λ c. Unit {0}) (agreed-judged octets shape same.0) (λ c p.
+    subst (λ (r : Result Unagreed CertFault). Judged (unless_broken (extensions_fault shape.certificate.tbsCertificate.version shape.late) c) (fields_fault r) (λ c. Unit {0})) (sym same.1) (rules-judged _ c)))))
+  where
+    front : Tlv
+    front = element_of (from_front octets)
+
+    fields : Option CertFault
+    fields = fields_fault (signed_of front)
+
+    IsRead : Unagreed → Type 0
+    IsRead s = Identified front s × (signed_of front ≡ Ok s)
+
+    rest : Unagreed → Result Certificate CertFault
+    rest shape = agreed shape >>= λ c. unless_broken (extensions_fault shape.certificate.tbsCertificate.version shape.late) c
+
+    grouped : (a b c d : Option CertFault) → (a or_else b or_else c or_else d) ≡ (a or_else (b or_else (c or_else d)))
+    grouped (Some x) b c d = refl
+    grouped None (Some x) c d = refl
+    grouped None None c d = refl
 
 -- what reading a certificate refuses is the first rule of the table that is broken
 pub judged : (octets : List ℕ) → refusal (certificate_of octets) ≡ certificate_fault octets
@@ -333,7 +391,7 @@ unfolding certificate_of
 judged octets = by_size (nat_lt 65536 (length octets))
   where
     by_size : (b : Bool) → refusal (cond b (Err (breaks 0 (Der TooLarge))) (whole_of octets))
-        ≡ cond b (Some (breaks 0 (Der TooLarge))) (judge (certificate then nothing) (from_front octets) or_else algorithms_fault octets)
+        ≡ cond b (Some (breaks 0 (Der TooLarge))) (judge (certificate then nothing) (from_front octets) or_else algorithms_fault octets or_else fields_fault (signed_of (nth 0 (from_front octets))))
     by_size true = refl
     by_size false = refusal-judged (whole_of octets) _ (λ c. Unit {0}) (whole-judged octets)
 

@@ -1,21 +1,27 @@
--- Algorithm identifiers and keys, each as it is read and spelled.
-use Rattle.std.proofs.Common.{◌≡◌, ℕ, ◌+◌, Bool, true, false, cond, List, [], ◌++◌, length, Option, Some, None, Result, Ok, refl, sym, ap, subst, ◌∙◌, arith}
+-- Algorithm identifiers, keys and unique identifiers, each as it is read and spelled.
+use Rattle.std.proofs.Common.{◌≡◌, ℕ, ◌+◌, Bool, true, false, cond, List, [], ◌∷◌, ◌++◌, length, Option, Some, None, Result, Ok, refl, sym, ap, subst, ◌∙◌, arith}
 use Rattle.std.specs.Prelude.{unwrap_or}
 use Rattle.std.proofs.lemmas.List.{append-nil}
 use Rattle.ts_der.specs.declared.fault.Fault.{Fault}
 use Rattle.ts_der.specs.Octets.{AreOctets}
 use Rattle.ts_der.specs.Answer.{◌>>=◌}
+use Rattle.ts_der.specs.BitString.{bits_of, bit_parts, bits_rules}
+use Rattle.ts_der.specs.Rules.{first_broken, value_unless}
 use Rattle.ts_der.specs.Element.{Place, Tlv, spell, inside}
 use Rattle.ts_der.specs.Reading.{is_end, next_at, end_at}
+use Rattle.ts_der.proofs.BitStrings.{bits-found, bits-only}
 use Rattle.ts_der.proofs.Elements.{next-found}
+use Rattle.ts_der.proofs.RuleLists.{checked-value}
 use Rattle.ts_der.proofs.Laws.{bind_ok, ok_is, next-only}
 use Rattle.ts_name.specs.Fields.{Within, IsAny, oid_at, bits_at}
+use Rattle.ts_name.specs.Shape.{plain, der_rules}
 use Rattle.ts_name.proofs.Shapes.{end-ok, end-again}
 use Rattle.ts_name.proofs.Parts.{Value, Part, within-part, took}
 use Rattle.ts_name.proofs.FieldParts.{oid-part, bits-part}
 use Rattle.ts_cert.specs.Certificate.{Algorithm, KeyInfo}
-use Rattle.ts_cert.specs.Spelling.{AreParameters, IsAlgorithm, IsKeyInfo}
-use Rattle.ts_cert.specs.Reading.{parameters_at, algorithm_of, algorithm_at, key_of, key_at}
+use Rattle.ts_ext.proofs.Formats.{Format, by_der_rules}
+use Rattle.ts_cert.specs.Spelling.{AreParameters, IsAlgorithm, IsKeyInfo, IsUniqueIdentifier}
+use Rattle.ts_cert.specs.Reading.{parameters_at, algorithm_of, algorithm_at, key_of, key_at, unique_identifier_of}
 
 -- ---- algorithm identifiers
 
@@ -95,3 +101,19 @@ key-again e k w is =
 pub key-part : Part key_at (Within 0x30 IsKeyInfo)
 unfolding key_at
 key-part = within-part 0x30 key_of IsKeyInfo (record { found = key-found; again = key-again })
+
+-- ---- unique identifiers
+
+unique-kept : (c : List ℕ) → AreOctets c → first_broken bits_rules c ≡ None → IsUniqueIdentifier c (bit_parts c)
+unique-kept c fits kept =
+    let is = bits-found c (bit_parts c) (ap (λ o. value_unless o (bit_parts c)) kept) in
+    (is.parts ∙ sym (ap (λ (o : List ℕ). (bit_parts o).0 ∷ (bit_parts o).1) is.parts), is)
+
+unique-spelled : (c : List ℕ) (u : ℕ × List ℕ) → IsUniqueIdentifier c u → (first_broken bits_rules c ≡ None) × (bit_parts c ≡ u)
+unique-spelled c u is =
+    let v = checked-value (first_broken bits_rules c) (bit_parts c) (is.1.unused, is.1.octets) (bits-only c (bits_of u.0 u.1) is.1).0 in
+    (v.0, ap bit_parts is.0)
+
+pub unique_identifier-format : Format unique_identifier_of IsUniqueIdentifier plain (der_rules bits_rules)
+unfolding unique_identifier_of
+unique_identifier-format = by_der_rules bits_rules bit_parts IsUniqueIdentifier unique-kept unique-spelled

@@ -1,5 +1,6 @@
 pub mod KeyParts
 pub mod Periods
+pub mod FieldRules
 pub mod Certificates
 pub mod OneSpelling
 pub mod Judging

@@ -2,6 +2,7 @@ pub mod Certificate
 pub mod Period
 pub mod View
 pub mod Spelling
+pub mod Rules
 pub mod Version
 pub mod Time
 pub mod CertView

@@ -1,19 +1,22 @@
 -- Reading a certificate (RFC 5280 4.1) from front to back, up to the first rule that is broken. Each function reads one
 -- SEQUENCE of the standard, field by field in its order.
-use Rattle.std.specs.Prelude.{ℕ, nat_lt, List, length, Option, Some, None, Result, Ok, Err, if◌then◌else◌}
+use Rattle.std.specs.Prelude.{ℕ, nat_lt, List, length, Option, Some, None, option_map, map, Result, Ok, Err, if◌then◌else◌}
 use Rattle.std.specs.Str.{bytes_eq}
 use Rattle.ts_der.specs.declared.fault.DerFault.TheVariants.{TooLarge}
 use Rattle.ts_der.specs.declared.fault.Fault.{Fault}
 use Rattle.ts_der.specs.Answer.{◌>>=◌}
+use Rattle.ts_der.specs.BitString.{bits_rules, bit_parts}
 use Rattle.ts_der.specs.Element.{Place, Tlv, inside}
-use Rattle.ts_der.specs.Reading.{is_end, next_at, element_at, end_at}
+use Rattle.ts_der.specs.Reading.{is_end, next_at, element_at, value_at, end_at}
 use Rattle.ts_name.specs.declared.fault.CertRule.TheVariants.{Der, AlgorithmMismatch}
 use Rattle.ts_name.specs.declared.fault.CertFault.{CertFault}
 use Rattle.ts_name.specs.Fault.{der, breaks}
 use Rattle.ts_name.specs.Names.{within}
-use Rattle.ts_name.specs.Fields.{oid_at, integer_at, bits_at, name_at}
+use Rattle.ts_name.specs.Fields.{oid_at, integer_at, bits_at, name_at, optional_of}
+use Rattle.ts_ext.specs.Extension.{said, explicit_standings_of}
 use Rattle.ts_cert.specs.declared.time.Validity.{Validity}
-use Rattle.ts_cert.specs.Certificate.{Algorithm, KeyInfo, Tbs, Certificate}
+use Rattle.ts_cert.specs.Certificate.{Algorithm, KeyInfo, Certificate}
+use Rattle.ts_cert.specs.Rules.{LateFields, TbsStanding, extensions_fault}
 use Rattle.ts_cert.specs.Version.{version_at}
 use Rattle.ts_cert.specs.Time.{validity_of}
 
@@ -46,8 +49,30 @@ key_of e = do
 unfoldable pub key_at : Place → Result (KeyInfo × Place) Fault
 key_at = within 0x30 key_of
 
--- TBSCertificate ::= SEQUENCE { version, serialNumber, signature, issuer, validity, subject, subjectPublicKeyInfo }
-unfoldable pub tbs_of : Tlv → Result Tbs CertFault
+-- UniqueIdentifier ::= BIT STRING (4.1.2.8)
+unfoldable pub unique_identifier_of : Tlv → Result (ℕ × List ℕ) Fault
+unique_identifier_of = value_at bits_rules bit_parts
+
+-- issuerUniqueID [1] IMPLICIT UniqueIdentifier OPTIONAL, subjectUniqueID [2] IMPLICIT UniqueIdentifier OPTIONAL, extensions [3]
+-- EXPLICIT Extensions OPTIONAL, and no more
+unfoldable pub late_fields_at : Place → Result LateFields Fault
+late_fields_at here = do
+  issuer ← optional_of 0x81 unique_identifier_of here
+  subject ← optional_of 0x82 unique_identifier_of issuer.1
+  extensions ← optional_of 0xA3 explicit_standings_of subject.1
+  done ← end_at extensions.1
+  Ok (record {
+    issuerUniqueID = issuer.0;
+    subjectUniqueID = subject.0;
+    extensions = extensions.0;
+    issuerUniqueID_at = here.at;
+    subjectUniqueID_at = issuer.1.at;
+    extensions_at = subject.1.at;
+  })
+
+-- TBSCertificate ::= SEQUENCE { version, serialNumber, signature, issuer, validity, subject, subjectPublicKeyInfo, issuerUniqueID,
+-- subjectUniqueID, extensions }
+unfoldable pub tbs_of : Tlv → Result TbsStanding CertFault
 tbs_of e = do
   version ← version_at (inside e)
   serial ← der (integer_at version.1)
@@ -56,21 +81,29 @@ tbs_of e = do
   validity ← der (validity_at issuer.1)
   subject ← der (name_at validity.1)
   key ← der (key_at subject.1)
-  done ← der (end_at key.1)
+  late ← der (late_fields_at key.1)
   Ok (record {
-    version = version.0;
-    serialNumber = serial.0;
-    signature = signature.0;
-    issuer = issuer.0;
-    validity = validity.0;
-    subject = subject.0;
-    subjectPublicKeyInfo = key.0;
+    fields = record {
+      version = version.0;
+      serialNumber = serial.0;
+      signature = signature.0;
+      issuer = issuer.0;
+      validity = validity.0;
+      subject = subject.0;
+      subjectPublicKeyInfo = key.0;
+      issuerUniqueID = late.issuerUniqueID;
+      subjectUniqueID = late.subjectUniqueID;
+      extensions = option_map (map said) late.extensions;
+    };
+    late = late;
   })
 
--- a certificate whose algorithm identifiers have not been compared, with the place of the outer one
+-- a certificate whose algorithm identifiers have not been compared, with the place of the outer one, and the fields that version
+-- 1 does not have where they stand
 pub record Unagreed : Type 0 where
   pub certificate : Certificate
   pub identifier_at : ℕ
+  pub late : LateFields
 
 -- Certificate ::= SEQUENCE { tbsCertificate, signatureAlgorithm, signatureValue BIT STRING }
 unfoldable pub signed_of : Tlv → Result Unagreed CertFault
@@ -82,13 +115,19 @@ signed_of e = do
   signature ← der (bits_at identifier.1)
   done ← der (end_at signature.1)
   Ok (record {
-    certificate = record { tbs = tbs.0.whole; tbsCertificate = fields; signatureAlgorithm = algorithm; signatureValue = signature.0 };
+    certificate = record { tbs = tbs.0.whole; tbsCertificate = fields.fields; signatureAlgorithm = algorithm; signatureValue = signature.0 };
     identifier_at = identifier.0.at;
+    late = fields.late;
   })
 
 -- both algorithm identifiers are one (4.1.1.2)
 unfoldable pub agreed : Unagreed → Result Certificate CertFault
 agreed s = if bytes_eq s.certificate.tbsCertificate.signature.whole s.certificate.signatureAlgorithm.whole then Ok s.certificate else Err (breaks s.identifier_at AlgorithmMismatch)
+
+-- the rules of the fields are kept (4.1.2.1, 4.2)
+abbrev pub unless_broken : {A : Type 0} → Option CertFault → A → Result A CertFault
+unless_broken None x = Ok x
+unless_broken (Some f) x = Err f
 
 -- the certificate that octets are, and nothing behind it
 unfoldable pub whole_of : List ℕ → Result Certificate CertFault
@@ -96,7 +135,8 @@ whole_of octets = do
   e ← der (element_at 0x30 (record { rest = octets; at = 0 }))
   signed ← signed_of e.0
   done ← der (end_at e.1)
-  agreed signed
+  certificate ← agreed signed
+  unless_broken (extensions_fault signed.certificate.tbsCertificate.version signed.late) certificate
 
 -- octets that are at most 65,536, the limit of this profile
 unfoldable pub certificate_of : List ℕ → Result Certificate CertFault

@@ -1,16 +1,20 @@
 -- The table of a certificate (RFC 5280 4.1, as restated in Appendix A.1), and the first rule that octets break.
-use Rattle.std.specs.Prelude.{ℕ, zero, suc, ◌==◌, ◌||◌, not, nat_lt, Bool, false, List, [], ◌∷◌, length, Option, Some, None, is_some, if◌then◌else◌}
+use Rattle.std.specs.Prelude.{ℕ, zero, suc, ◌==◌, ◌||◌, not, nat_lt, Bool, false, List, [], ◌∷◌, length, Option, Some, None, is_some, Result, Ok, Err, if◌then◌else◌}
 use Rattle.std.specs.Str.{bytes_eq}
 use Rattle.ts_der.specs.declared.fault.DerFault.TheVariants.{TooLarge, DefaultEncoded, TimeForm}
 use Rattle.ts_der.specs.Element.{Place, Tlv, inside, spell}
 use Rattle.ts_der.specs.Reading.{begins_with, element_of, behind}
+use Rattle.ts_der.specs.BitString.{bits_rules}
 use Rattle.ts_der.specs.Integer.{integer_rules}
 use Rattle.ts_time.specs.Reading.{utc_in, general_in}
 use Rattle.ts_name.specs.declared.fault.CertRule.TheVariants.{Der, Version, AlgorithmMismatch}
 use Rattle.ts_name.specs.declared.fault.CertFault.{CertFault}
 use Rattle.ts_name.specs.Fault.{breaks}
-use Rattle.ts_name.specs.Shape.{ContentRules, Row, any, optional, tagged, no_other, nothing, ◌then◌, ◌or_else◌, judge, der_rules, one_rule, primitive, sequence, ◌or◌}
+use Rattle.ts_name.specs.Shape.{ContentRules, Row, any, optional, tagged, no_other, nothing, ◌then◌, ◌or_else◌, judge, der_rules, no_rules, one_rule, primitive, sequence, ◌or◌}
 use Rattle.ts_name.specs.Rows.{object_identifier, integer, bit_string, name}
+use Rattle.ts_ext.specs.Extension.{explicit_extensions}
+use Rattle.ts_cert.specs.Rules.{extensions_fault}
+use Rattle.ts_cert.specs.Reading.{Unagreed, signed_of}
 
 -- ---- certificates
 
@@ -59,6 +63,10 @@ validity = sequence (time then time then nothing)
 abbrev pub subject_public_key_info : Row
 subject_public_key_info = sequence (algorithm_identifier then bit_string then nothing)
 
+-- UniqueIdentifier ::= BIT STRING (4.1.2.8), of this tag
+abbrev pub unique_identifier : ℕ → Row
+unique_identifier tag = primitive tag (der_rules bits_rules)
+
 -- TBSCertificate ::= SEQUENCE (4.1.2)
 abbrev pub tbs_certificate : Row
 tbs_certificate =
@@ -77,6 +85,12 @@ tbs_certificate =
     then name
     -- subjectPublicKeyInfo SubjectPublicKeyInfo
     then subject_public_key_info
+    -- issuerUniqueID [1] IMPLICIT UniqueIdentifier OPTIONAL
+    then optional (unique_identifier 0x81)
+    -- subjectUniqueID [2] IMPLICIT UniqueIdentifier OPTIONAL
+    then optional (unique_identifier 0x82)
+    -- extensions [3] EXPLICIT Extensions OPTIONAL
+    then optional (tagged 0xA3 explicit_extensions no_rules no_other)
     then nothing)
 
 -- Certificate ::= SEQUENCE { tbsCertificate TBSCertificate, signatureAlgorithm AlgorithmIdentifier, signatureValue BIT STRING } (4.1.1)
@@ -112,8 +126,14 @@ algorithms_fault octets =
     if bytes_eq (signature_element octets).whole (signature_algorithm_element octets).whole then None
     else Some (breaks (signature_algorithm_element octets).at AlgorithmMismatch)
 
--- the first rule that is broken: at most 65,536 octets, the limit of this profile; the table, and nothing behind it; one algorithm
+-- the first rule that the fields break, where they were read
+abbrev pub fields_fault : Result Unagreed CertFault → Option CertFault
+fields_fault (Ok s) = extensions_fault s.certificate.tbsCertificate.version s.late
+fields_fault (Err f) = None
+
+-- the first rule that is broken: at most 65,536 octets, the limit of this profile; the table, and nothing behind it; one
+-- algorithm; then the rules of fields that a version may not have and of extensions
 abbrev pub certificate_fault : List ℕ → Option CertFault
 certificate_fault octets =
     if nat_lt 65536 (length octets) then Some (breaks 0 (Der TooLarge))
-    else judge (certificate then nothing) (from_front octets) or_else algorithms_fault octets
+    else judge (certificate then nothing) (from_front octets) or_else algorithms_fault octets or_else fields_fault (signed_of (nth 0 (from_front octets)))

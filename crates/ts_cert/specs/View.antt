@@ -1,11 +1,20 @@
 -- What contracts see of the parts that a certificate lends: octets, without where they lie in memory.
+use Rattle.std.specs.Prelude.{List, map, option_map}
 use Rattle.std.specs.Option.{option_copied}
+use Rattle.ts_der.specs.declared.reader.Element.{Element}
+use Rattle.ts_der.specs.BitsView.{parts_of}
+use Rattle.ts_der.specs.Element.{inside}
+use Rattle.ts_der.specs.View.{now}
+use Rattle.ts_name.specs.Items.{items_at}
 use Rattle.ts_name.specs.NameView.{rdns_in}
+use Rattle.ts_ext.specs.Extension.{Standing, said, standing_in}
 use Rattle.ts_cert.specs.declared.algorithm.AlgorithmIdentifier.{AlgorithmIdentifier}
 use Rattle.ts_cert.specs.declared.key.SubjectPublicKeyInfo.{SubjectPublicKeyInfo}
+use Rattle.ts_cert.specs.declared.late.LateFields.{LateFields as Late}
 use Rattle.ts_cert.specs.declared.tbs.TbsCertificate.{TbsCertificate}
 use Rattle.ts_cert.specs.Period.{validity_in}
 use Rattle.ts_cert.specs.Certificate.{Algorithm, KeyInfo, Tbs}
+use Rattle.ts_cert.specs.Rules.{LateFields, TbsStanding}
 
 abbrev pub algorithm_in : AlgorithmIdentifier → Algorithm
 algorithm_in a = record { algorithm = a.algorithm.now; parameters = option_copied a.parameters; whole = a.whole.now }
@@ -13,8 +22,23 @@ algorithm_in a = record { algorithm = a.algorithm.now; parameters = option_copie
 abbrev pub key_in : SubjectPublicKeyInfo → KeyInfo
 key_in k = record { algorithm = algorithm_in k.algorithm; subjectPublicKey = k.subject_public_key.now }
 
-abbrev pub tbs_in : TbsCertificate → Tbs
-tbs_in t =
+-- the extensions within their SEQUENCE
+abbrev pub standings_within : Element → List Standing
+standings_within e = items_at standing_in (inside (now e))
+
+abbrev pub late_in : Late → LateFields
+late_in l =
+    record {
+      issuerUniqueID = option_map parts_of l.issuer_unique_id;
+      subjectUniqueID = option_map parts_of l.subject_unique_id;
+      extensions = option_map standings_within l.extensions;
+      issuerUniqueID_at = l.places.issuer_unique_id;
+      subjectUniqueID_at = l.places.subject_unique_id;
+      extensions_at = l.places.extensions;
+    }
+
+abbrev pub fields_in : TbsCertificate → Tbs
+fields_in t =
     record {
       version = t.version;
       serialNumber = t.serial_number.octets.now;
@@ -23,4 +47,11 @@ tbs_in t =
       validity = validity_in t.period;
       subject = rdns_in t.subject;
       subjectPublicKeyInfo = key_in t.subject_public_key_info;
+      issuerUniqueID = option_map parts_of t.late.issuer_unique_id;
+      subjectUniqueID = option_map parts_of t.late.subject_unique_id;
+      extensions = option_map (map said) (option_map standings_within t.late.extensions);
     }
+
+-- the same with places
+abbrev pub tbs_in : TbsCertificate → TbsStanding
+tbs_in t = record { fields = fields_in t; late = late_in t.late }

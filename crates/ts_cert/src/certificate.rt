@@ -15,7 +15,8 @@ ghost use Rattle.ts_cert.specs.CertView.{cert_in};
 use crate::algorithm::AlgorithmIdentifier;
 use crate::key::SubjectPublicKeyInfo;
 use crate::shape::read_whole;
-use crate::time::{Period, Validity};
+use crate::tbs::TbsCertificate;
+use crate::time::Validity;
 use crate::version::Version;
 use ts_der::{DerFault, Integer};
 use ts_name::{CertFault, CertRule, Name};
@@ -27,13 +28,7 @@ pub const MAX_CERTIFICATE: usize = 65_536;
 #[derive(Clone, Copy)]
 pub struct Cert<'a> {
     pub(crate) tbs: &'a [u8],
-    pub(crate) version: Version,
-    pub(crate) serial_number: Integer<'a>,
-    pub(crate) signature: AlgorithmIdentifier<'a>,
-    pub(crate) issuer: Name<'a>,
-    pub(crate) period: Period,
-    pub(crate) subject: Name<'a>,
-    pub(crate) subject_public_key_info: SubjectPublicKeyInfo<'a>,
+    pub(crate) fields: TbsCertificate<'a>,
     pub(crate) signature_algorithm: AlgorithmIdentifier<'a>,
     pub(crate) signature_value: &'a [u8],
     /// The offset of the algorithm identifier beside the signature.
@@ -70,46 +65,46 @@ impl<'a> Cert<'a> {
     pub fn version(self) -> Version
         ensures { result ≡ (cert_in self.entry).tbsCertificate.version }
     {
-        self.version
+        self.fields.version
     }
 
     /// The serial number, of any length and sign (RFC 5280 4.1.2.2).
     pub fn serial_number(self) -> Integer<'a>
         ensures { result.octets.now ≡ (cert_in self.entry).tbsCertificate.serialNumber }
     {
-        self.serial_number
+        self.fields.serial_number
     }
 
     /// The issuer (RFC 5280 4.1.2.4).
     pub fn issuer(self) -> Name<'a>
         ensures { rdns_in result ≡ (cert_in self.entry).tbsCertificate.issuer }
     {
-        self.issuer
+        self.fields.issuer
     }
 
     /// From when to when the certificate is valid (RFC 5280 4.1.2.5).
     pub fn validity(self) -> Validity
         ensures { result ≡ (cert_in self.entry).tbsCertificate.validity }
     {
-        self.period.validity()
+        self.fields.period.validity()
     }
 
     /// The subject (RFC 5280 4.1.2.6).
     pub fn subject(self) -> Name<'a>
         ensures { rdns_in result ≡ (cert_in self.entry).tbsCertificate.subject }
     {
-        self.subject
+        self.fields.subject
     }
 
     /// Whether issuer and subject are one name (RFC 5280 6.1).
     pub fn is_self_issued(self) -> bool
         ensures { IsTrue result ↔ (canon_name (cert_in self.entry).tbsCertificate.issuer ≡ canon_name (cert_in self.entry).tbsCertificate.subject) }
     {
-        let Cert {
+        let TbsCertificate {
             issuer,
             subject,
             ..
-        } = self;
+        } = self.fields;
         issuer.same(subject)
     }
 
@@ -117,7 +112,7 @@ impl<'a> Cert<'a> {
     pub fn subject_public_key_info(self) -> SubjectPublicKeyInfo<'a>
         ensures { key_in result ≡ (cert_in self.entry).tbsCertificate.subjectPublicKeyInfo }
     {
-        self.subject_public_key_info
+        self.fields.subject_public_key_info
     }
 
     /// The algorithm of the signature; it is the same within what is signed and beside the signature (RFC 5280 4.1.1.2).

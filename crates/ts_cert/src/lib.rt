@@ -1,4 +1,4 @@
-//! X.509 certificates (RFC 5280 4.1), up to the subject's public key, read where they lie: no memory, no copy, and of
+//! X.509 certificates (RFC 5280 4.1), read where they lie: no memory, no copy, and of
 //! octets that are none the first rule that is broken, with its place.
 #![tactic(auto)]
 
@@ -6,10 +6,12 @@ mod algorithm;
 mod certificate;
 mod fields;
 mod key;
+mod late;
 pub mod laws;
 mod owned;
 #[cfg(test)]
 mod owned_tests;
+mod rules;
 mod shape;
 mod tbs;
 #[cfg(test)]

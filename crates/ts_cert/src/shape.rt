@@ -9,6 +9,7 @@ ghost use Rattle.ts_cert.specs.CertView.{unagreed_in, cert_in};
 use crate::algorithm::read_algorithm;
 use crate::certificate::Cert;
 use crate::fields::{SEQUENCE, next_bits};
+use crate::rules::broken_rule;
 use crate::tbs::read_tbs;
 use ts_der::{Element, Reader};
 use ts_name::{CertFault, CertRule};
@@ -27,13 +28,7 @@ fn read_signed<'a>(element: Element<'a>) -> Result<Cert<'a>, CertFault>
     fields.end()?;
     Ok(Cert {
         tbs: tbs.whole,
-        version: signed.version,
-        serial_number: signed.serial_number,
-        signature: signed.signature,
-        issuer: signed.issuer,
-        period: signed.period,
-        subject: signed.subject,
-        subject_public_key_info: signed.subject_public_key_info,
+        fields: signed,
         signature_algorithm,
         signature_value,
         identifier_at: identifier.at,
@@ -45,7 +40,7 @@ fn read_signed<'a>(element: Element<'a>) -> Result<Cert<'a>, CertFault>
 fn agrees(cert: &Cert<'_>) -> Result<(), CertFault>
     ensures { refusal result ≡ refusal (agreed (unagreed_in cert.now)) }
 {
-    if cert.signature.whole != cert.signature_algorithm.whole {
+    if cert.fields.signature.whole != cert.signature_algorithm.whole {
         return Err(CertFault {
             kind: CertRule::AlgorithmMismatch,
             at: cert.identifier_at,
@@ -64,5 +59,8 @@ pub(crate) fn read_whole(octets: &[u8]) -> Result<Cert<'_>, CertFault>
     let cert = read_signed(element)?;
     reader.end()?;
     agrees(&cert)?;
-    Ok(cert)
+    match broken_rule(cert.fields.version, &cert.fields.late) {
+        Some(fault) => Err(fault),
+        None => Ok(cert),
+    }
 }

@@ -1,4 +1,4 @@
-//! What is signed: all fields up to the subject's public key.
+//! What is signed.
 
 ghost use Rattle.ts_der.specs.Answer.{Answers};
 ghost use Rattle.ts_der.specs.View.{now};
@@ -8,6 +8,7 @@ ghost use Rattle.ts_cert.specs.View.{tbs_in};
 use crate::algorithm::{AlgorithmIdentifier, next_algorithm};
 use crate::fields::{next_integer, next_name};
 use crate::key::{SubjectPublicKeyInfo, next_key};
+use crate::late::{LateFields, read_late_fields};
 use crate::time::{Period, next_validity};
 use crate::version::{Version, next_version};
 use ts_der::{Element, Integer};
@@ -23,6 +24,7 @@ pub(crate) struct TbsCertificate<'a> {
     pub period: Period,
     pub subject: Name<'a>,
     pub subject_public_key_info: SubjectPublicKeyInfo<'a>,
+    pub late: LateFields<'a>,
 }
 
 /// The fields that a SEQUENCE holds.
@@ -38,7 +40,7 @@ pub(crate) fn read_tbs<'a>(element: Element<'a>) -> Result<TbsCertificate<'a>, C
     let validity = next_validity(&mut fields)?;
     let subject = next_name(&mut fields)?;
     let subject_public_key_info = next_key(&mut fields)?;
-    fields.end()?;
+    let late = read_late_fields(&mut fields)?;
     Ok(TbsCertificate {
         version,
         serial_number,
@@ -47,5 +49,6 @@ pub(crate) fn read_tbs<'a>(element: Element<'a>) -> Result<TbsCertificate<'a>, C
         period: Period::of(validity),
         subject,
         subject_public_key_info,
+        late,
     })
 }

@@ -75,6 +75,13 @@ impl<'a> Reader<'a> {
         }
     }
 
+    /// The offset in the input of what is left.
+    pub fn offset(&self) -> usize
+        ensures { result ≡ self.now.at }
+    {
+        self.at
+    }
+
     /// Whether no octet is left.
     #[tactic(auto, using(crate::proofs::Ends::is_end_is))]
     pub fn is_at_end(&self) -> bool

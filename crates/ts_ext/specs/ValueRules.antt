@@ -1,8 +1,11 @@
--- The first rule that the values of extensions break, one extension after another (RFC 5280 4.2, 5.2, 5.3).
+-- The first rule that a list of extensions breaks: none stands twice, and then those of the values, one extension after another
+-- (RFC 5280 4.2, 5.2, 5.3).
 use Rattle.std.specs.Prelude.{◌≡◌, ℕ, List, [], ◌∷◌, Option, None, Result, Ok, Err, option_map}
 use Rattle.ts_der.specs.declared.fault.Fault.{Fault}
+use Rattle.ts_name.specs.declared.fault.CertRule.TheVariants.{DuplicateExtension}
 use Rattle.ts_name.specs.declared.fault.CertFault.{CertFault}
 use Rattle.ts_name.specs.Fault.{breaks}
+use Rattle.ts_name.specs.Repeats.{first_repeated}
 use Rattle.ts_name.specs.Shape.{◌or_else◌}
 use Rattle.ts_ext.specs.declared.known.Holder.{Holder}
 use Rattle.ts_ext.specs.declared.known.Holder.TheVariants.{Certificate}
@@ -10,6 +13,10 @@ use Rattle.ts_ext.specs.Ext.{ExtValue, IsExt, ext_of, ext_fault}
 use Rattle.ts_ext.specs.Extension.{Extension, Standing}
 use Rattle.ts_ext.specs.Known.{known_at}
 use Rattle.ts_ext.specs.Rules.{broken_rule}
+
+-- the first extension that is one of those before it once more (4.2)
+abbrev pub repeated_fault : List Standing → Option CertFault
+repeated_fault xs = option_map (λ x. breaks x.at DuplicateExtension) (first_repeated (λ x. x.extnID) [] xs)
 
 -- the place of a rule that is not one of DER: the extension of a certificate, none elsewhere
 abbrev pub rule_place : Holder → ℕ → ℕ

@@ -4,9 +4,10 @@ ghost use Rattle.std.specs.List.{find};
 ghost use Rattle.std.specs.Str.{bytes_eq};
 ghost use Rattle.std.specs.Prelude.{◌≡◌, ◌↔◌, ℕ, List, [], None, IfOk, IsOkAnd, option_map};
 ghost use Rattle.ts_der.specs.Answer.{Answers, refusal};
+ghost use Rattle.ts_der.specs.Element.{inside};
 ghost use Rattle.ts_der.specs.View.{now};
 ghost use Rattle.ts_name.specs.Fault.{about};
-ghost use Rattle.ts_name.specs.Shape.{no_rules};
+ghost use Rattle.ts_name.specs.Shape.{no_rules, ◌or_else◌};
 ghost use Rattle.ts_name.specs.Items.{items_at};
 ghost use Rattle.ts_name.specs.Repeats.{first_repeated as first_repeated_of};
 ghost use Rattle.ts_ext.specs.Inner.{inner_fault};
@@ -14,14 +15,14 @@ ghost use Rattle.ts_ext.specs.Extension.{Extension as Stated, AreExtensions, Are
 ghost use Rattle.ts_ext.specs.ExtensionView.{standing_as, standings_in, extensions_in};
 ghost use Rattle.ts_ext.specs.Known.{identifier_of};
 ghost use Rattle.ts_ext.specs.Table.{list_rules};
-ghost use Rattle.ts_ext.specs.ValueRules.{rule_place, value_fault, values_fault, AreSound};
+ghost use Rattle.ts_ext.specs.ValueRules.{repeated_fault, rule_place, value_fault, values_fault, AreSound};
 
 use crate::ext::Ext;
 use crate::extension::Extension;
 use crate::fields::SEQUENCE;
 use crate::known::{Holder, Known};
 use ts_der::{Element, Fault};
-use ts_name::{CertFault, SequenceItems, SequenceOf, first_repeated, tagged_as};
+use ts_name::{CertFault, CertRule, SequenceItems, SequenceOf, first_repeated, tagged_as};
 
 /// Extensions, one or more (RFC 5280 4.1, 4.2).
 #[derive(Clone, Copy)]
@@ -67,6 +68,16 @@ impl<'a> Extensions<'a> {
         read_within(element)
     }
 
+    /// The list within a SEQUENCE that `read` has accepted before. Of another element it is what stands before the first
+    /// that is no extension.
+    pub fn within(element: Element<'a>) -> Extensions<'a>
+        ensures { standings_in result ≡ items_at standing_in (inside (now element.entry)) }
+    {
+        Extensions {
+            list: SequenceOf::within(element),
+        }
+    }
+
     /// The extensions, in their order.
     pub fn iter(self) -> SequenceItems<'a, Extension<'a>>
         ensures { items_at standing_in result.rest ≡ standings_in self.entry }
@@ -104,6 +115,20 @@ impl<'a> Extensions<'a> {
         ensures sound { (result ≡ None) ↔ AreSound holder (extensions_in self.entry) }
     {
         first_broken_value(self, holder)
+    }
+
+    /// The first rule that the list breaks: `DuplicateExtension` at the first extension that stands twice, then the first
+    /// rule that a value breaks.
+    pub fn first_fault(self, holder: Holder) -> Option<CertFault>
+        ensures { result ≡ (repeated_fault (standings_in self.entry) or_else values_fault holder (standings_in self.entry)) }
+    {
+        match first_repeated::<Extension<'a>>(self.list.element) {
+            Some(extension) => Some(CertFault {
+                kind: CertRule::DuplicateExtension,
+                at: extension.at,
+            }),
+            None => first_broken_value(self, holder),
+        }
     }
 }
 

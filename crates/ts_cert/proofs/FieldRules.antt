@@ -1,0 +1,117 @@
+-- The rules of the fields beside their shape: what is kept where they stand is what is said of the record.
+use Rattle.std.proofs.Common.{◌≡◌, ℕ, Bool, true, false, cond, List, [], ◌∷◌, Option, Some, None, refl, sym, ap, subst, ◌∙◌}
+use Rattle.std.specs.Prelude.{map, option_map, unwrap_or}
+use Rattle.ts_name.specs.declared.fault.CertRule.TheVariants.{DuplicateExtension}
+use Rattle.ts_name.specs.declared.fault.CertFault.{CertFault}
+use Rattle.ts_name.specs.Fault.{breaks}
+use Rattle.ts_name.specs.Repeats.{is_among, first_repeated}
+use Rattle.ts_name.specs.Shape.{◌or_else◌}
+use Rattle.ts_ext.specs.declared.known.Holder.TheVariants.{Certificate as CertificateHolder}
+use Rattle.ts_ext.specs.Extension.{Extension, Standing, said}
+use Rattle.ts_ext.specs.ValueRules.{repeated_fault, AreSound}
+use Rattle.ts_ext.proofs.Soundness.{AllOctets, are-sound, no-fault}
+use Rattle.ts_cert.specs.declared.version.Version.{Version}
+use Rattle.ts_cert.specs.declared.version.Version.TheVariants.{V1, V2, V3}
+use Rattle.ts_cert.specs.Certificate.{Tbs, all_extensions}
+use Rattle.ts_cert.specs.Rules.{LateFields, standings, must_lack, version_fault, extensions_fault}
+use Rattle.ts_cert.specs.Spelling.{FitsVersion}
+
+neither : (a b : Option CertFault) → (a or_else b) ≡ None → (a ≡ None) × (b ≡ None)
+neither None b e = (refl, e)
+neither (Some f) b e = absurd cc
+
+-- ---- the fields that a version has
+
+lacks : {A : Type 0} (o : Option A) (at : ℕ) → must_lack o at ≡ None → o ≡ None
+lacks None at e = refl
+lacks (Some x) at e = absurd cc
+
+-- what extensions say, if there are any
+abbrev said_if_any : Option (List Standing) → Option (List Extension)
+said_if_any = option_map (map said)
+
+none-said : (o : Option (List Standing)) → o ≡ None → said_if_any o ≡ None
+none-said o e = ap said_if_any e
+
+said-none : (o : Option (List Standing)) → said_if_any o ≡ None → o ≡ None
+said-none None e = refl
+said-none (Some xs) e = absurd cc
+
+-- a record has the fields that stand here
+pub record Has (t : Tbs) (l : LateFields) : Type 0 where
+  pub issuer : t.issuerUniqueID ≡ l.issuerUniqueID
+  pub subject : t.subjectUniqueID ≡ l.subjectUniqueID
+  pub extensions : t.extensions ≡ said_if_any l.extensions
+
+version-fits : (v : Version) (t : Tbs) (l : LateFields) → Has t l → version_fault v l ≡ None → FitsVersion v t
+version-fits V1 t l has e =
+    let first = neither (must_lack l.issuerUniqueID l.issuerUniqueID_at or_else must_lack l.subjectUniqueID l.subjectUniqueID_at) _ e in
+    let second = neither (must_lack l.issuerUniqueID l.issuerUniqueID_at) _ first.0 in
+    (has.issuer ∙ lacks l.issuerUniqueID l.issuerUniqueID_at second.0, has.subject ∙ lacks l.subjectUniqueID l.subjectUniqueID_at second.1, has.extensions ∙ none-said l.extensions (lacks l.extensions l.extensions_at first.1))
+version-fits V2 t l has e = has.extensions ∙ none-said l.extensions (lacks l.extensions l.extensions_at e)
+version-fits V3 t l has e = tt
+
+version-kept : (v : Version) (t : Tbs) (l : LateFields) → Has t l → FitsVersion v t → version_fault v l ≡ None
+version-kept V1 t l has is = rw (sym has.issuer ∙ is.0, sym has.subject ∙ is.1, said-none l.extensions (sym has.extensions ∙ is.2)) refl
+version-kept V2 t l has is = rw (said-none l.extensions (sym has.extensions ∙ is)) refl
+version-kept V3 t l has is = refl
+
+-- ---- extensions that stand twice
+
+repeated-said : (seen : List (List ℕ)) (xs : List Standing) → first_repeated (λ x. x.extnID) seen (map said xs) ≡ option_map said (first_repeated (λ x. x.extnID) seen xs)
+unfolding first_repeated
+repeated-said seen [] = refl
+repeated-said seen (x ∷ xs) = by_test (repeated-said (x.extnID ∷ seen) xs) (is_among x.extnID seen)
+  where
+    others : Option Extension
+    others = first_repeated (λ y. y.extnID) (x.extnID ∷ seen) (map said xs)
+
+    by_test : others ≡ option_map said (first_repeated (λ y. y.extnID) (x.extnID ∷ seen) xs) → (b : Bool)
+        → cond b (Some (said x)) others ≡ option_map said (cond b (Some x) (first_repeated (λ y. y.extnID) (x.extnID ∷ seen) xs))
+    by_test more true = refl
+    by_test more false = more
+
+repeated-none : (xs : List Standing) → repeated_fault xs ≡ None → first_repeated (λ x. x.extnID) [] (map said xs) ≡ None
+repeated-none xs e = repeated-said [] xs ∙ by_option (first_repeated (λ x. x.extnID) [] xs) e
+  where
+    by_option : (o : Option Standing) → option_map (λ x. breaks x.at DuplicateExtension) o ≡ None → option_map said o ≡ None
+    by_option None e = refl
+    by_option (Some x) e = absurd cc
+
+none-repeated : (xs : List Standing) → first_repeated (λ x. x.extnID) [] (map said xs) ≡ None → repeated_fault xs ≡ None
+none-repeated xs e = by_option (first_repeated (λ x. x.extnID) [] xs) (sym (repeated-said [] xs) ∙ e)
+  where
+    by_option : (o : Option Standing) → option_map said o ≡ None → option_map (λ x. breaks x.at DuplicateExtension) o ≡ None
+    by_option None e = refl
+    by_option (Some x) e = absurd cc
+
+-- ---- all of them
+
+-- what a certificate keeps to beside its shape
+abbrev pub KeepsRules : Tbs → Type 0
+KeepsRules t = FitsVersion t.version t × (first_repeated (λ x. x.extnID) [] (all_extensions t) ≡ None) × AreSound CertificateHolder (all_extensions t)
+
+-- a record's extensions are what those say that stand here
+all-said : (t : Tbs) (l : LateFields) → Has t l → all_extensions t ≡ map said (standings l)
+all-said t l has = ap (λ (o : Option (List Extension)). unwrap_or o []) has.extensions ∙ by_option l.extensions
+  where
+    by_option : (o : Option (List Standing)) → unwrap_or (said_if_any o) [] ≡ map said (unwrap_or o [])
+    by_option None = refl
+    by_option (Some xs) = refl
+
+pub rules-kept : (t : Tbs) (l : LateFields) → Has t l → AllOctets (standings l) → extensions_fault t.version l ≡ None → KeepsRules t
+rules-kept t l has fits e =
+    let first = neither (version_fault t.version l or_else repeated_fault (standings l)) _ e in
+    let second = neither (version_fault t.version l) _ first.0 in
+    let same = all-said t l has in
+    (version-fits t.version t l has second.0,
+    ap (λ (xs : List Extension). first_repeated (λ x. x.extnID) [] xs) same ∙ repeated-none (standings l) second.1,
+    subst (AreSound CertificateHolder) (sym same) (are-sound CertificateHolder (standings l) fits first.1))
+
+pub rules-again : (t : Tbs) (l : LateFields) → Has t l → KeepsRules t → extensions_fault t.version l ≡ None
+rules-again t l has is =
+    let same = all-said t l has in
+    let fits = version-kept t.version t l has is.0 in
+    let distinct = none-repeated (standings l) (sym (ap (λ (xs : List Extension). first_repeated (λ x. x.extnID) [] xs) same) ∙ is.1) in
+    let sound = no-fault CertificateHolder (standings l) (subst (AreSound CertificateHolder) same is.2) in
+    rw (fits, distinct, sound) refl
