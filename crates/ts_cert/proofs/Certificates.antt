@@ -318,16 +318,18 @@ signed-found e s fits read =
     let at_identifier : t.0.1.rest ≡ i.0.0.whole ++ bits.0 = identifier.whole ∙ ap (λ (r : List ℕ). i.0.0.whole ++ r) at_bits in
     let algorithm = algorithm-value.found i.0.0 a.0 identifier.inner identifier.spelled (der-ok (algorithm_of i.0.0) a.0 a.1) in
     let found = tbs-found t.0.0 f.0 tbs.inner f.1 in
-    subst (λ (x : Unagreed). IsSigned e.content x.certificate × AllOctets (standings x.late) × Has x.certificate.tbsCertificate x.late) same
-    (record {
-      identifier = i.0.0.whole;
-      bits = bits.0;
-      tbsCertificate = record { content = t.0.0.content; fits = tbs.fits; spelled = tbs.spelled; value = found.is };
-      signatureAlgorithm = record { content = i.0.0.content; fits = identifier.fits; spelled = identifier.spelled; value = algorithm };
-      signatureValue = bits.1;
-      fields = tbs.whole ∙ ap (λ (r : List ℕ). t.0.0.whole ++ r) at_identifier;
-    },
-    found.octets, found.has)
+    subst (λ (x : Unagreed). IsSigned e.content x.certificate × AllOctets (standings x.late) × Has x.certificate.tbsCertificate x.late) same (
+      record {
+        identifier = i.0.0.whole;
+        bits = bits.0;
+        tbsCertificate = record { content = t.0.0.content; fits = tbs.fits; spelled = tbs.spelled; value = found.is };
+        signatureAlgorithm = record { content = i.0.0.content; fits = identifier.fits; spelled = identifier.spelled; value = algorithm };
+        signatureValue = bits.1;
+        fields = tbs.whole ∙ ap (λ (r : List ℕ). t.0.0.whole ++ r) at_identifier;
+      },
+      found.octets,
+      found.has,
+    )
 
 signed-again : (e : Tlv) (c : Certificate) → IsSigned e.content c
     → (l : LateFields) × (signed_of e ≡ Ok (record { certificate = c; identifier_at = e.start + length c.tbs; late = l })) × Has c.tbsCertificate l

@@ -103,10 +103,11 @@ pub rules-kept : (t : Tbs) (l : LateFields) → Has t l → AllOctets (standings
 rules-kept t l has fits e =
     let first = neither (version_fault t.version l or_else repeated_fault (standings l)) _ e in
     let second = neither (version_fault t.version l) _ first.0 in
-    let same = all-said t l has in
-    (version-fits t.version t l has second.0,
-    ap (λ (xs : List Extension). first_repeated (λ x. x.extnID) [] xs) same ∙ repeated-none (standings l) second.1,
-    subst (AreSound CertificateHolder) (sym same) (are-sound CertificateHolder (standings l) fits first.1))
+    let same = all-said t l has in (
+      version-fits t.version t l has second.0,
+      ap (λ (xs : List Extension). first_repeated (λ x. x.extnID) [] xs) same ∙ repeated-none (standings l) second.1,
+      subst (AreSound CertificateHolder) (sym same) (are-sound CertificateHolder (standings l) fits first.1),
+    )
 
 pub rules-again : (t : Tbs) (l : LateFields) → Has t l → KeepsRules t → extensions_fault t.version l ≡ None
 rules-again t l has is =

@@ -4,6 +4,8 @@
 
 mod algorithm;
 mod certificate;
+#[cfg(test)]
+mod extension_tests;
 mod fields;
 mod key;
 mod late;
