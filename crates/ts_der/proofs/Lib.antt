@@ -13,6 +13,7 @@ pub mod Texts
 pub mod Many
 pub mod Sets
 pub mod Oids
+pub mod FewOctets
 pub mod Flags
 pub mod Unique
 pub mod OidNumbers

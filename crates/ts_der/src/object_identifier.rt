@@ -1,6 +1,6 @@
 //! Reading an OBJECT IDENTIFIER.
 
-ghost use Rattle.std.specs.Prelude.{◌≡◌, List, ℕ, IfOk, IsOkAnd};
+ghost use Rattle.std.specs.Prelude.{◌≡◌, ◌≤◌, List, ℕ, length, IfOk, IsOkAnd};
 ghost use Rattle.std.specs.List.{list_all};
 ghost use Rattle.ts_der.specs.Answer.{Answers, refusal};
 ghost use Rattle.ts_der.specs.Rules.{checked};
@@ -37,11 +37,35 @@ fn are_subidentifiers(octets: &[u8]) -> bool
     !begun
 }
 
+/// How many octets have no number of 2^128 or more among their subidentifiers, each of which has 7 bits of an octet.
+const FEW: usize = 18;
+
+/// The same of few octets.
+#[tactic(auto, using(crate::proofs::FewOctets::goes_all))]
+fn are_few_subidentifiers(octets: &[u8]) -> bool
+    requires { length octets.now ≤ 18 }
+    ensures { result ≡ list_all is_subidentifier (series_of octets.now) }
+{
+    let mut is_open = false;
+    for octet in octets {
+        let is_padded = !is_open && *octet == 0x80;
+        if is_padded {
+            return false;
+        }
+        is_open = *octet >= 0x80;
+    }
+    !is_open
+}
+
 #[tactic(auto, unfolding(crate::specs::ObjectIdentifier::is_oid))]
 fn is_object_identifier(content: &[u8]) -> bool
     ensures { result ≡ is_oid content.now }
 {
-    !content.is_empty() && content.len() <= 128 && are_subidentifiers(content)
+    if content.len() <= FEW {
+        !content.is_empty() && are_few_subidentifiers(content)
+    } else {
+        content.len() <= 128 && are_subidentifiers(content)
+    }
 }
 
 fn read_oid(content: &[u8]) -> Result<OidRef<'_>, DerFault>
