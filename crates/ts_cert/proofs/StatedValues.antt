@@ -5,6 +5,7 @@ use Rattle.std.specs.List.{find}
 use Rattle.std.specs.Option.{option_and_then}
 use Rattle.std.specs.Result.{result_ok}
 use Rattle.std.specs.Str.{bytes_eq}
+use Rattle.std.proofs.lemmas.Slice.Eq.{bytes_eq-Decides}
 use Rattle.ts_der.specs.declared.fault.Fault.{Fault}
 use Rattle.ts_der.specs.declared.reader.Element.{Element}
 use Rattle.ts_der.specs.Octets.{AreOctets}
@@ -17,15 +18,21 @@ use Rattle.ts_name.specs.Shape.{Shape, ContentRules}
 use Rattle.ts_name.specs.Fields.{Within}
 use Rattle.ts_name.proofs.ItemParts.{tag-part, alone-found, alone-again}
 use Rattle.ts_ext.specs.declared.extension.Extension.{Extension as Lent}
+use Rattle.ts_ext.specs.declared.known.Holder.{Holder}
+use Rattle.ts_ext.specs.declared.known.Holder.TheVariants.{Certificate as CertificateHolder}
 use Rattle.ts_ext.specs.declared.known.Known.{Known}
 use Rattle.ts_ext.specs.AuthorityKey.{octets_of}
-use Rattle.ts_ext.specs.Ext.{layout_of}
+use Rattle.ts_ext.specs.Ext.{ExtValue, IsExt, layout_of, content_of, ext_of}
 use Rattle.ts_ext.specs.Extension.{Extension, Standing, said}
 use Rattle.ts_ext.specs.ExtensionView.{standing_as}
-use Rattle.ts_ext.specs.Known.{identifier_of}
+use Rattle.ts_ext.specs.Known.{known_at, identifier_of}
+use Rattle.ts_ext.specs.Rules.{broken_rule}
+use Rattle.ts_ext.specs.ValueRules.{IsSound, AreSound}
 use Rattle.ts_ext.proofs.Formats.{Format, value_of}
+use Rattle.ts_ext.proofs.Exts.{ext-again}
 use Rattle.ts_ext.proofs.KeyAndConstraints.{octets-format}
-use Rattle.ts_cert.specs.Certificate.{Tbs}
+use Rattle.ts_cert.specs.Certificate.{Tbs, all_extensions, Certificate}
+use Rattle.ts_cert.specs.Spelling.{IsCertificate}
 use Rattle.ts_cert.specs.Stated.{known_extension, value_of_octets, stated}
 
 -- ---- elements with one content
@@ -191,3 +198,46 @@ answer-same {A} format known t e r some answers = by_answer (result_ok r) ∙ an
     by_answer : (o : Option A) → o ≡ option_map (λ x. x) o
     by_answer None = refl
     by_answer (Some x) = refl
+
+-- ---- certificates
+
+-- what is found among extensions whose values break no rule is one of them
+find-sound : (holder : Holder) (p : Extension → Bool) (xs : List Extension) (x : Extension) → AreSound holder xs → find p xs ≡ Some x → IsSound holder x × (p x ≡ true)
+find-sound holder p [] x are e = absurd cc
+find-sound holder p (y ∷ ys) x are e = by_test (p y) refl (find-sound holder p ys x are.1) e
+  where
+    by_test : (b : Bool) → p y ≡ b → (find p ys ≡ Some x → IsSound holder x × (p x ≡ true)) → cond b (Some y) (find p ys) ≡ Some x → IsSound holder x × (p x ≡ true)
+    by_test true t more e = subst (λ (z : Extension). IsSound holder z × (p z ≡ true)) (some_is e) (are.0, t)
+      where
+        some_is : {a b : Extension} → Some a ≡ Some b → a ≡ b
+        some_is h = cc
+    by_test false t more e = more e
+
+-- an extension that stands has a value, which breaks no rule
+value-stated : (known : Known) (t : Tbs) → AreSound CertificateHolder (all_extensions t) → known_at CertificateHolder (identifier_of known) ≡ Some known → (x : Extension) → known_extension known t ≡ Some x
+    → (v : ExtValue) × (stated known (content_of known) t ≡ Some v) × (broken_rule v ≡ None)
+unfolding stated ext_of
+value-stated known t sound here x stands =
+    let f = find-sound CertificateHolder (λ y. bytes_eq y.extnID (identifier_of known)) (all_extensions t) x sound stands in
+    let same : x.extnID ≡ identifier_of known = (bytes_eq-Decides x.extnID (identifier_of known)).0 f.1 in
+    let is : IsExt (Some known) x.extnValue f.0.0 = subst (λ (o : Option Known). IsExt o x.extnValue f.0.0) (ap (λ (id : List ℕ). known_at CertificateHolder id) same ∙ here) f.0.1 in
+    let read = ext-again (Some known) (spelled_at 0 0x04 x.extnValue) f.0.0 is in
+    (f.0.0, rw stands (ap (λ (r : Result ExtValue Fault). result_ok r) read), f.0.2)
+
+pub has-value : (octets : List ℕ) (c : Certificate) → IsCertificate octets c → (known : Known) → known_at CertificateHolder (identifier_of known) ≡ Some known
+    → (x : Extension) → known_extension known c.tbsCertificate ≡ Some x → (v : ExtValue) × (stated known (content_of known) c.tbsCertificate ≡ Some v)
+has-value octets c is known here x stands = let v = value-stated known c.tbsCertificate is.sound here x stands in (v.0, v.1)
+
+pub keeps-rules : (octets : List ℕ) (c : Certificate) → IsCertificate octets c → (known : Known) → known_at CertificateHolder (identifier_of known) ≡ Some known
+    → (v : ExtValue) → stated known (content_of known) c.tbsCertificate ≡ Some v → broken_rule v ≡ None
+unfolding stated
+keeps-rules octets c is known here v says = by_extension (known_extension known c.tbsCertificate) refl says
+  where
+    some_is : {a b : ExtValue} → Some a ≡ Some b → a ≡ b
+    some_is h = cc
+
+    by_extension : (o : Option Extension) → known_extension known c.tbsCertificate ≡ o → option_and_then (λ x. value_of_octets known (content_of known) x.extnValue) o ≡ Some v → broken_rule v ≡ None
+    by_extension None stands e = absurd cc
+    by_extension (Some x) stands e =
+        let w = value-stated known c.tbsCertificate is.sound here x stands in
+        ap (λ (y : ExtValue). broken_rule y) (some_is (sym says ∙ w.1)) ∙ w.2
