@@ -4,3 +4,4 @@ pub mod FieldRules
 pub mod Certificates
 pub mod OneSpelling
 pub mod Judging
+pub mod StatedValues

@@ -7,5 +7,6 @@ pub mod Version
 pub mod Time
 pub mod CertView
 pub mod Reading
+pub mod Stated
 pub mod Table
 pub mod Printed

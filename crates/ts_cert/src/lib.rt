@@ -15,6 +15,7 @@ mod owned;
 mod owned_tests;
 mod rules;
 mod shape;
+mod stated;
 mod tbs;
 #[cfg(test)]
 mod tests;

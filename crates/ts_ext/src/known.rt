@@ -126,7 +126,7 @@ impl Known {
     }
 
     /// The tag of the element that its value is.
-    pub(crate) fn tag(self) -> u8
+    pub fn tag(self) -> u8
         ensures { result ≡ (layout_of self).tag }
     {
         match self {

@@ -1,0 +1,12 @@
+use Rattle.ts_ext.proofs.Constraints.{basic_constraints-format}
+use Rattle.ts_ext.specs.Reading.{basic_constraints_of}
+use Rattle.ts_ext.specs.declared.known.Known.TheVariants as extension
+use Rattle.ts_cert.specs.View.{fields_in}
+use Rattle.ts_cert.proofs.StatedValues.{stated-none, answer-same}
+use Rattle.ts_cert.proofs.certificate.Cert.basic_constraints.Goals as goal
+
+pub returns-in_err-content : goal.returns-in_err-content
+returns-in_err-content c = rw c.from_residual.ensures (stated-none basic_constraints_of extension.BasicConstraints (fields_in c.args.self.fields) c.in_err-content.ensures)
+
+pub returns : goal.returns
+returns c = rw c.ok.ensures.value (answer-same basic_constraints-format extension.BasicConstraints (fields_in c.args.self.fields) c.in_ok-content.field-0 c.read.result c.in_ok-content.ensures c.read.ensures.exact)

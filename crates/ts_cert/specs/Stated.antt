@@ -1,0 +1,27 @@
+-- What a certificate says by an extension (RFC 5280 4.2): the value that the octets of the extension are.
+use Rattle.std.specs.Prelude.{ℕ, List, Option, Result}
+use Rattle.std.specs.List.{find}
+use Rattle.std.specs.Option.{option_and_then}
+use Rattle.std.specs.Result.{result_ok}
+use Rattle.std.specs.Str.{bytes_eq}
+use Rattle.ts_der.specs.declared.fault.Fault.{Fault}
+use Rattle.ts_der.specs.Element.{Tlv, spelled_at}
+use Rattle.ts_name.specs.Items.{alone, of_tag}
+use Rattle.ts_ext.specs.declared.known.Known.{Known}
+use Rattle.ts_ext.specs.Ext.{layout_of}
+use Rattle.ts_ext.specs.Extension.{Extension}
+use Rattle.ts_ext.specs.Known.{identifier_of}
+use Rattle.ts_cert.specs.Certificate.{Tbs, all_extensions}
+
+-- the extension that has the object identifier of this one (4.2.1), if it stands; it stands once (4.2)
+abbrev pub known_extension : Known → Tbs → Option Extension
+known_extension known t = find (λ x. bytes_eq x.extnID (identifier_of known)) (all_extensions t)
+
+-- the value that octets are as those of an OCTET STRING (4.1): one element, of the tag of this extension's value, that is read
+-- so, and nothing behind it. Where they stand does not matter to what is read; here they stand at the front of an input.
+abbrev pub value_of_octets : {A : Type 0} → Known → (Tlv → Result A Fault) → List ℕ → Option A
+value_of_octets known reading octets = result_ok (alone (of_tag (layout_of known).tag reading) (spelled_at 0 0x04 octets))
+
+-- what a certificate says by an extension, read so: nothing where the extension does not stand, else the value that its octets are
+unfoldable pub stated : {A : Type 0} → Known → (Tlv → Result A Fault) → Tbs → Option A
+stated known reading t = option_and_then (λ x. value_of_octets known reading x.extnValue) (known_extension known t)

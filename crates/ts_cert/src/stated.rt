@@ -1,0 +1,170 @@
+//! What a certificate says by its unique identifiers and its extensions.
+
+ghost use Rattle.std.specs.Prelude.{◌≡◌, option_map};
+ghost use Rattle.ts_der.specs.Answer.{Answers};
+ghost use Rattle.ts_der.specs.BitsView.{parts_of, bits_in};
+ghost use Rattle.ts_der.specs.View.{now};
+ghost use Rattle.ts_name.specs.Items.{alone, tagged_as as tagged_as_of};
+ghost use Rattle.ts_ext.specs.declared.known.Known.TheVariants as extension;
+ghost use Rattle.ts_ext.specs.AuthorityKey.{octets_of, authority_key_of};
+ghost use Rattle.ts_ext.specs.ExtensionView.{extensions_in};
+ghost use Rattle.ts_ext.specs.GeneralNames.{general_names_of};
+ghost use Rattle.ts_ext.specs.NameConstraints.{name_constraints_of};
+ghost use Rattle.ts_ext.specs.NameViews.{alternatives_in, authority_key_in, name_constraints_in, points_in};
+ghost use Rattle.ts_ext.specs.Points.{points_of};
+ghost use Rattle.ts_ext.specs.Reading.{key_usage_of, basic_constraints_of, certificate_policies_of, policy_mappings_of, policy_constraints_of, ext_key_usage_of, skip_certs_of};
+ghost use Rattle.ts_ext.specs.View.{policies_in, mappings_in, purposes_in};
+ghost use Rattle.ts_cert.specs.CertView.{cert_in};
+ghost use Rattle.ts_cert.specs.Stated.{stated};
+
+use crate::certificate::Cert;
+use ts_der::{Bits, Element, Fault};
+use ts_ext::{
+    AlternativeNames, AuthorityKeyIdentifier, BasicConstraints, CertificatePolicies,
+    DistributionPoints, ExtendedKeyUsage, Extensions, KeyUsage, Known, NameConstraints,
+    PolicyConstraints, PolicyMappings, SkipCerts,
+};
+use ts_name::tagged_as;
+
+/// The one element within another, which has this tag.
+#[tactic(auto, unfolding(ts_name::specs::Items::alone, ts_name::specs::Items::each))]
+fn element_within<'a>(octets: Element<'a>, tag: u8) -> Result<Element<'a>, Fault>
+    ensures { Answers now result (alone (tagged_as_of tag) (now octets.entry)) }
+{
+    let mut rest = octets.reader();
+    let element = tagged_as(rest.next()?, tag)?;
+    rest.end()?;
+    Ok(element)
+}
+
+impl<'a> Cert<'a> {
+    /// The unique identifier of the issuer, if there is one (RFC 5280 4.1.2.8).
+    pub fn issuer_unique_id(self) -> Option<Bits<'a>>
+        ensures { option_map parts_of result ≡ (cert_in self.entry).tbsCertificate.issuerUniqueID }
+    {
+        self.fields.late.issuer_unique_id
+    }
+
+    /// The unique identifier of the subject, if there is one (RFC 5280 4.1.2.8).
+    pub fn subject_unique_id(self) -> Option<Bits<'a>>
+        ensures { option_map parts_of result ≡ (cert_in self.entry).tbsCertificate.subjectUniqueID }
+    {
+        self.fields.late.subject_unique_id
+    }
+
+    /// The extensions, in their order, if there are any (RFC 5280 4.1.2.9).
+    pub fn extensions(self) -> Option<Extensions<'a>>
+        ensures { option_map extensions_in result ≡ (cert_in self.entry).tbsCertificate.extensions }
+    {
+        match self.fields.late.extensions {
+            Some(element) => Some(Extensions::within(element)),
+            None => None,
+        }
+    }
+
+    /// What tells the key that signed from others of the issuer (RFC 5280 4.2.1.1).
+    pub fn authority_key_identifier(self) -> Option<AuthorityKeyIdentifier<'a>>
+        ensures { option_map authority_key_in result ≡ stated extension.AuthorityKeyIdentifier authority_key_of (cert_in self.entry).tbsCertificate }
+    {
+        AuthorityKeyIdentifier::read(self.content(Known::AuthorityKeyIdentifier)?).ok()
+    }
+
+    /// What tells the subject's key from others (RFC 5280 4.2.1.2).
+    pub fn subject_key_identifier(self) -> Option<&'a [u8]>
+        ensures { option_map (λ k. k.now) result ≡ stated extension.SubjectKeyIdentifier octets_of (cert_in self.entry).tbsCertificate }
+    {
+        Some(self.content(Known::SubjectKeyIdentifier)?.content)
+    }
+
+    /// What the key may be used for (RFC 5280 4.2.1.3).
+    pub fn key_usage(self) -> Option<KeyUsage<'a>>
+        ensures { option_map (λ u. bits_in u.bits) result ≡ stated extension.KeyUsage key_usage_of (cert_in self.entry).tbsCertificate }
+    {
+        KeyUsage::read(self.content(Known::KeyUsage)?).ok()
+    }
+
+    /// The policies under which the certificate was issued (RFC 5280 4.2.1.4).
+    pub fn certificate_policies(self) -> Option<CertificatePolicies<'a>>
+        ensures { option_map policies_in result ≡ stated extension.CertificatePolicies certificate_policies_of (cert_in self.entry).tbsCertificate }
+    {
+        CertificatePolicies::read(self.content(Known::CertificatePolicies)?).ok()
+    }
+
+    /// Which policies of the issuer are one with which of the subject (RFC 5280 4.2.1.5).
+    pub fn policy_mappings(self) -> Option<PolicyMappings<'a>>
+        ensures { option_map mappings_in result ≡ stated extension.PolicyMappings policy_mappings_of (cert_in self.entry).tbsCertificate }
+    {
+        PolicyMappings::read(self.content(Known::PolicyMappings)?).ok()
+    }
+
+    /// The names of the subject beside its distinguished name (RFC 5280 4.2.1.6).
+    pub fn subject_alt_name(self) -> Option<AlternativeNames<'a>>
+        ensures { option_map alternatives_in result ≡ stated extension.SubjectAltName general_names_of (cert_in self.entry).tbsCertificate }
+    {
+        AlternativeNames::read(self.content(Known::SubjectAltName)?).ok()
+    }
+
+    /// The names of the issuer beside its distinguished name (RFC 5280 4.2.1.7).
+    pub fn issuer_alt_name(self) -> Option<AlternativeNames<'a>>
+        ensures { option_map alternatives_in result ≡ stated extension.IssuerAltName general_names_of (cert_in self.entry).tbsCertificate }
+    {
+        AlternativeNames::read(self.content(Known::IssuerAltName)?).ok()
+    }
+
+    /// Whether the subject may issue certificates, and how many may follow in a path (RFC 5280 4.2.1.9).
+    pub fn basic_constraints(self) -> Option<BasicConstraints>
+        ensures { result ≡ stated extension.BasicConstraints basic_constraints_of (cert_in self.entry).tbsCertificate }
+    {
+        BasicConstraints::read(self.content(Known::BasicConstraints)?).ok()
+    }
+
+    /// Which names may stand below this certificate (RFC 5280 4.2.1.10).
+    pub fn name_constraints(self) -> Option<NameConstraints<'a>>
+        ensures { option_map name_constraints_in result ≡ stated extension.NameConstraints name_constraints_of (cert_in self.entry).tbsCertificate }
+    {
+        NameConstraints::read(self.content(Known::NameConstraints)?).ok()
+    }
+
+    /// After how many certificates a path needs a policy, and may map none (RFC 5280 4.2.1.11).
+    pub fn policy_constraints(self) -> Option<PolicyConstraints>
+        ensures { result ≡ stated extension.PolicyConstraints policy_constraints_of (cert_in self.entry).tbsCertificate }
+    {
+        PolicyConstraints::read(self.content(Known::PolicyConstraints)?).ok()
+    }
+
+    /// The purposes that the key may be used for (RFC 5280 4.2.1.12).
+    pub fn extended_key_usage(self) -> Option<ExtendedKeyUsage<'a>>
+        ensures { option_map purposes_in result ≡ stated extension.ExtendedKeyUsage ext_key_usage_of (cert_in self.entry).tbsCertificate }
+    {
+        ExtendedKeyUsage::read(self.content(Known::ExtendedKeyUsage)?).ok()
+    }
+
+    /// Where the lists are found that may revoke this certificate (RFC 5280 4.2.1.13).
+    pub fn crl_distribution_points(self) -> Option<DistributionPoints<'a>>
+        ensures { option_map points_in result ≡ stated extension.CrlDistributionPoints points_of (cert_in self.entry).tbsCertificate }
+    {
+        DistributionPoints::read(self.content(Known::CrlDistributionPoints)?).ok()
+    }
+
+    /// After how many certificates anyPolicy no longer matches other policies (RFC 5280 4.2.1.14).
+    pub fn inhibit_any_policy(self) -> Option<SkipCerts>
+        ensures { option_map (λ n. n.0) result ≡ stated extension.InhibitAnyPolicy skip_certs_of (cert_in self.entry).tbsCertificate }
+    {
+        SkipCerts::read(self.content(Known::InhibitAnyPolicy)?).ok()
+    }
+
+    /// Where the latest changes of those lists are found (RFC 5280 4.2.1.15).
+    pub fn freshest_crl(self) -> Option<DistributionPoints<'a>>
+        ensures { option_map points_in result ≡ stated extension.FreshestCrl points_of (cert_in self.entry).tbsCertificate }
+    {
+        DistributionPoints::read(self.content(Known::FreshestCrl)?).ok()
+    }
+
+    /// The element that is the value of an extension, where that stands and its octets are one element of its tag.
+    fn content(self, known: Known) -> Option<Element<'a>>
+        ensures { option_map (λ e. e.content.now) result ≡ stated known octets_of (cert_in self.entry).tbsCertificate }
+    {
+        let extension = Extensions::within(self.fields.late.extensions?).find(known)?;
+        element_within(extension.value, known.tag()).ok()
+    }
+}
