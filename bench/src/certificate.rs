@@ -15,7 +15,7 @@ const BASIC_CONSTRAINTS: &[u8] = &[0x55, 0x1D, 0x13];
 const RSA: &[u8] = &[0x2A, 0x86, 0x48, 0x86, 0xF7, 0x0D, 0x01, 0x01, 0x01];
 
 /// sha256WithRSAEncryption.
-const SHA256_RSA: &[u8] = &[0x2A, 0x86, 0x48, 0x86, 0xF7, 0x0D, 0x01, 0x01, 0x0B];
+pub const SHA256_RSA: &[u8] = &[0x2A, 0x86, 0x48, 0x86, 0xF7, 0x0D, 0x01, 0x01, 0x0B];
 
 /// A certificate of version 3 with a subject and extensions.
 pub fn certificate(subject: &[u8], extensions: &[Vec<u8>]) -> Vec<u8> {
@@ -80,7 +80,7 @@ pub fn authority() -> Vec<u8> {
     )
 }
 
-fn algorithm(kind: &[u8]) -> Vec<u8> {
+pub fn algorithm(kind: &[u8]) -> Vec<u8> {
     nested(
         SEQUENCE,
         &[element(OBJECT_IDENTIFIER, kind), element(NULL, &[])],
