@@ -15,19 +15,19 @@ use Rattle.ts_ext.specs.Spelling.{IfTrue}
 use Rattle.ts_cert.specs.Spelling.{IsTimeIn, IsAlgorithm, IsKeyInfo, IsValidity, IsUniqueIdentifier, IsTbs}
 
 -- one content for each value
-abbrev One : {A : Type 0} → (List ℕ → A → Type 0) → Type 0
+abbrev pub One : {A : Type 0} → (List ℕ → A → Type 0) → Type 0
 One {A} Spells = (c d : List ℕ) (x : A) → Spells c x → Spells d x → c ≡ d
 
-one-within : {A : Type 0} (tag : ℕ) (Spells : List ℕ → A → Type 0) → One Spells → One (Within tag Spells)
+pub one-within : {A : Type 0} (tag : ℕ) (Spells : List ℕ → A → Type 0) → One Spells → One (Within tag Spells)
 one-within tag Spells one c d x a b = a.spelled ∙ (ap (λ (o : List ℕ). spell tag o) (one a.content b.content x a.value b.value) ∙ sym b.spelled)
 
-one-algorithm : One (Within 0x30 IsAlgorithm)
+pub one-algorithm : One (Within 0x30 IsAlgorithm)
 one-algorithm c d x a b = a.spelled ∙ (sym a.value.whole ∙ (b.value.whole ∙ sym b.spelled))
 
-one-name : One IsName
+pub one-name : One IsName
 one-name c d x a b = a.whole ∙ sym b.whole
 
-one-time : (f : TimeForm) → One (IsTimeIn f)
+pub one-time : (f : TimeForm) → One (IsTimeIn f)
 one-time Utc c d m a b = one-within 0x17 IsUtc (λ v w n is other. IsUtc-one_text v w n is other) c d m a b
 one-time General c d m a b = one-within 0x18 IsGeneral (λ v w n is other. IsGeneral-one_text v w n is other) c d m a b
 

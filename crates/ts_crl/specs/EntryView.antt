@@ -1,0 +1,21 @@
+-- What contracts see of the entries of a list.
+use Rattle.std.specs.Prelude.{List, option_map}
+use Rattle.ts_der.specs.Element.{inside}
+use Rattle.ts_der.specs.View.{now}
+use Rattle.ts_name.specs.Items.{items_at}
+use Rattle.ts_cert.specs.Period.{time_in}
+use Rattle.ts_ext.specs.ExtensionView.{standings_in}
+use Rattle.ts_crl.specs.declared.placed.Placed.{Placed}
+use Rattle.ts_crl.specs.declared.entry.Entry.{Entry}
+use Rattle.ts_crl.specs.declared.revoked.Revoked.{Revoked}
+use Rattle.ts_crl.specs.List.{StandingExtensions, StandingEntry}
+use Rattle.ts_crl.specs.Reading.{entry_in}
+
+abbrev pub placed_in : Placed → StandingExtensions
+placed_in p = record { at = p.at; extensions = standings_in p.extensions }
+
+abbrev pub entry_as : Entry → StandingEntry
+entry_as e = record { userCertificate = e.serial_number.octets.now; revocationDate = time_in e.date; crlEntryExtensions = option_map placed_in e.extensions }
+
+abbrev pub revoked_in : Revoked → List StandingEntry
+revoked_in r = items_at entry_in (inside (now r.element))

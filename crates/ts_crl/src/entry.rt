@@ -1,0 +1,56 @@
+//! Entries of a list.
+
+ghost use Rattle.ts_der.specs.Answer.{Answers};
+ghost use Rattle.ts_der.specs.View.{now};
+ghost use Rattle.ts_crl.specs.EntryView.{entry_as};
+ghost use Rattle.ts_crl.specs.Reading.{entry_of};
+
+use crate::placed::{Placed, next_extensions_if_any};
+use ts_cert::{Stamp, next_integer, next_time};
+use ts_der::{Element, Fault, Integer};
+use ts_name::{FromElement, tagged_as};
+
+const SEQUENCE: u8 = 0x30;
+
+/// A certificate that a list says to be revoked, as it lies in the source (RFC 5280 5.1.2.6).
+#[derive(Clone, Copy)]
+pub struct Entry<'a> {
+    pub(crate) serial_number: Integer<'a>,
+    pub(crate) date: Stamp,
+    pub(crate) extensions: Option<Placed<'a>>,
+}
+
+impl<'a> FromElement<'a> for Entry<'a> {
+    ghost use Rattle.ts_crl.specs.List.{StandingEntry};
+    ghost use Rattle.ts_crl.specs.Reading.{entry_in};
+
+    ghost Record = { StandingEntry };
+
+    ghost record_of = { entry_as };
+
+    ghost reading = { entry_in };
+
+    ghost key_of = { λ e. e.userCertificate };
+
+    #[tactic(auto, unfolding(ts_name::specs::Items::of_tag))]
+    fn read(element: Element<'a>) -> Result<Entry<'a>, Fault> {
+        read_entry(tagged_as(element, SEQUENCE)?)
+    }
+}
+
+/// The entry that a SEQUENCE is.
+#[tactic(auto, unfolding(crate::specs::Reading::entry_of))]
+fn read_entry<'a>(element: Element<'a>) -> Result<Entry<'a>, Fault>
+    ensures { Answers entry_as result (entry_of (now element.entry)) }
+{
+    let mut fields = element.reader();
+    let serial_number = next_integer(&mut fields)?;
+    let date = next_time(&mut fields)?;
+    let extensions = next_extensions_if_any(&mut fields)?;
+    fields.end()?;
+    Ok(Entry {
+        serial_number,
+        date: Stamp::of(date),
+        extensions,
+    })
+}
