@@ -5,3 +5,4 @@ pub mod Walks
 pub mod ListParts
 pub mod Crls
 pub mod Judging
+pub mod Finds

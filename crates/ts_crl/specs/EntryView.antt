@@ -1,5 +1,5 @@
 -- What contracts see of the entries of a list.
-use Rattle.std.specs.Prelude.{List, option_map}
+use Rattle.std.specs.Prelude.{List, map, option_map}
 use Rattle.ts_der.specs.Element.{inside}
 use Rattle.ts_der.specs.View.{now}
 use Rattle.ts_name.specs.Items.{items_at}
@@ -8,8 +8,8 @@ use Rattle.ts_ext.specs.ExtensionView.{standings_in}
 use Rattle.ts_crl.specs.declared.placed.Placed.{Placed}
 use Rattle.ts_crl.specs.declared.entry.Entry.{Entry}
 use Rattle.ts_crl.specs.declared.revoked.Revoked.{Revoked}
-use Rattle.ts_crl.specs.List.{StandingExtensions, StandingEntry}
-use Rattle.ts_crl.specs.Reading.{entry_in}
+use Rattle.ts_crl.specs.List.{StandingExtensions, StandingEntry, RevokedCertificate, said_entry}
+use Rattle.ts_crl.specs.Reading.{entry_in as reading_of}
 
 abbrev pub placed_in : Placed → StandingExtensions
 placed_in p = record { at = p.at; extensions = standings_in p.extensions }
@@ -18,4 +18,11 @@ abbrev pub entry_as : Entry → StandingEntry
 entry_as e = record { userCertificate = e.serial_number.octets.now; revocationDate = time_in e.date; crlEntryExtensions = option_map placed_in e.extensions }
 
 abbrev pub revoked_in : Revoked → List StandingEntry
-revoked_in r = items_at entry_in (inside (now r.element))
+revoked_in r = items_at reading_of (inside (now r.element))
+
+-- and what they say, wherever they stand
+abbrev pub entry_in : Entry → RevokedCertificate
+entry_in e = said_entry (entry_as e)
+
+abbrev pub entries_in : Revoked → List RevokedCertificate
+entries_in r = map said_entry (revoked_in r)

@@ -4,4 +4,5 @@ pub mod Reading
 pub mod Spelling
 pub mod Table
 pub mod EntryView
+pub mod Entries
 pub mod ListView

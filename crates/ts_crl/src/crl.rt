@@ -1,17 +1,25 @@
 //! Lists of revoked certificates.
 
-ghost use Rattle.std.specs.Prelude.{◌≡◌, IfOk, IsOkAnd};
+ghost use Rattle.std.specs.Prelude.{◌≡◌, ◌↔◌, None, false, map, option_map, IfOk, IsOkAnd};
 ghost use Rattle.ts_der.specs.Answer.{Answers, refusal};
+ghost use Rattle.ts_name.specs.NameView.{rdns_in};
+ghost use Rattle.ts_cert.specs.View.{algorithm_in};
+ghost use Rattle.ts_ext.specs.ExtensionView.{extensions_in};
+ghost use Rattle.ts_crl.specs.Entries.{first_entry, has_entry};
+ghost use Rattle.ts_crl.specs.EntryView.{entry_in, entries_in};
 ghost use Rattle.ts_crl.specs.List.{CertificateList};
 ghost use Rattle.ts_crl.specs.ListView.{standing_list_in, crl_in};
 ghost use Rattle.ts_crl.specs.Spelling.{IsCertificateList};
 ghost use Rattle.ts_crl.specs.Table.{list_fault, crl_fault, crl_of};
 
+use crate::entry::Entry;
 use crate::placed::Placed;
 use crate::revoked::Revoked;
 use crate::shape::read_shape;
 use crate::version::ListVersion;
-use ts_cert::{AlgorithmIdentifier, Stamp};
+use ts_cert::{AlgorithmIdentifier, Stamp, Time};
+use ts_der::Integer;
+use ts_ext::Extensions;
 use ts_name::{CertFault, CertRule, Name};
 
 /// The greatest number of octets that a list may have in this profile.
@@ -51,6 +59,94 @@ impl<'a> Crl<'a> {
         ensures exact { Answers crl_in result (crl_of octets.now) }
     {
         read_crl(octets)
+    }
+
+    /// The octets that are signed: all of tbsCertList, header included, as they were read (RFC 5280 5.1.1.3).
+    pub fn tbs(self) -> &'a [u8]
+        ensures { result.now ≡ (crl_in self.entry).tbs }
+    {
+        self.tbs
+    }
+
+    /// The version (RFC 5280 5.1.2.1).
+    pub fn version(self) -> ListVersion
+        ensures { result ≡ (crl_in self.entry).tbsCertList.version }
+    {
+        self.version
+    }
+
+    /// The issuer of the list (RFC 5280 5.1.2.3).
+    pub fn issuer(self) -> Name<'a>
+        ensures { rdns_in result ≡ (crl_in self.entry).tbsCertList.issuer }
+    {
+        self.issuer
+    }
+
+    /// When the list was issued (RFC 5280 5.1.2.4).
+    pub fn this_update(self) -> Time
+        ensures { result ≡ (crl_in self.entry).tbsCertList.thisUpdate }
+    {
+        self.this_update.time()
+    }
+
+    /// By when the next list is issued (RFC 5280 5.1.2.5).
+    pub fn next_update(self) -> Option<Time>
+        ensures { result ≡ (crl_in self.entry).tbsCertList.nextUpdate }
+    {
+        match self.next_update {
+            Some(stamp) => Some(stamp.time()),
+            None => None,
+        }
+    }
+
+    /// The certificates that are revoked; `None` where the list has no such field, which is not a field without entries
+    /// (RFC 5280 5.1.2.6).
+    pub fn revoked(self) -> Option<Revoked<'a>>
+        ensures { option_map entries_in result ≡ (crl_in self.entry).tbsCertList.revokedCertificates }
+    {
+        self.revoked
+    }
+
+    /// The first entry that has this serial number, by the octets of its INTEGER; `None` exactly where no entry has it.
+    pub fn entry(self, serial: Integer<'_>) -> Option<Entry<'a>>
+        ensures first { option_map entry_in result ≡ first_entry serial.entry.octets.now (crl_in self.entry) }
+        ensures absent { (result ≡ None) ↔ (has_entry serial.entry.octets.now (crl_in self.entry) ≡ false) }
+    {
+        find_entry(self, serial)
+    }
+
+    /// The extensions of the list, where it has any (RFC 5280 5.1.2.7).
+    pub fn extensions(self) -> Option<Extensions<'a>>
+        ensures { option_map extensions_in result ≡ (crl_in self.entry).tbsCertList.crlExtensions }
+    {
+        match self.extensions {
+            Some(placed) => Some(placed.extensions),
+            None => None,
+        }
+    }
+
+    /// The algorithm of the signature; it is the same within what is signed and beside the signature (RFC 5280 5.1.1.2).
+    pub fn signature_algorithm(self) -> AlgorithmIdentifier<'a>
+        ensures { algorithm_in result ≡ (crl_in self.entry).signatureAlgorithm }
+    {
+        self.signature_algorithm
+    }
+
+    /// The octets of the signature (RFC 5280 5.1.1.3).
+    pub fn signature(self) -> &'a [u8]
+        ensures { result.now ≡ (crl_in self.entry).signatureValue }
+    {
+        self.signature_value
+    }
+}
+
+fn find_entry<'a>(crl: Crl<'a>, serial: Integer<'_>) -> Option<Entry<'a>>
+    ensures { option_map entry_in result ≡ first_entry serial.entry.octets.now (crl_in crl.entry) }
+{
+    let Crl { revoked, .. } = crl;
+    match revoked {
+        Some(revoked) => revoked.first_of(serial),
+        None => None,
     }
 }
 

@@ -1,13 +1,16 @@
 //! Entries of a list.
 
+ghost use Rattle.std.specs.Prelude.{◌≡◌, option_map};
 ghost use Rattle.ts_der.specs.Answer.{Answers};
 ghost use Rattle.ts_der.specs.View.{now};
-ghost use Rattle.ts_crl.specs.EntryView.{entry_as};
+ghost use Rattle.ts_ext.specs.ExtensionView.{extensions_in};
+ghost use Rattle.ts_crl.specs.EntryView.{entry_as, entry_in};
 ghost use Rattle.ts_crl.specs.Reading.{entry_of};
 
 use crate::placed::{Placed, next_extensions_if_any};
-use ts_cert::{Stamp, next_integer, next_time};
+use ts_cert::{Stamp, Time, next_integer, next_time};
 use ts_der::{Element, Fault, Integer};
+use ts_ext::Extensions;
 use ts_name::{FromElement, tagged_as};
 
 const SEQUENCE: u8 = 0x30;
@@ -22,19 +25,45 @@ pub struct Entry<'a> {
 
 impl<'a> FromElement<'a> for Entry<'a> {
     ghost use Rattle.ts_crl.specs.List.{StandingEntry};
-    ghost use Rattle.ts_crl.specs.Reading.{entry_in};
+    ghost use Rattle.ts_crl.specs.Reading.{entry_in as reading_of};
 
     ghost Record = { StandingEntry };
 
     ghost record_of = { entry_as };
 
-    ghost reading = { entry_in };
+    ghost reading = { reading_of };
 
     ghost key_of = { λ e. e.userCertificate };
 
     #[tactic(auto, unfolding(ts_name::specs::Items::of_tag))]
     fn read(element: Element<'a>) -> Result<Entry<'a>, Fault> {
         read_entry(tagged_as(element, SEQUENCE)?)
+    }
+}
+
+impl<'a> Entry<'a> {
+    /// The serial number of the certificate, of any length and sign (RFC 5280 5.1.2.6).
+    pub fn serial_number(self) -> Integer<'a>
+        ensures { result.octets.now ≡ (entry_in self.entry).userCertificate }
+    {
+        self.serial_number
+    }
+
+    /// When the certificate was revoked (RFC 5280 5.1.2.6).
+    pub fn revocation_date(self) -> Time
+        ensures { result ≡ (entry_in self.entry).revocationDate }
+    {
+        self.date.time()
+    }
+
+    /// The extensions of the entry, where it has any (RFC 5280 5.3).
+    pub fn extensions(self) -> Option<Extensions<'a>>
+        ensures { option_map extensions_in result ≡ (entry_in self.entry).crlEntryExtensions }
+    {
+        match self.extensions {
+            Some(placed) => Some(placed.extensions),
+            None => None,
+        }
     }
 }
 

@@ -9,6 +9,8 @@ mod placed;
 mod revoked;
 mod shape;
 mod tbs;
+#[cfg(test)]
+mod tests;
 mod update;
 mod version;
 

@@ -1,16 +1,18 @@
 //! The entries of a list, one after another.
 
-ghost use Rattle.std.specs.Prelude.{◌≡◌, option_map};
+ghost use Rattle.std.specs.List.{find};
+ghost use Rattle.std.specs.Prelude.{◌≡◌, map, option_map};
 ghost use Rattle.ts_der.specs.Answer.{Answers, refusal};
 ghost use Rattle.ts_der.specs.View.{now};
 ghost use Rattle.ts_name.specs.Fields.{optional_of};
 ghost use Rattle.ts_name.specs.Items.{each, items_at};
 ghost use Rattle.ts_name.specs.Steps.{Takes};
-ghost use Rattle.ts_crl.specs.EntryView.{entry_as, revoked_in};
+ghost use Rattle.ts_crl.specs.Entries.{has_serial};
+ghost use Rattle.ts_crl.specs.EntryView.{entry_as, entry_in as said_in, entries_in, revoked_in};
 ghost use Rattle.ts_crl.specs.Reading.{entry_in, revoked_of};
 
 use crate::entry::Entry;
-use ts_der::{Element, Fault, Reader};
+use ts_der::{Element, Fault, Integer, Reader};
 use ts_name::{FromElement, SequenceItems};
 
 const SEQUENCE: u8 = 0x30;
@@ -27,6 +29,18 @@ impl<'a> Revoked<'a> {
         ensures { items_at entry_in result.rest ≡ revoked_in self.entry }
     {
         SequenceItems::within(self.element)
+    }
+
+    /// The first entry that has this serial number.
+    pub(crate) fn first_of(self, serial: Integer<'_>) -> Option<Entry<'a>>
+        ensures { option_map said_in result ≡ find (has_serial serial.entry.octets.now) (entries_in self.entry) }
+    {
+        for entry in self.iter() {
+            if entry.serial_number.octets == serial.octets {
+                return Some(entry);
+            }
+        }
+        None
     }
 }
 
