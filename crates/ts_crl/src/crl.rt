@@ -120,7 +120,7 @@ impl<'a> Crl<'a> {
         ensures { option_map extensions_in result ≡ (crl_in self.entry).tbsCertList.crlExtensions }
     {
         match self.extensions {
-            Some(placed) => Some(placed.extensions),
+            Some(placed) => Some(placed.list.extensions()),
             None => None,
         }
     }

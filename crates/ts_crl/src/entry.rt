@@ -61,7 +61,7 @@ impl<'a> Entry<'a> {
         ensures { option_map extensions_in result ≡ (entry_in self.entry).crlEntryExtensions }
     {
         match self.extensions {
-            Some(placed) => Some(placed.extensions),
+            Some(placed) => Some(placed.list.extensions()),
             None => None,
         }
     }

@@ -4,6 +4,7 @@
 
 mod crl;
 mod entry;
+mod extension_list;
 pub mod laws;
 mod placed;
 mod revoked;
@@ -16,6 +17,5 @@ mod version;
 
 pub use crl::{Crl, MAX_CRL};
 pub use entry::Entry;
-pub use placed::Placed;
 pub use revoked::Revoked;
 pub use version::ListVersion;

@@ -7,13 +7,12 @@ ghost use Rattle.ts_name.specs.Fields.{optional_of};
 ghost use Rattle.ts_name.specs.Items.{alone, of_tag, some_of};
 ghost use Rattle.ts_name.specs.Steps.{Takes};
 ghost use Rattle.ts_ext.specs.Extension.{standing_in};
-ghost use Rattle.ts_ext.specs.ExtensionView.{standings_in};
-ghost use Rattle.ts_crl.specs.EntryView.{placed_in};
+ghost use Rattle.ts_crl.specs.EntryView.{listed_in, placed_in};
 ghost use Rattle.ts_crl.specs.Reading.{extensions_of, wrapped_extensions_of};
 
+use crate::extension_list::ExtensionList;
 use ts_der::{Element, Fault, Reader};
-use ts_ext::Extensions;
-use ts_name::{SequenceOf, tagged_as};
+use ts_name::tagged_as;
 
 const SEQUENCE: u8 = 0x30;
 
@@ -22,20 +21,11 @@ const CRL_EXTENSIONS: u8 = 0xA0;
 
 /// The extensions of a list or of an entry (RFC 5280 5.1.2.7, 5.3).
 #[derive(Clone, Copy)]
-pub struct Placed<'a> {
+pub(crate) struct Placed<'a> {
     /// The offset of the element that holds them: of a list the explicit tag, of an entry the SEQUENCE.
     pub at: usize,
     /// The extensions.
-    pub extensions: Extensions<'a>,
-}
-
-/// One extension or more, whatever their values say.
-fn read_list<'a>(element: Element<'a>) -> Result<Extensions<'a>, Fault>
-    ensures { Answers standings_in result (some_of standing_in (now element.entry)) }
-{
-    Ok(Extensions {
-        list: SequenceOf::read(element)?,
-    })
+    pub list: ExtensionList<'a>,
 }
 
 /// The extensions that a SEQUENCE is.
@@ -45,17 +35,17 @@ fn read_extensions<'a>(element: Element<'a>) -> Result<Placed<'a>, Fault>
 {
     Ok(Placed {
         at: element.at,
-        extensions: read_list(element)?,
+        list: ExtensionList::read(element)?,
     })
 }
 
 /// The extensions that a SEQUENCE within an element is, and nothing behind it.
 #[tactic(auto, unfolding(ts_name::specs::Items::alone, ts_name::specs::Items::each, ts_name::specs::Items::of_tag))]
-fn read_alone<'a>(element: Element<'a>) -> Result<Extensions<'a>, Fault>
-    ensures { Answers standings_in result (alone (of_tag 0x30 (some_of standing_in)) (now element.entry)) }
+fn read_alone<'a>(element: Element<'a>) -> Result<ExtensionList<'a>, Fault>
+    ensures { Answers listed_in result (alone (of_tag 0x30 (some_of standing_in)) (now element.entry)) }
 {
     let mut fields = element.reader();
-    let extensions = read_list(tagged_as(fields.next()?, SEQUENCE)?)?;
+    let extensions = ExtensionList::read(tagged_as(fields.next()?, SEQUENCE)?)?;
     fields.end()?;
     Ok(extensions)
 }
@@ -67,7 +57,7 @@ fn read_wrapped<'a>(element: Element<'a>) -> Result<Placed<'a>, Fault>
 {
     Ok(Placed {
         at: element.at,
-        extensions: read_alone(element)?,
+        list: read_alone(element)?,
     })
 }
 
