@@ -1,11 +1,12 @@
 -- What reading a list refuses is the first rule of the table that is broken.
 use Rattle.std.proofs.Common.{◌≡◌, ℕ, Bool, true, false, not, ◌||◌, cond, eqb, List, [], ◌∷◌, length, Option, Some, None, Result, Ok, Err, refl, sym, ap, subst, ◌∙◌}
-use Rattle.std.specs.Prelude.{map, option_map, nat_lt}
+use Rattle.std.specs.Prelude.{map, option_map, nat_lt, IfOk, IsOkAnd}
 use Rattle.ts_der.specs.declared.fault.DerFault.TheVariants.{TooLarge}
 use Rattle.ts_der.specs.declared.fault.Fault.{Fault}
-use Rattle.ts_der.specs.Answer.{◌>>=◌, Answers, refusal}
+use Rattle.ts_der.specs.Answer.{◌>>=◌, refusal}
 use Rattle.ts_der.specs.Element.{Place, Tlv, inside}
 use Rattle.ts_der.specs.Integer.{integer_rules}
+use Rattle.ts_der.proofs.Laws.{ok_is}
 use Rattle.ts_der.specs.Reading.{element_of, behind, begins_with, element_at, value_at, optional_at, end_at, many}
 use Rattle.ts_name.specs.declared.fault.CertRule.{CertRule}
 use Rattle.ts_name.specs.declared.fault.CertRule.TheVariants.{Der, Version}
@@ -27,9 +28,11 @@ use Rattle.ts_ext.specs.Table.{list_rules}
 use Rattle.ts_ext.proofs.ExtensionParts.{extensions-format}
 use Rattle.ts_crl.specs.declared.version.ListVersion.{ListVersion}
 use Rattle.ts_crl.specs.declared.version.ListVersion.TheVariants.{V1, V2}
+use Rattle.ts_crl.specs.declared.fault.CrlFault.{CrlFault}
+use Rattle.ts_crl.specs.Fault.{ListFault, broken, fault_in, AnswersBy}
 use Rattle.ts_crl.specs.List.{StandingTbs, StandingList, CertificateList, said_extensions}
 use Rattle.ts_crl.specs.Reading.{extensions_of, wrapped_extensions_of, entry_of, entry_in, revoked_of, next_update_at, tbs_of, signed_of, whole_of, shape_of}
-use Rattle.ts_crl.specs.Table.{is_version, version_rules, version, extensions, entry_fields, revoked_certificates, crl_extensions, tbs_fields, tbs_cert_list, certificate_list, shape_fault, list_fault, list_fault_of, crl_fault, unless_broken, crl_of}
+use Rattle.ts_crl.specs.Table.{is_version, version_rules, version, extensions, entry_fields, revoked_certificates, crl_extensions, tbs_fields, tbs_cert_list, certificate_list, shape_fault, list_fault, list_fault_of, crl_fault, as_list, unless_broken, crl_of}
 use Rattle.ts_crl.specs.Version.{version_named, version_of, version_if, version_at}
 use Rattle.ts_crl.proofs.Saying.{say, Says}
 use Rattle.ts_crl.proofs.EntryParts.{extensions-said, wrapped_of, wrapped-said}
@@ -180,15 +183,28 @@ pub judged : (octets : List ℕ) → refusal (crl_of octets) ≡ crl_fault octet
 unfolding crl_of
 judged octets = by_shape (shape_of octets) (shape_fault octets) (shape-judged octets)
   where
-    by_rule : (l : StandingList) (o : Option CertFault) → refusal (unless_broken l o) ≡ o
+    by_rule : (l : StandingList) (o : Option ListFault) → refusal (unless_broken l o) ≡ o
     by_rule l None = refl
     by_rule l (Some f) = refl
 
-    by_shape : (r : Result StandingList CertFault) (o : Option CertFault) → Judged r o (λ l. Unit {0}) → refusal (r >>= λ l. unless_broken l (list_fault l)) ≡ (o or_else list_fault_of r)
-    by_shape (Ok l) o j = by_rule l (list_fault l) ∙ ap (λ (q : Option CertFault). q or_else list_fault l) (sym j.0)
-    by_shape (Err f) o j = ap (λ (q : Option CertFault). q or_else None) (sym j)
+    by_shape : (r : Result StandingList CertFault) (o : Option CertFault) → Judged r o (λ l. Unit {0})
+        → refusal (as_list r >>= λ l. unless_broken l (list_fault l)) ≡ (option_map (λ f. broken f) o or_else list_fault_of r)
+    by_shape (Ok l) o j = by_rule l (list_fault l) ∙ ap (λ (q : Option CertFault). option_map (λ f. broken f) q or_else list_fault l) (sym j.0)
+    by_shape (Err f) o j = ap (λ (q : Option CertFault). option_map (λ f. broken f) q or_else None) (sym j)
 
--- the same of a call that answers what reading gives
-pub fault-judged : {X : Type 0} (view : X → CertificateList) (result : Result X CertFault) (octets : List ℕ) → Answers view result (crl_of octets) → refusal result ≡ crl_fault octets
-fault-judged view (Ok x) octets a = ap (λ (r : Result CertificateList CertFault). refusal r) (sym a) ∙ judged octets
-fault-judged view (Err f) octets a = ap (λ (r : Result CertificateList CertFault). refusal r) (sym a) ∙ judged octets
+-- ---- a call that answers what reading gives
+
+pub fault-judged : {X : Type 0} (view : X → CertificateList) (result : Result X CrlFault) (octets : List ℕ) → AnswersBy view fault_in result (crl_of octets) → option_map fault_in (refusal result) ≡ crl_fault octets
+fault-judged view (Ok x) octets a = ap (λ (r : Result CertificateList ListFault). refusal r) (sym a) ∙ judged octets
+fault-judged view (Err f) octets a = ap (λ (r : Result CertificateList ListFault). refusal r) (sym a) ∙ judged octets
+
+pub found-by : {X Y E F : Type 0} (view : X → Y) (see : E → F) (r : Result X E) (reading : Result Y F) (P : Y → Type 0) → AnswersBy view see r reading → ((y : Y) → reading ≡ Ok y → P y) → IfOk r (λ x. P (view x))
+found-by view see (Ok x) reading P a f = f (view x) a
+found-by view see (Err e) reading P a f = tt
+
+pub read-by : {X Y E F : Type 0} (view : X → Y) (see : E → F) (r : Result X E) (reading : Result Y F) (y : Y) → AnswersBy view see r reading → reading ≡ Ok y → IsOkAnd r (λ x. view x ≡ y)
+read-by {X} {Y} {E} {F} view see (Ok x) reading y a is = ok_is {E = F} (view x) y (sym a ∙ is)
+read-by {X} {Y} {E} {F} view see (Err e) reading y a is = absurd (by_err (sym a ∙ is))
+  where
+    by_err : {f : F} → (let r : Result Y F = Err f in r ≡ Ok y) → ⊥
+    by_err h = cc

@@ -38,6 +38,7 @@ use Rattle.ts_crl.specs.Spelling.{version_octets, AreRevoked, IsTbsCertList, IsS
 use Rattle.ts_crl.specs.Version.{version_named, version_of, version_if, version_at}
 use Rattle.ts_crl.proofs.Saying.{say, say_at, Says, unsaid_at, optional-say}
 use Rattle.ts_crl.proofs.EntryParts.{wrapped_of, wrapped-said, wrapped-value, stated_revoked_of, revoked-said, revoked-value}
+use Rattle.ts_crl.proofs.Readiness.{Ready, EntriesReady, ReadyTbs, optional-gets, wrapped-ready, revoked-ready, entries-if-any}
 use Rattle.ts_crl.proofs.Updates.{update-found, update-again, begins-if-time}
 
 -- ---- versions
@@ -98,7 +99,7 @@ abbrev made : ListVersion → Algorithm → List (List Attr) → Time → Option
 made version signature issuer this next revoked extensions =
     record { version = version; signature = signature; issuer = issuer; thisUpdate = this; nextUpdate = next; revokedCertificates = revoked; crlExtensions = extensions }
 
-tbs-found : (e : Tlv) (t : StandingTbs) → AreOctets e.content → tbs_of e ≡ Ok t → IsTbsCertList e.content (said_tbs t)
+tbs-found : (e : Tlv) (t : StandingTbs) → AreOctets e.content → tbs_of e ≡ Ok t → IsTbsCertList e.content (said_tbs t) × ReadyTbs t
 unfolding tbs_of
 tbs-found e t fits read =
     let v = bind_ok (version_at (inside e)) _ t read in
@@ -129,21 +130,26 @@ tbs-found e t fits read =
     let at_this : i.0.1.rest ≡ this.0 ++ (next.0 ++ (revoked.0 ++ extensions.0)) = this.2 ∙ ap (λ (o : List ℕ). this.0 ++ o) at_next in
     let at_issuer : a.0.1.rest ≡ issuer.0 ++ (this.0 ++ (next.0 ++ (revoked.0 ++ extensions.0))) = issuer.2 ∙ ap (λ (o : List ℕ). issuer.0 ++ o) at_this in
     let at_algorithm : v.0.1.rest ≡ algorithm.0 ++ (issuer.0 ++ (this.0 ++ (next.0 ++ (revoked.0 ++ extensions.0)))) = algorithm.2 ∙ ap (λ (o : List ℕ). algorithm.0 ++ o) at_issuer in
-    subst (λ (y : StandingTbs). IsTbsCertList e.content (said_tbs y)) same (record {
-      algorithm = algorithm.0;
-      issued_by = issuer.0;
-      this = this.0;
-      next = next.0;
-      revoked = revoked.0;
-      extensions = extensions.0;
-      signature = algorithm.1;
-      issuer = issuer.1;
-      thisUpdate = this.1;
-      nextUpdate = next.1;
-      revokedCertificates = revoked.1;
-      crlExtensions = extensions.1;
-      fields = version ∙ ap (λ (o : List ℕ). version_octets v.0.0 ++ o) at_algorithm;
-    })
+    let entries = entries-if-any r.0.0 (optional-gets 0x30 revoked_of EntriesReady revoked-ready n.0.1 r.0.0 r.0.1 next.3 (der-ok (optional_of 0x30 revoked_of n.0.1) r.0 r.1)) in
+    let walked = optional-gets 0xA0 wrapped_extensions_of Ready wrapped-ready r.0.1 x.0.0 x.0.1 revoked.3 (der-ok (optional_of 0xA0 wrapped_extensions_of r.0.1) x.0 x.1) in
+    subst (λ (y : StandingTbs). IsTbsCertList e.content (said_tbs y) × ReadyTbs y) same (
+      record {
+        algorithm = algorithm.0;
+        issued_by = issuer.0;
+        this = this.0;
+        next = next.0;
+        revoked = revoked.0;
+        extensions = extensions.0;
+        signature = algorithm.1;
+        issuer = issuer.1;
+        thisUpdate = this.1;
+        nextUpdate = next.1;
+        revokedCertificates = revoked.1;
+        crlExtensions = extensions.1;
+        fields = version ∙ ap (λ (o : List ℕ). version_octets v.0.0 ++ o) at_algorithm;
+      },
+      (entries, walked),
+    )
 
 -- fields that were read one after another
 joined : (e : Tlv) (t : TbsCertList) (p1 p2 p3 p4 p5 p6 p7 : Place) (rs : Option (List StandingEntry)) (xs : Option StandingExtensions)
@@ -199,7 +205,7 @@ tbs-again e t is =
 
 -- ---- what is signed, with its signature
 
-signed-found : (e : Tlv) (s : StandingList) → AreOctets e.content → signed_of e ≡ Ok s → IsSigned e.content (said_list s)
+signed-found : (e : Tlv) (s : StandingList) → AreOctets e.content → signed_of e ≡ Ok s → IsSigned e.content (said_list s) × ReadyTbs s.tbsCertList
 unfolding signed_of
 signed-found e s fits read =
     let t = bind_ok (der (element_at 0x30 (inside e))) _ s read in
@@ -216,14 +222,18 @@ signed-found e s fits read =
     let at_bits : i.0.1.rest ≡ bits.0 = bits.2 ∙ (ap (λ (r : List ℕ). bits.0 ++ r) (end-ok b.0.1 d.0 (der-ok (end_at b.0.1) d.0 d.1)) ∙ append-nil bits.0) in
     let at_identifier : t.0.1.rest ≡ i.0.0.whole ++ bits.0 = identifier.whole ∙ ap (λ (r : List ℕ). i.0.0.whole ++ r) at_bits in
     let algorithm = algorithm-value.found i.0.0 a.0 identifier.inner identifier.spelled (der-ok (algorithm_of i.0.0) a.0 a.1) in
-    subst (λ (x : StandingList). IsSigned e.content (said_list x)) same (record {
-      identifier = i.0.0.whole;
-      bits = bits.0;
-      tbsCertList = record { content = t.0.0.content; fits = tbs.fits; spelled = tbs.spelled; value = tbs-found t.0.0 f.0 tbs.inner f.1 };
-      signatureAlgorithm = record { content = i.0.0.content; fits = identifier.fits; spelled = identifier.spelled; value = algorithm };
-      signatureValue = bits.1;
-      fields = tbs.whole ∙ ap (λ (r : List ℕ). t.0.0.whole ++ r) at_identifier;
-    })
+    let fields = tbs-found t.0.0 f.0 tbs.inner f.1 in
+    subst (λ (x : StandingList). IsSigned e.content (said_list x) × ReadyTbs x.tbsCertList) same (
+      record {
+        identifier = i.0.0.whole;
+        bits = bits.0;
+        tbsCertList = record { content = t.0.0.content; fits = tbs.fits; spelled = tbs.spelled; value = fields.0 };
+        signatureAlgorithm = record { content = i.0.0.content; fits = identifier.fits; spelled = identifier.spelled; value = algorithm };
+        signatureValue = bits.1;
+        fields = tbs.whole ∙ ap (λ (r : List ℕ). t.0.0.whole ++ r) at_identifier;
+      },
+      fields.1,
+    )
 
 -- the parts of a list that were read one after another
 signed_joined : (e first second : Tlv) (c : CertificateList) (p1 p2 p3 : Place) (fields : StandingTbs)
@@ -260,7 +270,7 @@ signed-again e c is =
 
 -- ---- lists
 
-whole-found : (octets : List ℕ) (s : StandingList) → AreOctets octets → whole_of octets ≡ Ok s → Within 0x30 IsSigned octets (said_list s)
+whole-found : (octets : List ℕ) (s : StandingList) → AreOctets octets → whole_of octets ≡ Ok s → Within 0x30 IsSigned octets (said_list s) × ReadyTbs s.tbsCertList
 unfolding whole_of
 whole-found octets s fits read =
     let here : Place = record { rest = octets; at = 0 } in
@@ -270,16 +280,16 @@ whole-found octets s fits read =
     let t = element-took 0x30 here e.0.0 e.0.1 fits (der-ok (element_at 0x30 here) e.0 e.1) in
     let whole : octets ≡ e.0.0.whole = t.whole ∙ (ap (λ (r : List ℕ). e.0.0.whole ++ r) (end-ok e.0.1 d.0 (der-ok (end_at e.0.1) d.0 d.1)) ∙ append-nil e.0.0.whole) in
     let is = signed-found e.0.0 l.0 t.inner l.1 in
-    subst (λ (x : StandingList). Within 0x30 IsSigned octets (said_list x)) (ok_is {A = StandingList} {E = CertFault} l.0 s d.2)
-    (record { content = e.0.0.content; fits = t.fits; spelled = whole ∙ t.spelled; value = is })
+    subst (λ (x : StandingList). Within 0x30 IsSigned octets (said_list x) × ReadyTbs x.tbsCertList) (ok_is {A = StandingList} {E = CertFault} l.0 s d.2)
+    (record { content = e.0.0.content; fits = t.fits; spelled = whole ∙ t.spelled; value = is.0 }, is.1)
 
-pub shape-found : (octets : List ℕ) (s : StandingList) → AreOctets octets → shape_of octets ≡ Ok s → (length octets ≤ 1048576) × Within 0x30 IsSigned octets (said_list s)
+pub shape-found : (octets : List ℕ) (s : StandingList) → AreOctets octets → shape_of octets ≡ Ok s → (length octets ≤ 1048576) × Within 0x30 IsSigned octets (said_list s) × ReadyTbs s.tbsCertList
 unfolding shape_of
 shape-found octets s fits read = by_size (ltb 1048576 (length octets)) refl read
   where
-    by_size : (b : Bool) → ltb 1048576 (length octets) ≡ b → cond b (Err (breaks 0 (Der TooLarge))) (whole_of octets) ≡ Ok s → (length octets ≤ 1048576) × Within 0x30 IsSigned octets (said_list s)
+    by_size : (b : Bool) → ltb 1048576 (length octets) ≡ b → cond b (Err (breaks 0 (Der TooLarge))) (whole_of octets) ≡ Ok s → (length octets ≤ 1048576) × Within 0x30 IsSigned octets (said_list s) × ReadyTbs s.tbsCertList
     by_size true t e = absurd cc
-    by_size false t e = (ltb-false 1048576 (length octets) t, whole-found octets s fits e)
+    by_size false t e = let w = whole-found octets s fits e in (ltb-false 1048576 (length octets) t, w.0, w.1)
 
 whole-joined : (octets : List ℕ) (e : Tlv) (p : Place) (s : StandingList) → element_at 0x30 (record { rest = octets; at = 0 }) ≡ Ok (e, p) → signed_of e ≡ Ok s → end_at p ≡ Ok tt → whole_of octets ≡ Ok s
 unfolding whole_of

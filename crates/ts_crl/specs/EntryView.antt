@@ -4,7 +4,9 @@ use Rattle.ts_der.specs.Element.{inside}
 use Rattle.ts_der.specs.View.{now}
 use Rattle.ts_name.specs.Items.{items_at}
 use Rattle.ts_cert.specs.Period.{time_in}
-use Rattle.ts_ext.specs.Extension.{Standing, standing_in}
+use Rattle.ts_ext.specs.declared.extension.Extension.{Extension as Lent}
+use Rattle.ts_ext.specs.Extension.{Extension, Standing, said, standing_in}
+use Rattle.ts_ext.specs.ExtensionView.{standing_as}
 use Rattle.ts_crl.specs.declared.extension_list.ExtensionList.{ExtensionList}
 use Rattle.ts_crl.specs.declared.placed.Placed.{Placed}
 use Rattle.ts_crl.specs.declared.entry.Entry.{Entry}
@@ -30,3 +32,6 @@ entry_in e = said_entry (entry_as e)
 
 abbrev pub entries_in : Revoked → List RevokedCertificate
 entries_in r = map said_entry (revoked_in r)
+
+abbrev pub extension_as : Lent → Extension
+extension_as x = said (standing_as x)

@@ -10,7 +10,10 @@ use Rattle.ts_cert.specs.Spelling.{IsTime, IsAlgorithm}
 use Rattle.ts_ext.specs.Extension.{AreExtensions}
 use Rattle.ts_crl.specs.declared.version.ListVersion.{ListVersion}
 use Rattle.ts_crl.specs.declared.version.ListVersion.TheVariants.{V1, V2}
+use Rattle.ts_crl.specs.declared.extension_rule.ExtensionRule.TheVariants.{Repeated, Values}
 use Rattle.ts_crl.specs.List.{RevokedCertificate, TbsCertList, CertificateList}
+use Rattle.ts_crl.specs.Profile.{profile_fault}
+use Rattle.ts_crl.specs.Rules.{FitVersion, AllKeep}
 
 -- version Version OPTIONAL, which is v2(1) where it is present (5.1.2.1)
 abbrev pub version_octets : ListVersion → List ℕ
@@ -62,8 +65,14 @@ pub record IsSigned (content : List ℕ) (c : CertificateList) : Type 0 where
   pub signatureValue : Within 0x03 IsBits bits c.signatureValue
   pub fields : content ≡ c.tbs ++ (identifier ++ bits)
 
--- the octets are the list: at most 1,048,576, and both algorithm identifiers are one (5.1.1.2)
+-- the octets are the list: at most 1,048,576; both algorithm identifiers are one (5.1.1.2); in version 1 there are no
+-- extensions (5.1.2.1); none stands twice (4.2); the values are those of their extensions (5.2, 5.3); and the list keeps the
+-- rules of this profile
 pub record IsCertificateList (octets : List ℕ) (c : CertificateList) : Type 0 where
   pub size : length octets ≤ 1048576
   pub whole : Within 0x30 IsSigned octets c
   pub agree : c.tbsCertList.signature ≡ c.signatureAlgorithm
+  pub version : FitVersion c.tbsCertList.version c
+  pub distinct : AllKeep Repeated c
+  pub sound : AllKeep Values c
+  pub profile : profile_fault c ≡ None

@@ -1,11 +1,10 @@
 -- The table of a list of revoked certificates (RFC 5280 5.1, as restated in Appendix A.1), and the first rule that octets
 -- break.
-use Rattle.std.specs.Prelude.{ℕ, ◌==◌, not, nat_lt, Bool, false, List, [], ◌∷◌, length, Option, Some, None, Result, Ok, Err, if◌then◌else◌}
-use Rattle.std.specs.Str.{bytes_eq}
+use Rattle.std.specs.Prelude.{ℕ, ◌==◌, not, nat_lt, Bool, false, List, [], ◌∷◌, length, Option, Some, None, option_map, Result, Ok, Err, if◌then◌else◌}
 use Rattle.ts_der.specs.declared.fault.DerFault.TheVariants.{TooLarge}
 use Rattle.ts_der.specs.Answer.{◌>>=◌}
 use Rattle.ts_der.specs.Integer.{integer_rules}
-use Rattle.ts_name.specs.declared.fault.CertRule.TheVariants.{Der, Version, AlgorithmMismatch}
+use Rattle.ts_name.specs.declared.fault.CertRule.TheVariants.{Der, Version}
 use Rattle.ts_name.specs.declared.fault.CertFault.{CertFault}
 use Rattle.ts_name.specs.Fault.{breaks}
 use Rattle.ts_name.specs.Shape.{ContentRules, Row, Shape, optional, tagged, no_other, items, nothing, ◌then◌, ◌or_else◌, judge, der_rules, no_rules, one_rule, primitive, sequence}
@@ -13,8 +12,11 @@ use Rattle.ts_name.specs.Rows.{integer, bit_string, name}
 use Rattle.ts_cert.specs.Table.{algorithm_identifier, time, from_front}
 use Rattle.ts_ext.specs.Extension.{extensions as extension_items}
 use Rattle.ts_ext.specs.Table.{list_rules}
+use Rattle.ts_crl.specs.Fault.{ListFault, broken}
 use Rattle.ts_crl.specs.List.{CertificateList, StandingList, said_list}
+use Rattle.ts_crl.specs.Profile.{profile_fault}
 use Rattle.ts_crl.specs.Reading.{shape_of}
+use Rattle.ts_crl.specs.Rules.{placed_fault}
 
 -- ---- the shape
 
@@ -78,31 +80,29 @@ certificate_list = sequence (tbs_cert_list then algorithm_identifier then bit_st
 abbrev pub shape_fault : List ℕ → Option CertFault
 shape_fault octets = if nat_lt 1048576 (length octets) then Some (breaks 0 (Der TooLarge)) else judge (certificate_list then nothing) (from_front octets)
 
--- ---- rules of a list that has the shape
-
--- signatureAlgorithm is the same as signature (5.1.1.2)
-abbrev pub algorithms_fault : StandingList → Option CertFault
-algorithms_fault l = if bytes_eq l.tbsCertList.signature.whole l.signatureAlgorithm.whole then None else Some (breaks l.identifier_at AlgorithmMismatch)
-
--- the first of them that is broken
-abbrev pub list_fault : StandingList → Option CertFault
-list_fault l = algorithms_fault l
-
 -- ---- the whole
 
-abbrev pub list_fault_of : Result StandingList CertFault → Option CertFault
+-- the first rule that a list of this shape breaks: those that have a place, then those of this profile
+abbrev pub list_fault : StandingList → Option ListFault
+list_fault l = option_map (λ f. broken f) (placed_fault l) or_else profile_fault (said_list l)
+
+abbrev pub list_fault_of : Result StandingList CertFault → Option ListFault
 list_fault_of (Ok l) = list_fault l
 list_fault_of (Err f) = None
 
 -- the first rule that is broken: of the shape, then of the list that it is
-abbrev pub crl_fault : List ℕ → Option CertFault
-crl_fault octets = shape_fault octets or_else list_fault_of (shape_of octets)
+abbrev pub crl_fault : List ℕ → Option ListFault
+crl_fault octets = option_map (λ f. broken f) (shape_fault octets) or_else list_fault_of (shape_of octets)
 
 -- what a list says, or the first rule that it breaks
-abbrev pub unless_broken : StandingList → Option CertFault → Result CertificateList CertFault
+abbrev pub unless_broken : StandingList → Option ListFault → Result CertificateList ListFault
 unless_broken l None = Ok (said_list l)
 unless_broken l (Some f) = Err f
 
+abbrev pub as_list : Result StandingList CertFault → Result StandingList ListFault
+as_list (Ok l) = Ok l
+as_list (Err f) = Err (broken f)
+
 -- the list that octets are
-unfoldable pub crl_of : List ℕ → Result CertificateList CertFault
-crl_of octets = shape_of octets >>= λ l. unless_broken l (list_fault l)
+unfoldable pub crl_of : List ℕ → Result CertificateList ListFault
+crl_of octets = as_list (shape_of octets) >>= λ l. unless_broken l (list_fault l)

@@ -1,26 +1,36 @@
 //! Lists of revoked certificates.
 
 ghost use Rattle.std.specs.Prelude.{◌≡◌, ◌↔◌, None, false, map, option_map, IfOk, IsOkAnd};
-ghost use Rattle.ts_der.specs.Answer.{Answers, refusal};
+ghost use Rattle.ts_der.specs.Answer.{refusal};
 ghost use Rattle.ts_name.specs.NameView.{rdns_in};
 ghost use Rattle.ts_cert.specs.View.{algorithm_in};
 ghost use Rattle.ts_ext.specs.ExtensionView.{extensions_in};
 ghost use Rattle.ts_crl.specs.Entries.{first_entry, has_entry};
 ghost use Rattle.ts_crl.specs.EntryView.{entry_in, entries_in};
+ghost use Rattle.ts_ext.specs.NameViews.{authority_key_in, issuing_point_in};
+ghost use Rattle.ts_crl.specs.Fault.{AnswersBy, fault_in};
 ghost use Rattle.ts_crl.specs.List.{CertificateList};
+ghost use Rattle.ts_crl.specs.Profile.{scope_of};
+ghost use Rattle.ts_crl.specs.Values.{number_of, key_of};
 ghost use Rattle.ts_crl.specs.ListView.{standing_list_in, crl_in};
 ghost use Rattle.ts_crl.specs.Spelling.{IsCertificateList};
 ghost use Rattle.ts_crl.specs.Table.{list_fault, crl_fault, crl_of};
 
 use crate::entry::Entry;
+use crate::fault::CrlFault;
 use crate::placed::Placed;
+use crate::profile::{profile_fault, scope};
 use crate::revoked::Revoked;
+use crate::rules::placed_fault;
 use crate::shape::read_shape;
+use crate::values::value_if_any;
 use crate::version::ListVersion;
 use ts_cert::{AlgorithmIdentifier, Stamp, Time};
 use ts_der::Integer;
-use ts_ext::Extensions;
-use ts_name::{CertFault, CertRule, Name};
+use ts_ext::{
+    AuthorityKeyIdentifier, CrlNumber, Ext, Extensions, Holder, IssuingDistributionPoint, Known,
+};
+use ts_name::Name;
 
 /// The greatest number of octets that a list may have in this profile.
 pub const MAX_CRL: usize = 1_048_576;
@@ -49,14 +59,20 @@ impl<'a> Crl<'a> {
     ///
     /// The first rule that is broken, with its place: first more than 1,048,576 octets (`TooLarge` at 0); then the shape
     /// from front to back, a version other than 2 (`Version`) in its place; then `AlgorithmMismatch`, at the algorithm
-    /// identifier beside the signature.
-    pub fn read(octets: &'a [u8]) -> Result<Crl<'a>, CertFault>
+    /// identifier beside the signature; then, of a list without a version, `ExtensionsInOldVersion` at the first element
+    /// that holds extensions; then `DuplicateExtension` at the first extension that repeats one of its own list; then the
+    /// first rule that a value breaks, extension after extension, whose place is 0 where it is not one of DER.
+    ///
+    /// Then the rules of this profile, which have no place: `NoNextUpdate`; `CriticalCrlExtension`, for the first
+    /// critical extension of the list, then of its entries, that is not read there; `Indirect`; `RelativeName`;
+    /// `DeltaCrl`.
+    pub fn read(octets: &'a [u8]) -> Result<Crl<'a>, CrlFault<'a>>
         // What is read is spelled so.
         ensures found { IfOk result (λ crl. IsCertificateList octets.now (crl_in crl)) }
         // What is spelled so is read.
         ensures only { (c : CertificateList) → IsCertificateList octets.now c → IsOkAnd result (λ crl. crl_in crl ≡ c) }
-        ensures fault { refusal result ≡ crl_fault octets.now }
-        ensures exact { Answers crl_in result (crl_of octets.now) }
+        ensures fault { option_map fault_in (refusal result) ≡ crl_fault octets.now }
+        ensures exact { AnswersBy crl_in fault_in result (crl_of octets.now) }
     {
         read_crl(octets)
     }
@@ -125,6 +141,33 @@ impl<'a> Crl<'a> {
         }
     }
 
+    /// What the list covers, where it says so (RFC 5280 5.2.5).
+    pub fn scope(self) -> Option<IssuingDistributionPoint<'a>>
+        ensures { option_map issuing_point_in result ≡ scope_of (crl_in self.entry) }
+    {
+        scope(&self)
+    }
+
+    /// The number of the list, where it has one (RFC 5280 5.2.3).
+    pub fn crl_number(self) -> Option<CrlNumber<'a>>
+        ensures { option_map (λ n. n.octets.now) result ≡ number_of (crl_in self.entry) }
+    {
+        match value_if_any(Holder::List, Known::CrlNumber, self.extensions) {
+            Some(Ext::CrlNumber(number)) => Some(number),
+            _ => None,
+        }
+    }
+
+    /// The key that signed the list, where it says so (RFC 5280 5.2.1).
+    pub fn authority_key_identifier(self) -> Option<AuthorityKeyIdentifier<'a>>
+        ensures { option_map authority_key_in result ≡ key_of (crl_in self.entry) }
+    {
+        match value_if_any(Holder::List, Known::AuthorityKeyIdentifier, self.extensions) {
+            Some(Ext::AuthorityKeyIdentifier(key)) => Some(key),
+            _ => None,
+        }
+    }
+
     /// The algorithm of the signature; it is the same within what is signed and beside the signature (RFC 5280 5.1.1.2).
     pub fn signature_algorithm(self) -> AlgorithmIdentifier<'a>
         ensures { algorithm_in result ≡ (crl_in self.entry).signatureAlgorithm }
@@ -151,21 +194,18 @@ fn find_entry<'a>(crl: Crl<'a>, serial: Integer<'_>) -> Option<Entry<'a>>
 }
 
 /// The first rule that a list of the right shape breaks.
-fn broken_rule(crl: &Crl<'_>) -> Option<CertFault>
-    ensures { result ≡ list_fault (standing_list_in crl.now) }
+fn broken_rule<'a>(crl: &Crl<'a>) -> Option<CrlFault<'a>>
+    ensures { option_map fault_in result ≡ list_fault (standing_list_in crl.now) }
 {
-    if crl.signature.whole != crl.signature_algorithm.whole {
-        return Some(CertFault {
-            kind: CertRule::AlgorithmMismatch,
-            at: crl.identifier_at,
-        });
+    match placed_fault(crl) {
+        Some(fault) => Some(CrlFault::Broken(fault)),
+        None => profile_fault(crl),
     }
-    None
 }
 
 #[tactic(auto, unfolding(crate::specs::Table::crl_of))]
-fn read_crl(octets: &[u8]) -> Result<Crl<'_>, CertFault>
-    ensures { Answers crl_in result (crl_of octets.now) }
+fn read_crl<'a>(octets: &'a [u8]) -> Result<Crl<'a>, CrlFault<'a>>
+    ensures { AnswersBy crl_in fault_in result (crl_of octets.now) }
 {
     let crl = read_shape(octets)?;
     match broken_rule(&crl) {

@@ -8,9 +8,10 @@ ghost use Rattle.ts_crl.specs.EntryView.{entry_as, entry_in};
 ghost use Rattle.ts_crl.specs.Reading.{entry_of};
 
 use crate::placed::{Placed, next_extensions_if_any};
+use crate::values::value_if_any;
 use ts_cert::{Stamp, Time, next_integer, next_time};
 use ts_der::{Element, Fault, Integer};
-use ts_ext::Extensions;
+use ts_ext::{Ext, Extensions, Holder, InvalidityDate, Known, ReasonCode};
 use ts_name::{FromElement, tagged_as};
 
 const SEQUENCE: u8 = 0x30;
@@ -63,6 +64,30 @@ impl<'a> Entry<'a> {
         match self.extensions {
             Some(placed) => Some(placed.list.extensions()),
             None => None,
+        }
+    }
+}
+
+impl<'a> Entry<'a> {
+    ghost use Rattle.ts_crl.specs.Values.{reason_of, date_of};
+
+    /// Why the certificate was revoked, where the entry says so (RFC 5280 5.3.1).
+    pub fn reason_code(self) -> Option<ReasonCode>
+        ensures { result ≡ reason_of (entry_in self.entry) }
+    {
+        match value_if_any(Holder::Entry, Known::ReasonCode, self.extensions) {
+            Some(Ext::ReasonCode(reason)) => Some(reason),
+            _ => None,
+        }
+    }
+
+    /// Since when the certificate is not to be relied on, where the entry says so (RFC 5280 5.3.2).
+    pub fn invalidity_date(self) -> Option<InvalidityDate>
+        ensures { option_map (λ d. d.seconds) result ≡ date_of (entry_in self.entry) }
+    {
+        match value_if_any(Holder::Entry, Known::InvalidityDate, self.extensions) {
+            Some(Ext::InvalidityDate(date)) => Some(date),
+            _ => None,
         }
     }
 }

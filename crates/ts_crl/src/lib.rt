@@ -5,17 +5,21 @@
 mod crl;
 mod entry;
 mod extension_list;
+mod extension_rule;
+mod fault;
 pub mod laws;
 mod placed;
+mod profile;
 mod revoked;
+mod rules;
 mod shape;
 mod tbs;
-#[cfg(test)]
-mod tests;
 mod update;
+mod values;
 mod version;
 
 pub use crl::{Crl, MAX_CRL};
 pub use entry::Entry;
+pub use fault::CrlFault;
 pub use revoked::Revoked;
 pub use version::ListVersion;
