@@ -11,9 +11,13 @@ pub mod laws;
 mod placed;
 mod profile;
 mod revoked;
+#[cfg(test)]
+mod rule_tests;
 mod rules;
 mod shape;
 mod tbs;
+#[cfg(test)]
+mod tests;
 mod update;
 mod values;
 mod version;
