@@ -1,6 +1,6 @@
 -- What reading a list refuses is the first rule of the table that is broken.
 use Rattle.std.proofs.Common.{◌≡◌, ℕ, Bool, true, false, not, ◌||◌, cond, eqb, List, [], ◌∷◌, length, Option, Some, None, Result, Ok, Err, refl, sym, ap, subst, ◌∙◌}
-use Rattle.std.specs.Prelude.{map, option_map, nat_lt, IfOk, IsOkAnd}
+use Rattle.std.specs.Prelude.{option_map, nat_lt, IfOk, IsOkAnd}
 use Rattle.ts_der.specs.declared.fault.DerFault.TheVariants.{TooLarge}
 use Rattle.ts_der.specs.declared.fault.Fault.{Fault}
 use Rattle.ts_der.specs.Answer.{◌>>=◌, refusal}
@@ -13,11 +13,11 @@ use Rattle.ts_name.specs.declared.fault.CertRule.TheVariants.{Der, Version}
 use Rattle.ts_name.specs.declared.fault.CertFault.{CertFault}
 use Rattle.ts_name.specs.Fault.{der, breaks}
 use Rattle.ts_name.specs.Fields.{integer_at, bits_at, name_at, optional_of}
-use Rattle.ts_name.specs.Items.{each, alone, of_tag}
+use Rattle.ts_name.specs.Items.{each, of_tag}
 use Rattle.ts_name.specs.Rows.{object_identifier, integer, bit_string, name}
 use Rattle.ts_name.specs.Shape.{any, optional, Shape, items, nothing, plain, ◌then◌, ◌or_else◌, header_fault, row_fault, judge, der_rules, no_rules, one_rule, sequence}
 use Rattle.ts_name.proofs.ItemParts.{tag-reads, alone-judged}
-use Rattle.ts_name.proofs.Judging.{Judged, refusal-judged, weaker, bind, no_more, no_less, element-judged, then-judged, end-judged, under, ends, value-judged, Whatever, integer-reads, bits-reads, name-reads, items-judged, regroup}
+use Rattle.ts_name.proofs.Judging.{Judged, weaker, bind, no_more, no_less, element-judged, then-judged, end-judged, under, ends, value-judged, Whatever, integer-reads, bits-reads, name-reads, items-judged}
 use Rattle.ts_name.proofs.OptionalParts.{optional-judged}
 use Rattle.ts_cert.specs.Reading.{algorithm_of, algorithm_at}
 use Rattle.ts_cert.specs.Table.{algorithm_identifier, time, from_front}
@@ -31,11 +31,11 @@ use Rattle.ts_crl.specs.declared.version.ListVersion.TheVariants.{V1, V2}
 use Rattle.ts_crl.specs.declared.fault.CrlFault.{CrlFault}
 use Rattle.ts_crl.specs.Fault.{ListFault, broken, fault_in, AnswersBy}
 use Rattle.ts_crl.specs.List.{StandingTbs, StandingList, CertificateList, said_extensions}
-use Rattle.ts_crl.specs.Reading.{extensions_of, wrapped_extensions_of, entry_of, entry_in, revoked_of, next_update_at, tbs_of, signed_of, whole_of, shape_of}
+use Rattle.ts_crl.specs.Reading.{extensions_of, wrapped_extensions_of, entry_of, entry_in, revoked_of, tbs_of, signed_of, whole_of, shape_of}
 use Rattle.ts_crl.specs.Table.{is_version, version_rules, version, extensions, entry_fields, revoked_certificates, crl_extensions, tbs_fields, tbs_cert_list, certificate_list, shape_fault, list_fault, list_fault_of, crl_fault, as_list, unless_broken, crl_of}
 use Rattle.ts_crl.specs.Version.{version_named, version_of, version_if, version_at}
-use Rattle.ts_crl.proofs.Saying.{say, Says}
-use Rattle.ts_crl.proofs.EntryParts.{extensions-said, wrapped_of, wrapped-said}
+use Rattle.ts_crl.proofs.Saying.{say}
+use Rattle.ts_crl.proofs.EntryParts.{extensions-said, wrapped-said}
 use Rattle.ts_crl.proofs.Updates.{update-judged}
 
 -- ---- the version

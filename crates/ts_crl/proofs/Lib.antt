@@ -9,3 +9,4 @@ pub mod Readiness
 pub mod Keeping
 pub mod Crls
 pub mod Judging
+pub mod OneSpelling

@@ -6,8 +6,7 @@ use Rattle.std.proofs.lemmas.List.{append-nil}
 use Rattle.ts_der.specs.declared.fault.DerFault.TheVariants.{IntegerForm, TooLarge}
 use Rattle.ts_der.specs.declared.fault.Fault.{Fault}
 use Rattle.ts_der.specs.Octets.{AreOctets}
-use Rattle.ts_der.specs.Answer.{◌>>=◌}
-use Rattle.ts_der.specs.Element.{Place, Tlv, Fits, spell, inside, spelled_at, length_octets}
+use Rattle.ts_der.specs.Element.{Place, Tlv, Fits, spell, inside, spelled_at}
 use Rattle.ts_der.specs.Integer.{is_shortest, integer_rules}
 use Rattle.ts_der.specs.Reading.{begins_with, located, value_at, element_at, optional_at, end_at}
 use Rattle.ts_der.specs.Rules.{value_unless}
@@ -18,10 +17,10 @@ use Rattle.ts_name.specs.declared.fault.CertRule.TheVariants.{Der, Version}
 use Rattle.ts_name.specs.declared.fault.CertFault.{CertFault}
 use Rattle.ts_name.specs.Canon.{Attr}
 use Rattle.ts_name.specs.Fault.{der, breaks}
-use Rattle.ts_name.specs.Fields.{Within, IfAny, bits_at, name_at, optional_of}
+use Rattle.ts_name.specs.Fields.{Within, bits_at, name_at, optional_of}
 use Rattle.ts_name.proofs.FieldParts.{bits-part, name-part}
-use Rattle.ts_name.proofs.OptionalParts.{begins-within, begins-if-any, optional-found, optional-again}
-use Rattle.ts_name.proofs.Parts.{Value, took, element-took, der-ok}
+use Rattle.ts_name.proofs.OptionalParts.{begins-if-any, optional-found, optional-again}
+use Rattle.ts_name.proofs.Parts.{took, element-took, der-ok}
 use Rattle.ts_name.proofs.Shapes.{end-ok, end-again}
 use Rattle.ts_cert.specs.declared.time.Time.{Time}
 use Rattle.ts_cert.specs.Certificate.{Algorithm}
@@ -29,17 +28,17 @@ use Rattle.ts_cert.specs.Reading.{algorithm_of, algorithm_at}
 use Rattle.ts_cert.specs.Time.{time_at}
 use Rattle.ts_cert.proofs.KeyParts.{algorithm-value, algorithm-part}
 use Rattle.ts_cert.proofs.Periods.{time-part}
-use Rattle.ts_ext.specs.Extension.{Extension, AreExtensions, extensions_of as stated_of}
+use Rattle.ts_ext.specs.Extension.{Extension, AreExtensions}
 use Rattle.ts_crl.specs.declared.version.ListVersion.{ListVersion}
 use Rattle.ts_crl.specs.declared.version.ListVersion.TheVariants.{V1, V2}
 use Rattle.ts_crl.specs.List.{StandingExtensions, StandingEntry, StandingTbs, StandingList, RevokedCertificate, TbsCertList, CertificateList, said_extensions, said_entry, said_tbs, said_list}
 use Rattle.ts_crl.specs.Reading.{wrapped_extensions_of, revoked_of, next_update_at, tbs_of, signed_of, whole_of, shape_of}
 use Rattle.ts_crl.specs.Spelling.{version_octets, AreRevoked, IsTbsCertList, IsSigned}
 use Rattle.ts_crl.specs.Version.{version_named, version_of, version_if, version_at}
-use Rattle.ts_crl.proofs.Saying.{say, say_at, Says, unsaid_at, optional-say}
+use Rattle.ts_crl.proofs.Saying.{say_at, unsaid_at, optional-say}
 use Rattle.ts_crl.proofs.EntryParts.{wrapped_of, wrapped-said, wrapped-value, stated_revoked_of, revoked-said, revoked-value}
 use Rattle.ts_crl.proofs.Readiness.{Ready, EntriesReady, ReadyTbs, optional-gets, wrapped-ready, revoked-ready, entries-if-any}
-use Rattle.ts_crl.proofs.Updates.{update-found, update-again, begins-if-time}
+use Rattle.ts_crl.proofs.Updates.{update-found, update-again}
 
 -- ---- versions
 

@@ -1,6 +1,5 @@
 -- A time that may be absent: what is read is spelled so, what is spelled so is read, and the first rule that is broken.
 use Rattle.std.proofs.Common.{◌≡◌, ℕ, ◌+◌, Bool, true, false, cond, not, ◌||◌, eqb, List, [], ◌∷◌, ◌++◌, length, Option, Some, None, Result, Ok, Err, refl, sym, ap, subst, ◌∙◌, arith}
-use Rattle.std.proofs.lemmas.Bool.{eqb-true}
 use Rattle.ts_der.specs.declared.fault.DerFault.{DerFault}
 use Rattle.ts_der.specs.declared.fault.DerFault.TheVariants.{WrongTag}
 use Rattle.ts_der.specs.declared.fault.Fault.{Fault}
@@ -15,13 +14,13 @@ use Rattle.ts_name.specs.declared.fault.CertFault.{CertFault}
 use Rattle.ts_name.specs.Fault.{der}
 use Rattle.ts_name.specs.Fields.{optional_of}
 use Rattle.ts_name.specs.Shape.{optional, Shape, ◌then◌, ◌or_else◌, header_fault, row_fault, judge}
-use Rattle.ts_name.proofs.Judging.{Judged, bind, Headed, Whatever}
+use Rattle.ts_name.proofs.Judging.{Judged, bind}
 use Rattle.ts_name.proofs.OptionalParts.{begins-within, begins-other}
 use Rattle.ts_name.proofs.Parts.{took}
 use Rattle.ts_cert.specs.declared.time.Time.{Time}
 use Rattle.ts_cert.specs.declared.time.TimeForm.{TimeForm}
 use Rattle.ts_cert.specs.declared.time.TimeForm.TheVariants.{Utc, General}
-use Rattle.ts_cert.specs.Spelling.{IsTimeIn, IsTime}
+use Rattle.ts_cert.specs.Spelling.{IsTimeIn}
 use Rattle.ts_cert.specs.Table.{time}
 use Rattle.ts_cert.specs.Time.{time_of, time_at}
 use Rattle.ts_cert.proofs.Judging.{time-reads}

@@ -14,7 +14,7 @@ use Rattle.ts_name.specs.Items.{each, alone, of_tag, some_of}
 use Rattle.ts_cert.specs.declared.time.Time.{Time}
 use Rattle.ts_cert.specs.Reading.{algorithm_of, algorithm_at}
 use Rattle.ts_cert.specs.Time.{time_of, time_at}
-use Rattle.ts_ext.specs.Extension.{Standing, standing_in}
+use Rattle.ts_ext.specs.Extension.{standing_in}
 use Rattle.ts_crl.specs.List.{StandingExtensions, StandingEntry, StandingTbs, StandingList}
 use Rattle.ts_crl.specs.Version.{version_at}
 

@@ -1,15 +1,15 @@
 -- Rules of the extensions of a list and of its entries, whose places count (RFC 5280 4.2, 5.1.2.1, 5.2, 5.3).
-use Rattle.std.specs.Prelude.{◌≡◌, List, [], ◌∷◌, Option, Some, None, unwrap_or, option_map, if◌then◌else◌}
+use Rattle.std.specs.Prelude.{◌≡◌, List, [], ◌∷◌, Option, Some, None, unwrap_or, if◌then◌else◌}
 use Rattle.std.specs.Str.{bytes_eq}
 use Rattle.ts_name.specs.declared.fault.CertFault.{CertFault}
-use Rattle.ts_name.specs.declared.fault.CertRule.TheVariants.{AlgorithmMismatch, DuplicateExtension, ExtensionsInOldVersion}
+use Rattle.ts_name.specs.declared.fault.CertRule.TheVariants.{AlgorithmMismatch, ExtensionsInOldVersion}
 use Rattle.ts_name.specs.Fault.{breaks}
 use Rattle.ts_name.specs.Repeats.{first_repeated}
 use Rattle.ts_name.specs.Shape.{◌or_else◌}
 use Rattle.ts_ext.specs.declared.known.Holder.{Holder}
 use Rattle.ts_ext.specs.declared.known.Holder.TheVariants.{List as ListHolder, Entry}
 use Rattle.ts_ext.specs.Extension.{Extension}
-use Rattle.ts_ext.specs.ValueRules.{values_fault, AreSound}
+use Rattle.ts_ext.specs.ValueRules.{repeated_fault, values_fault, AreSound}
 use Rattle.ts_crl.specs.declared.extension_rule.ExtensionRule.{ExtensionRule}
 use Rattle.ts_crl.specs.declared.extension_rule.ExtensionRule.TheVariants.{OldVersion, Repeated, Values}
 use Rattle.ts_crl.specs.declared.version.ListVersion.{ListVersion}
@@ -24,7 +24,7 @@ abbrev pub rule_fault : ExtensionRule → Holder → StandingExtensions → Opti
 -- a list of version 1 has none (5.1.2.1)
 rule_fault OldVersion holder x = Some (breaks x.at ExtensionsInOldVersion)
 -- none stands twice (4.2)
-rule_fault Repeated holder x = option_map (λ r. breaks r.at DuplicateExtension) (first_repeated (λ r. r.extnID) [] x.extensions)
+rule_fault Repeated holder x = repeated_fault x.extensions
 -- the value of each is one that its extension has (5.2, 5.3)
 rule_fault Values holder x = values_fault holder x.extensions
 

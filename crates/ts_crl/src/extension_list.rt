@@ -1,10 +1,12 @@
 //! Extensions whose shape was checked.
 
-ghost use Rattle.std.specs.Prelude.{◌≡◌, None};
-ghost use Rattle.ts_der.specs.Answer.{refusal};
+ghost use Rattle.std.specs.Prelude.{◌≡◌};
+ghost use Rattle.ts_der.specs.Answer.{Answers};
 ghost use Rattle.ts_der.specs.View.{now};
 ghost use Rattle.ts_name.specs.Items.{some_of};
 ghost use Rattle.ts_ext.specs.Extension.{standing_in};
+ghost use Rattle.ts_ext.specs.ExtensionView.{standings_in};
+ghost use Rattle.ts_crl.specs.EntryView.{listed_in};
 
 use ts_der::{Element, Fault};
 use ts_ext::{Extension, Extensions};
@@ -15,14 +17,9 @@ use ts_name::SequenceOf;
 #[derive(Clone, Copy)]
 pub(crate) struct ExtensionList<'a> {
     pub element: Element<'a>,
-    ghost accepted: { refusal (some_of standing_in (now element)) ≡ None },
 }
 
 impl<'a> ExtensionList<'a> {
-    ghost use Rattle.ts_der.specs.Answer.{Answers};
-    ghost use Rattle.ts_ext.specs.ExtensionView.{standings_in};
-    ghost use Rattle.ts_crl.specs.EntryView.{listed_in};
-
     /// The extensions that a SEQUENCE's content is, whatever their values say.
     pub(crate) fn read(element: Element<'a>) -> Result<ExtensionList<'a>, Fault>
         ensures { Answers listed_in result (some_of standing_in (now element.entry)) }
@@ -31,13 +28,10 @@ impl<'a> ExtensionList<'a> {
         Ok(ExtensionList { element })
     }
 
-    /// The extensions, whose shape is read once more.
+    /// The extensions.
     pub(crate) fn extensions(self) -> Extensions<'a>
         ensures { standings_in result ≡ listed_in self.entry }
     {
-        match SequenceOf::read(self.element) {
-            Ok(list) => Extensions { list },
-            Err(_) => unreachable!(),
-        }
+        Extensions::within(self.element)
     }
 }

@@ -3,6 +3,7 @@
 ghost use Rattle.std.specs.Prelude.{◌≡◌, Some};
 ghost use Rattle.ts_crl.specs.Fault.{fault_in, fault_code, fault_text};
 
+use std::error::Error;
 use std::fmt;
 use ts_name::CertFault;
 
@@ -55,6 +56,8 @@ impl<'a> fmt::Display for CrlFault<'a> {
         write!(f, "{name}")
     }
 }
+
+impl<'a> Error for CrlFault<'a> {}
 
 impl<'a> From<CertFault> for CrlFault<'a> {
     ghost use Rattle.ts_crl.specs.declared.fault.CrlFault.TheVariants.{Broken};

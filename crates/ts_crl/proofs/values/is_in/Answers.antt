@@ -1,4 +1,4 @@
-use Rattle.std.proofs.Common.{sym, ◌∙◌}
+use Rattle.std.proofs.Common.{◌∙◌}
 use Rattle.std.specs.Prelude.{map}
 use Rattle.ts_ext.specs.Extension.{said}
 use Rattle.ts_crl.specs.EntryView.{extension_as, listed_in}

@@ -1,4 +1,4 @@
-use Rattle.std.proofs.Common.{◌≡◌, refl, arith}
+use Rattle.std.proofs.Common.{arith}
 use Rattle.ts_crl.specs.Fault.{fault_in}
 use Rattle.ts_crl.specs.ListView.{crl_in}
 use Rattle.ts_crl.specs.Spelling.{IsCertificateList}
