@@ -355,7 +355,7 @@ signed-again e c is =
 -- ---- certificates
 
 -- no two algorithm identifiers have the same octets
-one-algorithm : (w v : List ℕ) (a b : Algorithm) → Within 0x30 IsAlgorithm w a → Within 0x30 IsAlgorithm v b → a.whole ≡ b.whole → a ≡ b
+pub one-algorithm : (w v : List ℕ) (a b : Algorithm) → Within 0x30 IsAlgorithm w a → Within 0x30 IsAlgorithm v b → a.whole ≡ b.whole → a ≡ b
 one-algorithm w v a b is other same =
     let both : spell 0x30 is.content ++ [] ≡ spell 0x30 other.content ++ [] = ap (λ (o : List ℕ). o ++ []) (sym is.value.whole ∙ (same ∙ other.value.whole)) in
     let content = one-element 0x30 0x30 is.content other.content [] [] is.fits other.fits both in

@@ -58,7 +58,7 @@ parameters-judged {B} others here f Q k = by_end (is_end here.rest)
         subst (λ r. Judged r (header_fault here or_else row_fault (optional any) (element_of here) or_else judge others (behind here)) Q) (sym (regrouped (next_at here)))
         (next-judged (optional any) here (λ e. Ok e.whole) (λ x v. f (Some v, x.1)) (judge others (behind here)) (λ v. Unit {0}) Q (refl, tt) (λ v h p. k (Some v) (behind here)))
 
-algorithm-judged : (e : Tlv) → Judged (der (algorithm_of e)) (judge (object_identifier then optional any then nothing) (inside e) or_else None) (λ a. a.whole ≡ e.whole)
+pub algorithm-judged : (e : Tlv) → Judged (der (algorithm_of e)) (judge (object_identifier then optional any then nothing) (inside e) or_else None) (λ a. a.whole ≡ e.whole)
 unfolding algorithm_of
 algorithm-judged e =
     no_more _ _ _
@@ -67,7 +67,7 @@ algorithm-judged e =
     under (parameters_at (behind (inside e))) _ _ _
     (parameters-judged nothing (behind (inside e)) _ _ (λ parameters after. ends after _ _ (λ h. refl))))))
 
-algorithm-reads : Reads algorithm_identifier (λ here. der (algorithm_at here)) (λ e a. a.whole ≡ e.whole)
+pub algorithm-reads : Reads algorithm_identifier (λ here. der (algorithm_at here)) (λ e a. a.whole ≡ e.whole)
 unfolding algorithm_at
 algorithm-reads = within-reads 0x30 (object_identifier then optional any then nothing) no_rules algorithm_of (λ e a. a.whole ≡ e.whole) algorithm-judged
 
@@ -79,7 +79,7 @@ moment-judged : (at : ℕ) (o : Option ℤ) (form : ℤ → Time)
 moment-judged at None form = refl
 moment-judged at (Some m) form = (refl, tt)
 
-time-judged : (e : Tlv) → Judged (der (time_of e)) (row_fault time e) (λ t. Unit {0})
+pub time-judged : (e : Tlv) → Judged (der (time_of e)) (row_fault time e) (λ t. Unit {0})
 unfolding time_of
 time-judged e = by_tag (eqb e.tag 0x17) (eqb e.tag 0x18)
   where
@@ -92,7 +92,7 @@ time-judged e = by_tag (eqb e.tag 0x17) (eqb e.tag 0x18)
     by_tag false true = moment-judged e.at (general_in e.content) (λ m. record { form = General; moment = m })
     by_tag false false = refl
 
-time-reads : Reads time (λ here. der (time_at here)) Whatever
+pub time-reads : Reads time (λ here. der (time_at here)) Whatever
 unfolding time_at
 time-reads = next-reads time time_of Whatever time-judged
 

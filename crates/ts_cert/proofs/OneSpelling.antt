@@ -15,19 +15,19 @@ use Rattle.ts_ext.specs.Spelling.{IfTrue}
 use Rattle.ts_cert.specs.Spelling.{IsTimeIn, IsAlgorithm, IsKeyInfo, IsValidity, IsUniqueIdentifier, IsTbs}
 
 -- one content for each value
-abbrev One : {A : Type 0} → (List ℕ → A → Type 0) → Type 0
+abbrev pub One : {A : Type 0} → (List ℕ → A → Type 0) → Type 0
 One {A} Spells = (c d : List ℕ) (x : A) → Spells c x → Spells d x → c ≡ d
 
-one-within : {A : Type 0} (tag : ℕ) (Spells : List ℕ → A → Type 0) → One Spells → One (Within tag Spells)
+pub one-within : {A : Type 0} (tag : ℕ) (Spells : List ℕ → A → Type 0) → One Spells → One (Within tag Spells)
 one-within tag Spells one c d x a b = a.spelled ∙ (ap (λ (o : List ℕ). spell tag o) (one a.content b.content x a.value b.value) ∙ sym b.spelled)
 
-one-algorithm : One (Within 0x30 IsAlgorithm)
+pub one-algorithm : One (Within 0x30 IsAlgorithm)
 one-algorithm c d x a b = a.spelled ∙ (sym a.value.whole ∙ (b.value.whole ∙ sym b.spelled))
 
-one-name : One IsName
+pub one-name : One IsName
 one-name c d x a b = a.whole ∙ sym b.whole
 
-one-time : (f : TimeForm) → One (IsTimeIn f)
+pub one-time : (f : TimeForm) → One (IsTimeIn f)
 one-time Utc c d m a b = one-within 0x17 IsUtc (λ v w n is other. IsUtc-one_text v w n is other) c d m a b
 one-time General c d m a b = one-within 0x18 IsGeneral (λ v w n is other. IsGeneral-one_text v w n is other) c d m a b
 
@@ -43,11 +43,11 @@ one-key c d k a b =
     let second = one-within 0x03 IsBits (λ v w n is other. is ∙ sym other) a.key b.key k.subjectPublicKey a.subjectPublicKey b.subjectPublicKey in
     a.fields ∙ (ap (λ (o : List ℕ). o ++ a.key) first ∙ (ap (λ (o : List ℕ). b.identifier ++ o) second ∙ sym b.fields))
 
-one-if-any : {A : Type 0} (tag : ℕ) (Spells : List ℕ → A → Type 0) → One Spells → One (IfAny tag Spells)
+pub one-if-any : {A : Type 0} (tag : ℕ) (Spells : List ℕ → A → Type 0) → One Spells → One (IfAny tag Spells)
 one-if-any tag Spells one c d None a b = a ∙ sym b
 one-if-any tag Spells one c d (Some x) a b = one-within tag Spells one c d x a b
 
-one-items : {A : Type 0} (Spells : List ℕ → A → Type 0) → One Spells → (xs : List A) (c d : List ℕ) → AreItems Spells c xs → AreItems Spells d xs → c ≡ d
+pub one-items : {A : Type 0} (Spells : List ℕ → A → Type 0) → One Spells → (xs : List A) (c d : List ℕ) → AreItems Spells c xs → AreItems Spells d xs → c ≡ d
 one-items Spells one [] c d a b = a ∙ sym b
 one-items Spells one (x ∷ xs) c d a b =
     let first = one a.0 b.0 x a.2 b.2 in
@@ -58,14 +58,14 @@ one-flag : (b : Bool) (c d : List ℕ) → IfTrue 0x01 c b → IfTrue 0x01 d b �
 one-flag false c d a b = a ∙ sym b
 one-flag true c d a b = a ∙ sym b
 
-one-extension : One IsExtension
+pub one-extension : One IsExtension
 one-extension c d x a b =
     let id = one-within 0x06 IsOid (λ v w n is other. is.0 ∙ sym other.0) a.id b.id x.extnID a.extnID b.extnID in
     let flag = one-flag x.critical a.flag b.flag a.critical b.critical in
     let value = one-within 0x04 AreOctetsOf (λ v w n is other. is ∙ sym other) a.value b.value x.extnValue a.extnValue b.extnValue in
     a.fields ∙ (rw (id, flag, value) refl ∙ sym b.fields)
 
-one-explicit : One AreExplicit
+pub one-explicit : One AreExplicit
 one-explicit c d xs a b = one-within 0x30 AreExtensions (λ v w ys is other. one-items (Within 0x30 IsExtension) (one-within 0x30 IsExtension one-extension) ys v w is.1 other.1) c d xs a b
 
 one-unique : One IsUniqueIdentifier

@@ -50,7 +50,7 @@ time_by utc general e =
     cond utc (located e.at (utc_value e.content) >>= λ m. Ok (record { form = Utc; moment = m }))
     (cond general (located e.at (general_value e.content) >>= λ m. Ok (record { form = General; moment = m })) (Err (fault_at e.at WrongTag)))
 
-time_of-found : (e : Tlv) (t : Time) → Fits e.tag e.content → e.whole ≡ spell e.tag e.content → time_of e ≡ Ok t → IsTime e.whole t
+pub time_of-found : (e : Tlv) (t : Time) → Fits e.tag e.content → e.whole ≡ spell e.tag e.content → time_of e ≡ Ok t → IsTime e.whole t
 unfolding time_of
 time_of-found e t fits spelled read = by_tag (eqb e.tag 0x17) (eqb e.tag 0x18) refl refl read
   where
@@ -84,7 +84,7 @@ again_in General m here w rest is e =
     let one = next-only here 0x18 is.content rest is.fits (e ∙ ap (λ (o : List ℕ). o ++ rest) is.spelled) in
     rw (one, general_in-only is.content m is.value) (ap (λ (o : List ℕ). Ok (record { form = General; moment = m }, record { rest = rest; at = here.at + length o })) (sym is.spelled))
 
-time-part : Part time_at IsTime
+pub time-part : Part time_at IsTime
 time-part = record { found = time-found; again = λ here t w rest is e. again_in t.form t.moment here w rest is e }
 
 validity-found : (e : Tlv) (v : Validity) → AreOctets e.content → e.whole ≡ spell 0x30 e.content → validity_of e ≡ Ok v → IsValidity e.content v

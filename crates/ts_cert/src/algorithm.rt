@@ -34,7 +34,7 @@ fn next_parameters<'a>(fields: &mut Reader<'a>) -> Result<Option<&'a [u8]>, Faul
 
 /// The algorithm identifier that a SEQUENCE is.
 #[tactic(auto, unfolding(crate::specs::Reading::algorithm_of))]
-pub(crate) fn read_algorithm<'a>(element: Element<'a>) -> Result<AlgorithmIdentifier<'a>, Fault>
+pub fn read_algorithm<'a>(element: Element<'a>) -> Result<AlgorithmIdentifier<'a>, Fault>
     ensures { Answers algorithm_in result (algorithm_of (now element.entry)) }
 {
     let mut fields = element.reader();
@@ -50,7 +50,7 @@ pub(crate) fn read_algorithm<'a>(element: Element<'a>) -> Result<AlgorithmIdenti
 
 /// The algorithm identifier that stands next, which the reader has then passed.
 #[tactic(auto, unfolding(crate::specs::Reading::algorithm_at, ts_name::specs::Names::within))]
-pub(crate) fn next_algorithm<'a>(fields: &mut Reader<'a>) -> Result<AlgorithmIdentifier<'a>, Fault>
+pub fn next_algorithm<'a>(fields: &mut Reader<'a>) -> Result<AlgorithmIdentifier<'a>, Fault>
     ensures { Takes algorithm_in fields.new result (algorithm_at fields.old) }
 {
     read_algorithm(fields.element(SEQUENCE)?)

@@ -25,7 +25,7 @@ pub(crate) fn next_oid<'a>(fields: &mut Reader<'a>) -> Result<&'a [u8], Fault>
 
 /// An INTEGER of any size.
 #[tactic(auto, unfolding(ts_name::specs::Fields::integer_at, ts_name::specs::Names::within))]
-pub(crate) fn next_integer<'a>(fields: &mut Reader<'a>) -> Result<Integer<'a>, Fault>
+pub fn next_integer<'a>(fields: &mut Reader<'a>) -> Result<Integer<'a>, Fault>
     ensures { Takes (λ i. i.octets.now) fields.new result (integer_at fields.old) }
 {
     fields.element(INTEGER)?.integer()
@@ -33,7 +33,7 @@ pub(crate) fn next_integer<'a>(fields: &mut Reader<'a>) -> Result<Integer<'a>, F
 
 /// The octets of a BIT STRING without unused bits.
 #[tactic(auto, unfolding(ts_name::specs::Fields::bits_at, ts_name::specs::Names::within))]
-pub(crate) fn next_bits<'a>(fields: &mut Reader<'a>) -> Result<&'a [u8], Fault>
+pub fn next_bits<'a>(fields: &mut Reader<'a>) -> Result<&'a [u8], Fault>
     ensures { Takes (λ c. c.now) fields.new result (bits_at fields.old) }
 {
     fields.element(BIT_STRING)?.whole_octets()
@@ -41,7 +41,7 @@ pub(crate) fn next_bits<'a>(fields: &mut Reader<'a>) -> Result<&'a [u8], Fault>
 
 /// A distinguished name.
 #[tactic(auto, unfolding(ts_name::specs::Fields::name_at, ts_name::specs::Names::within))]
-pub(crate) fn next_name<'a>(fields: &mut Reader<'a>) -> Result<Name<'a>, Fault>
+pub fn next_name<'a>(fields: &mut Reader<'a>) -> Result<Name<'a>, Fault>
     ensures { Takes rdns_in fields.new result (name_at fields.old) }
 {
     Name::read(fields.element(SEQUENCE)?)

@@ -22,9 +22,10 @@ mod tests;
 mod time;
 mod version;
 
-pub use algorithm::AlgorithmIdentifier;
+pub use algorithm::{AlgorithmIdentifier, next_algorithm, read_algorithm};
 pub use certificate::{Cert, MAX_CERTIFICATE};
+pub use fields::{next_bits, next_integer, next_name};
 pub use key::SubjectPublicKeyInfo;
 pub use owned::{OwnedCert, OwnedCertFault};
-pub use time::{Time, TimeForm, Validity};
+pub use time::{Stamp, Time, TimeForm, Validity, next_time, read_time};
 pub use version::Version;

@@ -40,7 +40,7 @@ pub struct Validity {
 /// A time as a certificate keeps it. The language's borrow checker can't hand on a struct that holds a `Moment`, which
 /// contracts see as a number, beside a name, which has a proved invariant.
 #[derive(Clone, Copy)]
-pub(crate) struct Stamp {
+pub struct Stamp {
     pub form: TimeForm,
     /// The seconds of the moment.
     pub seconds: i64,
@@ -57,7 +57,8 @@ impl Stamp {
     ghost use Rattle.std.specs.Prelude.{◌≡◌};
     ghost use Rattle.ts_cert.specs.Period.{time_in};
 
-    fn of(time: Time) -> Stamp
+    /// The time, to be kept.
+    pub fn of(time: Time) -> Stamp
         ensures { time_in result ≡ time }
     {
         Stamp {
@@ -66,7 +67,8 @@ impl Stamp {
         }
     }
 
-    fn time(self) -> Time
+    /// The time that is kept.
+    pub fn time(self) -> Time
         ensures { result ≡ time_in self }
     {
         Time {
@@ -101,7 +103,7 @@ impl Period {
 
 /// The time that an element is, by its tag.
 #[tactic(auto, unfolding(crate::specs::Time::time_of))]
-fn read_time(element: Element<'_>) -> Result<Time, Fault>
+pub fn read_time(element: Element<'_>) -> Result<Time, Fault>
     ensures { Answers (λ t. t) result (time_of (now element.entry)) }
 {
     match element.tag {
@@ -122,7 +124,7 @@ fn read_time(element: Element<'_>) -> Result<Time, Fault>
 
 /// The time that stands next, which the reader has then passed.
 #[tactic(auto, unfolding(crate::specs::Time::time_at))]
-fn next_time(fields: &mut Reader<'_>) -> Result<Time, Fault>
+pub fn next_time(fields: &mut Reader<'_>) -> Result<Time, Fault>
     ensures { Takes (λ t. t) fields.new result (time_at fields.old) }
 {
     read_time(fields.next()?)

@@ -1,0 +1,105 @@
+-- Where the first rule of extensions that is broken is none, they keep the rules, and the other way round.
+use Rattle.std.proofs.Common.{◌≡◌, ℕ, Bool, true, false, cond, List, [], ◌∷◌, Option, Some, None, refl, sym, ap, subst, ◌∙◌}
+use Rattle.std.specs.Prelude.{map, option_map, unwrap_or}
+use Rattle.ts_name.specs.declared.fault.CertRule.TheVariants.{DuplicateExtension}
+use Rattle.ts_name.specs.Fault.{breaks}
+use Rattle.ts_name.specs.Repeats.{is_among, first_repeated}
+use Rattle.ts_name.specs.Shape.{◌or_else◌}
+use Rattle.ts_ext.specs.declared.known.Holder.{Holder}
+use Rattle.ts_ext.specs.declared.known.Holder.TheVariants.{List as ListHolder, Entry}
+use Rattle.ts_ext.specs.Extension.{Standing, said}
+use Rattle.ts_ext.specs.ValueRules.{values_fault, AreSound}
+use Rattle.ts_ext.proofs.Soundness.{sound, no-fault}
+use Rattle.ts_crl.specs.declared.extension_rule.ExtensionRule.{ExtensionRule}
+use Rattle.ts_crl.specs.declared.extension_rule.ExtensionRule.TheVariants.{OldVersion, Repeated, Values}
+use Rattle.ts_crl.specs.declared.version.ListVersion.{ListVersion}
+use Rattle.ts_crl.specs.declared.version.ListVersion.TheVariants.{V1, V2}
+use Rattle.ts_crl.specs.List.{StandingExtensions, StandingEntry, StandingList, said_extensions, said_entry, said_list}
+use Rattle.ts_crl.specs.Rules.{rule_fault, fault_if_any, entries_fault, fault_by_place, version_fault, Keeps, KeepsIfAny, EntriesKeep, AllKeep, FitVersion}
+use Rattle.ts_crl.proofs.Readiness.{Ready, IfReady, EntriesReady, ReadyTbs}
+
+pub neither : {A : Type 0} (a b : Option A) → (a or_else b) ≡ None → (a ≡ None) × (b ≡ None)
+neither None b e = (refl, e)
+neither (Some f) b e = absurd cc
+
+pub both : {A : Type 0} (a b : Option A) → a ≡ None → b ≡ None → (a or_else b) ≡ None
+both {A} a b e f = ap (λ (o : Option A). o or_else b) e ∙ f
+
+pub unmapped : {A B : Type 0} (f : A → B) (o : Option A) → option_map f o ≡ None → o ≡ None
+unmapped f None e = refl
+unmapped f (Some x) e = absurd cc
+
+-- ---- repeats
+
+said-repeated : (seen : List (List ℕ)) (xs : List Standing) → first_repeated (λ x. x.extnID) seen (map said xs) ≡ option_map said (first_repeated (λ x. x.extnID) seen xs)
+unfolding first_repeated
+said-repeated seen [] = refl
+said-repeated seen (x ∷ xs) = by_test (said-repeated (x.extnID ∷ seen) xs) (is_among x.extnID seen)
+  where
+    by_test : first_repeated (λ x. x.extnID) (x.extnID ∷ seen) (map said xs) ≡ option_map said (first_repeated (λ x. x.extnID) (x.extnID ∷ seen) xs)
+        → (b : Bool) → cond b (Some (said x)) (first_repeated (λ x. x.extnID) (x.extnID ∷ seen) (map said xs)) ≡ option_map said (cond b (Some x) (first_repeated (λ x. x.extnID) (x.extnID ∷ seen) xs))
+    by_test more true = refl
+    by_test more false = more
+
+-- ---- one rule
+
+kept-one : (rule : ExtensionRule) (holder : Holder) (x : StandingExtensions) → Ready x → rule_fault rule holder x ≡ None → Keeps rule holder (said_extensions x)
+kept-one OldVersion holder x ready e = absurd cc
+kept-one Repeated holder x ready e =
+    said-repeated [] x.extensions ∙ ap (λ (o : Option Standing). option_map said o) (unmapped (λ r. breaks r.at DuplicateExtension) (first_repeated (λ r. r.extnID) [] x.extensions) e)
+kept-one Values holder x ready e =
+    subst (λ (xs : List Standing). values_fault holder xs ≡ None → AreSound holder (map said xs)) (sym ready.2) (sound holder ready.0 ready.1).0 e
+
+keeps-one : (rule : ExtensionRule) (holder : Holder) (x : StandingExtensions) → Keeps rule holder (said_extensions x) → rule_fault rule holder x ≡ None
+keeps-one OldVersion holder x keeps = absurd keeps
+keeps-one Repeated holder x keeps =
+    ap (λ (o : Option Standing). option_map (λ r. breaks r.at DuplicateExtension) o) (unmapped said (first_repeated (λ r. r.extnID) [] x.extensions) (sym (said-repeated [] x.extensions) ∙ keeps))
+keeps-one Values holder x keeps = no-fault holder x.extensions keeps
+
+kept-if-any : (rule : ExtensionRule) (holder : Holder) (o : Option StandingExtensions) → IfReady Ready o → fault_if_any rule holder o ≡ None → KeepsIfAny rule holder (option_map said_extensions o)
+kept-if-any rule holder None ready e = tt
+kept-if-any rule holder (Some x) ready e = kept-one rule holder x ready e
+
+keeps-if-any : (rule : ExtensionRule) (holder : Holder) (o : Option StandingExtensions) → KeepsIfAny rule holder (option_map said_extensions o) → fault_if_any rule holder o ≡ None
+keeps-if-any rule holder None keeps = refl
+keeps-if-any rule holder (Some x) keeps = keeps-one rule holder x keeps
+
+kept-entries : (rule : ExtensionRule) (es : List StandingEntry) → EntriesReady es → entries_fault rule es ≡ None → EntriesKeep rule (map said_entry es)
+kept-entries rule [] ready e = tt
+kept-entries rule (x ∷ es) ready e =
+    let n = neither (fault_if_any rule Entry x.crlEntryExtensions) (entries_fault rule es) e in
+    (kept-if-any rule Entry x.crlEntryExtensions ready.0 n.0, kept-entries rule es ready.1 n.1)
+
+keeps-entries : (rule : ExtensionRule) (es : List StandingEntry) → EntriesKeep rule (map said_entry es) → entries_fault rule es ≡ None
+keeps-entries rule [] keeps = refl
+keeps-entries rule (x ∷ es) keeps =
+    both (fault_if_any rule Entry x.crlEntryExtensions) (entries_fault rule es) (keeps-if-any rule Entry x.crlEntryExtensions keeps.0) (keeps-entries rule es keeps.1)
+
+kept-entries-if-any : (rule : ExtensionRule) (o : Option (List StandingEntry)) → EntriesReady (unwrap_or o []) → entries_fault rule (unwrap_or o []) ≡ None
+    → EntriesKeep rule (unwrap_or (option_map (map said_entry) o) [])
+kept-entries-if-any rule None ready e = tt
+kept-entries-if-any rule (Some es) ready e = kept-entries rule es ready e
+
+keeps-entries-if-any : (rule : ExtensionRule) (o : Option (List StandingEntry)) → EntriesKeep rule (unwrap_or (option_map (map said_entry) o) []) → entries_fault rule (unwrap_or o []) ≡ None
+keeps-entries-if-any rule None keeps = refl
+keeps-entries-if-any rule (Some es) keeps = keeps-entries rule es keeps
+
+-- ---- a list
+
+pub all-kept : (rule : ExtensionRule) (l : StandingList) → ReadyTbs l.tbsCertList → fault_by_place rule l ≡ None → AllKeep rule (said_list l)
+all-kept rule l ready e =
+    let n = neither (entries_fault rule (unwrap_or l.tbsCertList.revokedCertificates [])) (fault_if_any rule ListHolder l.tbsCertList.crlExtensions) e in
+    (kept-entries-if-any rule l.tbsCertList.revokedCertificates ready.0 n.0, kept-if-any rule ListHolder l.tbsCertList.crlExtensions ready.1 n.1)
+
+pub all-keep : (rule : ExtensionRule) (l : StandingList) → AllKeep rule (said_list l) → fault_by_place rule l ≡ None
+all-keep rule l keeps =
+    both (entries_fault rule (unwrap_or l.tbsCertList.revokedCertificates [])) (fault_if_any rule ListHolder l.tbsCertList.crlExtensions)
+    (keeps-entries-if-any rule l.tbsCertList.revokedCertificates keeps.0) (keeps-if-any rule ListHolder l.tbsCertList.crlExtensions keeps.1)
+
+pub version-kept : (v : ListVersion) (l : StandingList) → ReadyTbs l.tbsCertList → version_fault v l ≡ None → FitVersion v (said_list l)
+version-kept V1 l ready e = all-kept OldVersion l ready e
+version-kept V2 l ready e = tt
+
+pub version-keeps : (v : ListVersion) (l : StandingList) → FitVersion v (said_list l) → version_fault v l ≡ None
+version-keeps V1 l keeps = all-keep OldVersion l keeps
+version-keeps V2 l keeps = refl

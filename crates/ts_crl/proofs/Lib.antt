@@ -1,0 +1,12 @@
+pub mod Saying
+pub mod EntryParts
+pub mod Updates
+pub mod Walks
+pub mod ListParts
+pub mod Finds
+pub mod ValueParts
+pub mod Readiness
+pub mod Keeping
+pub mod Crls
+pub mod Judging
+pub mod OneSpelling

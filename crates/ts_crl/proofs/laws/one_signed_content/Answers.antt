@@ -1,0 +1,5 @@
+use Rattle.ts_crl.proofs.OneSpelling.{one-tbs}
+use Rattle.ts_crl.proofs.laws.one_signed_content.Goals as goal
+
+pub returns : goal.returns
+returns c content other fields is same = one-tbs content other fields is same

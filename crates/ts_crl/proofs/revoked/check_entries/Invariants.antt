@@ -1,0 +1,15 @@
+use Rattle.std.proofs.Common.{◌≡◌, List, length}
+use Rattle.ts_der.specs.Element.{inside}
+use Rattle.ts_der.specs.Reading.{many}
+use Rattle.ts_der.specs.View.{now}
+use Rattle.ts_der.proofs.Many.{with_front}
+use Rattle.ts_name.specs.Items.{each}
+use Rattle.ts_crl.specs.List.{StandingEntry}
+use Rattle.ts_crl.specs.Reading.{entry_in}
+use Rattle.ts_crl.proofs.revoked.check_entries.Given as goal
+
+abbrev pub invariant-loop-rest : goal.invariant-loop-rest
+invariant-loop-rest l = (front : List StandingEntry) × (with_front front (many (each entry_in) l.rest) ≡ many (each entry_in) (inside (now l.element)))
+
+abbrev pub decreases-loop-rest : goal.decreases-loop-rest
+decreases-loop-rest l = length l.rest.rest

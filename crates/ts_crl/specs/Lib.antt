@@ -1,0 +1,12 @@
+pub mod List
+pub mod Entries
+pub mod Fault
+pub mod Version
+pub mod Reading
+pub mod Rules
+pub mod Values
+pub mod Profile
+pub mod Spelling
+pub mod Table
+pub mod EntryView
+pub mod ListView

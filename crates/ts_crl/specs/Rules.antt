@@ -1,0 +1,77 @@
+-- Rules of the extensions of a list and of its entries, whose places count (RFC 5280 4.2, 5.1.2.1, 5.2, 5.3).
+use Rattle.std.specs.Prelude.{◌≡◌, List, [], ◌∷◌, Option, Some, None, unwrap_or, if◌then◌else◌}
+use Rattle.std.specs.Str.{bytes_eq}
+use Rattle.ts_name.specs.declared.fault.CertFault.{CertFault}
+use Rattle.ts_name.specs.declared.fault.CertRule.TheVariants.{AlgorithmMismatch, ExtensionsInOldVersion}
+use Rattle.ts_name.specs.Fault.{breaks}
+use Rattle.ts_name.specs.Repeats.{first_repeated}
+use Rattle.ts_name.specs.Shape.{◌or_else◌}
+use Rattle.ts_ext.specs.declared.known.Holder.{Holder}
+use Rattle.ts_ext.specs.declared.known.Holder.TheVariants.{List as ListHolder, Entry}
+use Rattle.ts_ext.specs.Extension.{Extension}
+use Rattle.ts_ext.specs.ValueRules.{repeated_fault, values_fault, AreSound}
+use Rattle.ts_crl.specs.declared.extension_rule.ExtensionRule.{ExtensionRule}
+use Rattle.ts_crl.specs.declared.extension_rule.ExtensionRule.TheVariants.{OldVersion, Repeated, Values}
+use Rattle.ts_crl.specs.declared.version.ListVersion.{ListVersion}
+use Rattle.ts_crl.specs.declared.version.ListVersion.TheVariants.{V1, V2}
+use Rattle.ts_crl.specs.Entries.{entries_of}
+use Rattle.ts_crl.specs.List.{StandingExtensions, StandingEntry, StandingList, RevokedCertificate, CertificateList}
+
+-- ---- the first rule that is broken
+
+-- the first place at which extensions break a rule
+abbrev pub rule_fault : ExtensionRule → Holder → StandingExtensions → Option CertFault
+-- a list of version 1 has none (5.1.2.1)
+rule_fault OldVersion holder x = Some (breaks x.at ExtensionsInOldVersion)
+-- none stands twice (4.2)
+rule_fault Repeated holder x = repeated_fault x.extensions
+-- the value of each is one that its extension has (5.2, 5.3)
+rule_fault Values holder x = values_fault holder x.extensions
+
+abbrev pub fault_if_any : ExtensionRule → Holder → Option StandingExtensions → Option CertFault
+fault_if_any rule holder None = None
+fault_if_any rule holder (Some x) = rule_fault rule holder x
+
+abbrev pub entries_fault : ExtensionRule → List StandingEntry → Option CertFault
+entries_fault rule [] = None
+entries_fault rule (e ∷ es) = fault_if_any rule Entry e.crlEntryExtensions or_else entries_fault rule es
+
+-- the entries stand before the extensions of the list
+abbrev pub fault_by_place : ExtensionRule → StandingList → Option CertFault
+fault_by_place rule l = entries_fault rule (unwrap_or l.tbsCertList.revokedCertificates []) or_else fault_if_any rule ListHolder l.tbsCertList.crlExtensions
+
+abbrev pub version_fault : ListVersion → StandingList → Option CertFault
+version_fault V1 l = fault_by_place OldVersion l
+version_fault V2 l = None
+
+-- signatureAlgorithm is the same as signature (5.1.1.2)
+abbrev pub algorithms_fault : StandingList → Option CertFault
+algorithms_fault l = if bytes_eq l.tbsCertList.signature.whole l.signatureAlgorithm.whole then None else Some (breaks l.identifier_at AlgorithmMismatch)
+
+-- the first of these rules that a list breaks
+abbrev pub placed_fault : StandingList → Option CertFault
+placed_fault l = algorithms_fault l or_else version_fault l.tbsCertList.version l or_else fault_by_place Repeated l or_else fault_by_place Values l
+
+-- ---- what keeps the rules
+
+abbrev pub Keeps : ExtensionRule → Holder → List Extension → Type 0
+Keeps OldVersion holder xs = ⊥
+Keeps Repeated holder xs = first_repeated (λ x. x.extnID) [] xs ≡ None
+Keeps Values holder xs = AreSound holder xs
+
+abbrev pub KeepsIfAny : ExtensionRule → Holder → Option (List Extension) → Type 0
+KeepsIfAny rule holder None = Unit {0}
+KeepsIfAny rule holder (Some xs) = Keeps rule holder xs
+
+abbrev pub EntriesKeep : ExtensionRule → List RevokedCertificate → Type 0
+EntriesKeep rule [] = Unit {0}
+EntriesKeep rule (e ∷ es) = KeepsIfAny rule Entry e.crlEntryExtensions × EntriesKeep rule es
+
+-- the extensions of each entry, and those of the list
+abbrev pub AllKeep : ExtensionRule → CertificateList → Type 0
+AllKeep rule c = EntriesKeep rule (entries_of c) × KeepsIfAny rule ListHolder c.tbsCertList.crlExtensions
+
+-- a list of version 1 has no extensions
+abbrev pub FitVersion : ListVersion → CertificateList → Type 0
+FitVersion V1 c = AllKeep OldVersion c
+FitVersion V2 c = Unit {0}

@@ -1,0 +1,37 @@
+//! Extensions whose shape was checked.
+
+ghost use Rattle.std.specs.Prelude.{◌≡◌};
+ghost use Rattle.ts_der.specs.Answer.{Answers};
+ghost use Rattle.ts_der.specs.View.{now};
+ghost use Rattle.ts_name.specs.Items.{some_of};
+ghost use Rattle.ts_ext.specs.Extension.{standing_in};
+ghost use Rattle.ts_ext.specs.ExtensionView.{standings_in};
+ghost use Rattle.ts_crl.specs.EntryView.{listed_in};
+
+use ts_der::{Element, Fault};
+use ts_ext::{Extension, Extensions};
+use ts_name::SequenceOf;
+
+/// One extension or more. The language's borrow checker can't hand on a struct that holds `Extensions`, so that this
+/// keeps the SEQUENCE alone.
+#[derive(Clone, Copy)]
+pub(crate) struct ExtensionList<'a> {
+    pub element: Element<'a>,
+}
+
+impl<'a> ExtensionList<'a> {
+    /// The extensions that a SEQUENCE's content is, whatever their values say.
+    pub(crate) fn read(element: Element<'a>) -> Result<ExtensionList<'a>, Fault>
+        ensures { Answers listed_in result (some_of standing_in (now element.entry)) }
+    {
+        SequenceOf::<Extension<'a>>::read(element)?;
+        Ok(ExtensionList { element })
+    }
+
+    /// The extensions.
+    pub(crate) fn extensions(self) -> Extensions<'a>
+        ensures { standings_in result ≡ listed_in self.entry }
+    {
+        Extensions::within(self.element)
+    }
+}

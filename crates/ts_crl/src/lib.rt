@@ -1,0 +1,29 @@
+//! Lists of revoked certificates (RFC 5280 5), read where they lie: no memory, no copy, and of octets that are none the
+//! first rule that is broken, with its place.
+#![tactic(auto)]
+
+mod crl;
+mod entry;
+mod extension_list;
+mod extension_rule;
+mod fault;
+pub mod laws;
+mod placed;
+mod profile;
+mod revoked;
+#[cfg(test)]
+mod rule_tests;
+mod rules;
+mod shape;
+mod tbs;
+#[cfg(test)]
+mod tests;
+mod update;
+mod values;
+mod version;
+
+pub use crl::{Crl, MAX_CRL};
+pub use entry::Entry;
+pub use fault::CrlFault;
+pub use revoked::Revoked;
+pub use version::ListVersion;

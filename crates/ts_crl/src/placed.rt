@@ -1,0 +1,86 @@
+//! Extensions of a list or of an entry, with their place.
+
+ghost use Rattle.std.specs.Prelude.{option_map};
+ghost use Rattle.ts_der.specs.Answer.{Answers};
+ghost use Rattle.ts_der.specs.View.{now};
+ghost use Rattle.ts_name.specs.Fields.{optional_of};
+ghost use Rattle.ts_name.specs.Items.{alone, of_tag, some_of};
+ghost use Rattle.ts_name.specs.Steps.{Takes};
+ghost use Rattle.ts_ext.specs.Extension.{standing_in};
+ghost use Rattle.ts_crl.specs.EntryView.{listed_in, placed_in};
+ghost use Rattle.ts_crl.specs.Reading.{extensions_of, wrapped_extensions_of};
+
+use crate::extension_list::ExtensionList;
+use ts_der::{Element, Fault, Reader};
+use ts_name::tagged_as;
+
+const SEQUENCE: u8 = 0x30;
+
+/// The tag of a list's extensions, which are explicit (RFC 5280 5.1).
+const CRL_EXTENSIONS: u8 = 0xA0;
+
+/// The extensions of a list or of an entry (RFC 5280 5.1.2.7, 5.3).
+#[derive(Clone, Copy)]
+pub(crate) struct Placed<'a> {
+    /// The offset of the element that holds them: of a list the explicit tag, of an entry the SEQUENCE.
+    pub at: usize,
+    /// The extensions.
+    pub list: ExtensionList<'a>,
+}
+
+/// The extensions that a SEQUENCE is.
+#[tactic(auto, unfolding(crate::specs::Reading::extensions_of))]
+fn read_extensions<'a>(element: Element<'a>) -> Result<Placed<'a>, Fault>
+    ensures { Answers placed_in result (extensions_of (now element.entry)) }
+{
+    Ok(Placed {
+        at: element.at,
+        list: ExtensionList::read(element)?,
+    })
+}
+
+/// The extensions that a SEQUENCE within an element is, and nothing behind it.
+#[tactic(auto, unfolding(ts_name::specs::Items::alone, ts_name::specs::Items::each, ts_name::specs::Items::of_tag))]
+fn read_alone<'a>(element: Element<'a>) -> Result<ExtensionList<'a>, Fault>
+    ensures { Answers listed_in result (alone (of_tag 0x30 (some_of standing_in)) (now element.entry)) }
+{
+    let mut fields = element.reader();
+    let extensions = ExtensionList::read(tagged_as(fields.next()?, SEQUENCE)?)?;
+    fields.end()?;
+    Ok(extensions)
+}
+
+/// The extensions that an explicit tag holds.
+#[tactic(auto, unfolding(crate::specs::Reading::wrapped_extensions_of))]
+fn read_wrapped<'a>(element: Element<'a>) -> Result<Placed<'a>, Fault>
+    ensures { Answers placed_in result (wrapped_extensions_of (now element.entry)) }
+{
+    Ok(Placed {
+        at: element.at,
+        list: read_alone(element)?,
+    })
+}
+
+/// The extensions of an entry, where they stand next.
+#[tactic(auto, unfolding(ts_name::specs::Fields::optional_of, ts_der::specs::Reading::optional_at))]
+pub(crate) fn next_extensions_if_any<'a>(
+    fields: &mut Reader<'a>,
+) -> Result<Option<Placed<'a>>, Fault>
+    ensures { Takes (option_map placed_in) fields.new result (optional_of 0x30 extensions_of fields.old) }
+{
+    match fields.optional(SEQUENCE)? {
+        Some(element) => Ok(Some(read_extensions(element)?)),
+        None => Ok(None),
+    }
+}
+
+/// The extensions of a list, where they stand next.
+#[tactic(auto, unfolding(ts_name::specs::Fields::optional_of, ts_der::specs::Reading::optional_at))]
+pub(crate) fn next_wrapped_if_any<'a>(fields: &mut Reader<'a>) -> Result<Option<Placed<'a>>, Fault>
+    ensures { Takes (option_map placed_in) fields.new result (optional_of 0xA0 wrapped_extensions_of fields.old) }
+{
+    match fields.optional(CRL_EXTENSIONS)? {
+        Some(element) => Ok(Some(read_wrapped(element)?)),
+        None => Ok(None),
+    }
+}

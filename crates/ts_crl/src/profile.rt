@@ -1,0 +1,147 @@
+//! Rules of this profile, which have no place.
+
+ghost use Rattle.std.specs.Prelude.{◌≡◌, [], map, unwrap_or, option_map};
+ghost use Rattle.std.specs.List.{list_any};
+ghost use Rattle.std.specs.Option.{option_copied};
+ghost use Rattle.ts_ext.specs.Extension.{said};
+ghost use Rattle.ts_ext.specs.NameViews.{issuing_point_in};
+ghost use Rattle.ts_crl.specs.EntryView.{listed_in, placed_in, entries_in, revoked_in};
+ghost use Rattle.ts_crl.specs.Fault.{fault_in};
+ghost use Rattle.ts_crl.specs.List.{said_extensions, said_entry};
+ghost use Rattle.ts_crl.specs.ListView.{crl_in};
+ghost use Rattle.ts_crl.specs.Profile.{unprocessed_in as unprocessed_in_list, unprocessed_of_entries as unprocessed_of, unprocessed as unprocessed_of_list, names_issuer, as_scope, is_relative_name, scope_meets, scope_of, is_indirect as is_indirect_list, is_relative as is_relative_list, is_delta as is_delta_list, profile_fault as profile_fault_of};
+
+use crate::crl::Crl;
+use crate::extension_list::ExtensionList;
+use crate::fault::CrlFault;
+use crate::placed::Placed;
+use crate::revoked::Revoked;
+use crate::values::{is_among, value_if_any};
+use ts_ext::{Ext, Holder, IssuingDistributionPoint, Known, PointName};
+
+/// The object identifier of the first critical extension that is not processed.
+fn unprocessed_in<'a>(holder: Holder, list: ExtensionList<'a>) -> Option<&'a [u8]>
+    ensures { option_copied result ≡ unprocessed_in_list holder (map said (listed_in list.entry)) }
+{
+    for extension in list.extensions().iter() {
+        if extension.critical && Known::at(holder, extension.id).is_none() {
+            return Some(extension.id.content);
+        }
+    }
+    None
+}
+
+/// The same where there may be no extensions.
+fn unprocessed_if_any<'a>(holder: Holder, placed: Option<Placed<'a>>) -> Option<&'a [u8]>
+    ensures { option_copied result ≡ unprocessed_in_list holder (unwrap_or (option_map said_extensions (option_map placed_in placed.entry)) []) }
+{
+    unprocessed_in(holder, placed?.list)
+}
+
+/// The same of entries, one after another.
+fn unprocessed_of_entries<'a>(revoked: Revoked<'a>) -> Option<&'a [u8]>
+    ensures { option_copied result ≡ unprocessed_of (entries_in revoked.entry) }
+{
+    for entry in revoked.iter() {
+        if let Some(oid) = unprocessed_if_any(Holder::Entry, entry.extensions) {
+            return Some(oid);
+        }
+    }
+    None
+}
+
+/// The same where there may be no list of entries.
+fn unprocessed_of_entries_if_any<'a>(revoked: Option<Revoked<'a>>) -> Option<&'a [u8]>
+    ensures { option_copied result ≡ unprocessed_of (unwrap_or (option_map (map said_entry) (option_map revoked_in revoked.entry)) []) }
+{
+    unprocessed_of_entries(revoked?)
+}
+
+/// The object identifier of the first critical extension of a list, then of its entries, that is not processed.
+fn unprocessed<'a>(crl: &Crl<'a>) -> Option<&'a [u8]>
+    ensures { option_copied result ≡ unprocessed_of_list (crl_in crl.now) }
+{
+    match unprocessed_if_any(Holder::List, crl.extensions) {
+        Some(oid) => Some(oid),
+        None => unprocessed_of_entries_if_any(crl.revoked),
+    }
+}
+
+/// Whether an entry names another issuer.
+fn has_issuer(revoked: Revoked<'_>) -> bool
+    ensures { result ≡ list_any names_issuer (entries_in revoked.entry) }
+{
+    for entry in revoked.iter() {
+        if is_among(Known::CertificateIssuer, entry.extensions) {
+            return true;
+        }
+    }
+    false
+}
+
+/// The same where there may be no list of entries.
+fn has_issuer_if_any(revoked: Option<Revoked<'_>>) -> bool
+    ensures { result ≡ list_any names_issuer (unwrap_or (option_map (map said_entry) (option_map revoked_in revoked.entry)) []) }
+{
+    match revoked {
+        Some(revoked) => has_issuer(revoked),
+        None => false,
+    }
+}
+
+/// What a list covers, where it says so.
+pub(crate) fn scope<'a>(crl: &Crl<'a>) -> Option<IssuingDistributionPoint<'a>>
+    ensures { option_map issuing_point_in result ≡ scope_of (crl_in crl.now) }
+{
+    match value_if_any(
+        Holder::List,
+        Known::IssuingDistributionPoint,
+        crl.extensions,
+    ) {
+        Some(Ext::IssuingDistributionPoint(point)) => Some(point),
+        _ => None,
+    }
+}
+
+/// Whether a list, or an entry of it, is for certificates of other issuers.
+fn is_indirect(crl: &Crl<'_>) -> bool
+    ensures { result ≡ is_indirect_list (crl_in crl.now) }
+{
+    let stated = match scope(crl) {
+        Some(point) => point.indirect_crl,
+        None => false,
+    };
+    stated || has_issuer_if_any(crl.revoked)
+}
+
+/// Whether the name of a list is relative to that of its issuer.
+fn is_relative(crl: &Crl<'_>) -> bool
+    ensures { result ≡ is_relative_list (crl_in crl.now) }
+{
+    match scope(crl) {
+        Some(point) => matches!(point.name, Some(PointName::RelativeName(_))),
+        None => false,
+    }
+}
+
+/// The first rule of this profile that a list breaks.
+pub(crate) fn profile_fault<'a>(crl: &Crl<'a>) -> Option<CrlFault<'a>>
+    ensures { option_map fault_in result ≡ profile_fault_of (crl_in crl.now) }
+{
+    if crl.next_update.is_none() {
+        return Some(CrlFault::NoNextUpdate);
+    }
+    if let Some(oid) = unprocessed(crl) {
+        return Some(CrlFault::CriticalCrlExtension(oid));
+    }
+    if is_indirect(crl) {
+        return Some(CrlFault::Indirect);
+    }
+    if is_relative(crl) {
+        return Some(CrlFault::RelativeName);
+    }
+    if is_among(Known::DeltaCrlIndicator, crl.extensions) {
+        return Some(CrlFault::DeltaCrl);
+    }
+    None
+}

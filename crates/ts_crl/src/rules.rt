@@ -1,0 +1,110 @@
+//! Rules of a list and of its extensions that have a place.
+
+ghost use Rattle.std.specs.Prelude.{◌≡◌, [], unwrap_or, option_map};
+ghost use Rattle.ts_crl.specs.EntryView.{placed_in, revoked_in};
+ghost use Rattle.ts_crl.specs.ListView.{standing_list_in};
+ghost use Rattle.ts_crl.specs.Rules.{rule_fault as rule_fault_of, fault_if_any as fault_if_any_of, entries_fault as entries_fault_of, fault_by_place as fault_by_place_of, version_fault as version_fault_of, algorithms_fault as algorithms_fault_of, placed_fault as placed_fault_of};
+
+use crate::crl::Crl;
+use crate::extension_rule::ExtensionRule;
+use crate::placed::Placed;
+use crate::revoked::Revoked;
+use crate::version::ListVersion;
+use ts_ext::{Extension, Holder};
+use ts_name::{CertFault, CertRule, first_repeated};
+
+/// The first place at which extensions break a rule.
+fn rule_fault<'a>(rule: ExtensionRule, holder: Holder, placed: Placed<'a>) -> Option<CertFault>
+    ensures { result ≡ rule_fault_of rule holder (placed_in placed.entry) }
+{
+    match rule {
+        ExtensionRule::OldVersion => Some(CertFault {
+            kind: CertRule::ExtensionsInOldVersion,
+            at: placed.at,
+        }),
+        ExtensionRule::Repeated => {
+            let extension = first_repeated::<Extension<'a>>(placed.list.element)?;
+            Some(CertFault {
+                kind: CertRule::DuplicateExtension,
+                at: extension.at,
+            })
+        }
+        ExtensionRule::Values => placed.list.extensions().broken_rule(holder),
+    }
+}
+
+fn fault_if_any(
+    rule: ExtensionRule,
+    holder: Holder,
+    placed: Option<Placed<'_>>,
+) -> Option<CertFault>
+    ensures { result ≡ fault_if_any_of rule holder (option_map placed_in placed.entry) }
+{
+    rule_fault(rule, holder, placed?)
+}
+
+/// The first place at which the extensions of entries break a rule.
+fn entries_fault(rule: ExtensionRule, revoked: Revoked<'_>) -> Option<CertFault>
+    ensures { result ≡ entries_fault_of rule (revoked_in revoked.entry) }
+{
+    for entry in revoked.iter() {
+        if let Some(fault) = fault_if_any(rule, Holder::Entry, entry.extensions) {
+            return Some(fault);
+        }
+    }
+    None
+}
+
+/// The same where there may be no list of entries.
+fn entries_fault_if_any(rule: ExtensionRule, revoked: Option<Revoked<'_>>) -> Option<CertFault>
+    ensures { result ≡ entries_fault_of rule (unwrap_or (option_map revoked_in revoked.entry) []) }
+{
+    entries_fault(rule, revoked?)
+}
+
+/// The first place at which the extensions of entries, and then those of the list, break a rule.
+fn fault_by_place(rule: ExtensionRule, crl: &Crl<'_>) -> Option<CertFault>
+    ensures { result ≡ fault_by_place_of rule (standing_list_in crl.now) }
+{
+    match entries_fault_if_any(rule, crl.revoked) {
+        Some(fault) => Some(fault),
+        None => fault_if_any(rule, Holder::List, crl.extensions),
+    }
+}
+
+fn version_fault(crl: &Crl<'_>) -> Option<CertFault>
+    ensures { result ≡ version_fault_of crl.now.version (standing_list_in crl.now) }
+{
+    match crl.version {
+        ListVersion::V1 => fault_by_place(ExtensionRule::OldVersion, crl),
+        ListVersion::V2 => None,
+    }
+}
+
+fn algorithms_fault(crl: &Crl<'_>) -> Option<CertFault>
+    ensures { result ≡ algorithms_fault_of (standing_list_in crl.now) }
+{
+    if crl.signature.whole != crl.signature_algorithm.whole {
+        return Some(CertFault {
+            kind: CertRule::AlgorithmMismatch,
+            at: crl.identifier_at,
+        });
+    }
+    None
+}
+
+/// The first of these rules that a list breaks.
+pub(crate) fn placed_fault(crl: &Crl<'_>) -> Option<CertFault>
+    ensures { result ≡ placed_fault_of (standing_list_in crl.now) }
+{
+    if let Some(fault) = algorithms_fault(crl) {
+        return Some(fault);
+    }
+    if let Some(fault) = version_fault(crl) {
+        return Some(fault);
+    }
+    if let Some(fault) = fault_by_place(ExtensionRule::Repeated, crl) {
+        return Some(fault);
+    }
+    fault_by_place(ExtensionRule::Values, crl)
+}

@@ -1,0 +1,66 @@
+//! The shape of a list: what is signed, the algorithm, the signature.
+
+ghost use Rattle.ts_der.specs.Answer.{Answers};
+ghost use Rattle.ts_der.specs.View.{now};
+ghost use Rattle.ts_crl.specs.ListView.{standing_list_in};
+ghost use Rattle.ts_crl.specs.Reading.{signed_of, whole_of, shape_of};
+
+use crate::crl::{Crl, MAX_CRL};
+use crate::tbs::read_tbs;
+use ts_cert::{next_bits, read_algorithm};
+use ts_der::{DerFault, Element, Reader};
+use ts_name::{CertFault, CertRule};
+
+const SEQUENCE: u8 = 0x30;
+
+/// The parts that a SEQUENCE holds.
+#[tactic(auto, unfolding(crate::specs::Reading::signed_of))]
+fn read_signed<'a>(element: Element<'a>) -> Result<Crl<'a>, CertFault>
+    ensures { Answers standing_list_in result (signed_of (now element.entry)) }
+{
+    let mut fields = element.reader();
+    let tbs = fields.element(SEQUENCE)?;
+    let signed = read_tbs(tbs)?;
+    let identifier = fields.element(SEQUENCE)?;
+    let signature_algorithm = read_algorithm(identifier)?;
+    let signature_value = next_bits(&mut fields)?;
+    fields.end()?;
+    Ok(Crl {
+        tbs: tbs.whole,
+        version: signed.version,
+        signature: signed.signature,
+        issuer: signed.issuer,
+        this_update: signed.this_update,
+        next_update: signed.next_update,
+        revoked: signed.revoked,
+        extensions: signed.extensions,
+        signature_algorithm,
+        signature_value,
+        identifier_at: identifier.at,
+    })
+}
+
+/// The list that octets are, with nothing behind it.
+#[tactic(auto, unfolding(crate::specs::Reading::whole_of))]
+fn read_whole(octets: &[u8]) -> Result<Crl<'_>, CertFault>
+    ensures { Answers standing_list_in result (whole_of octets.now) }
+{
+    let mut reader = Reader::new(octets);
+    let crl = read_signed(reader.element(SEQUENCE)?)?;
+    reader.end()?;
+    Ok(crl)
+}
+
+/// The same, of octets that are not too many.
+#[tactic(auto, unfolding(crate::specs::Reading::shape_of))]
+pub(crate) fn read_shape(octets: &[u8]) -> Result<Crl<'_>, CertFault>
+    ensures { Answers standing_list_in result (shape_of octets.now) }
+{
+    if octets.len() > MAX_CRL {
+        return Err(CertFault {
+            kind: CertRule::Der(DerFault::TooLarge),
+            at: 0,
+        });
+    }
+    read_whole(octets)
+}

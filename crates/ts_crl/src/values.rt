@@ -1,0 +1,64 @@
+//! The values of extensions.
+
+ghost use Rattle.std.specs.Prelude.{◌≡◌, [], map, unwrap_or, option_map};
+ghost use Rattle.std.specs.List.{find, list_any};
+ghost use Rattle.ts_ext.specs.Extension.{said};
+ghost use Rattle.ts_ext.specs.ExtView.{ext_in};
+ghost use Rattle.ts_ext.specs.Known.{known_at};
+ghost use Rattle.ts_crl.specs.EntryView.{extension_as, listed_in, placed_in};
+ghost use Rattle.ts_crl.specs.List.{said_extensions};
+ghost use Rattle.ts_crl.specs.Values.{is_known, value_in_octets, value_among};
+
+use crate::extension_list::ExtensionList;
+use crate::placed::Placed;
+use ts_ext::{Ext, Extension, Holder, Known};
+
+/// The value of an extension.
+fn value_of<'a>(holder: Holder, extension: Extension<'a>) -> Option<Ext<'a>>
+    ensures { option_map ext_in result ≡ value_in_octets (known_at holder extension.entry.id.content.now) extension.entry.value.content.now }
+{
+    let Extension { id, value, .. } = extension;
+    Ext::read(holder, id, value).ok()
+}
+
+/// The first extension of a list that is this one.
+fn find_in<'a>(known: Known, list: ExtensionList<'a>) -> Option<Extension<'a>>
+    ensures { option_map extension_as result ≡ find (is_known known) (map said (listed_in list.entry)) }
+{
+    list.extensions().find(known)
+}
+
+/// The value of the first extension of a list that is this one.
+fn value_in<'a>(holder: Holder, known: Known, list: ExtensionList<'a>) -> Option<Ext<'a>>
+    ensures { option_map ext_in result ≡ value_among holder known (map said (listed_in list.entry)) }
+{
+    value_of(holder, find_in(known, list)?)
+}
+
+/// The same where there may be no extensions.
+pub(crate) fn value_if_any<'a>(
+    holder: Holder,
+    known: Known,
+    placed: Option<Placed<'a>>,
+) -> Option<Ext<'a>>
+    ensures { option_map ext_in result ≡ value_among holder known (unwrap_or (option_map said_extensions (option_map placed_in placed.entry)) []) }
+{
+    value_in(holder, known, placed?.list)
+}
+
+/// Whether an extension of a list is this one.
+fn is_in(known: Known, list: ExtensionList<'_>) -> bool
+    ensures { result ≡ list_any (is_known known) (map said (listed_in list.entry)) }
+{
+    find_in(known, list).is_some()
+}
+
+/// The same where there may be no extensions.
+pub(crate) fn is_among(known: Known, placed: Option<Placed<'_>>) -> bool
+    ensures { result ≡ list_any (is_known known) (unwrap_or (option_map said_extensions (option_map placed_in placed.entry)) []) }
+{
+    match placed {
+        Some(placed) => is_in(known, placed.list),
+        None => false,
+    }
+}

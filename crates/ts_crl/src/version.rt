@@ -1,0 +1,45 @@
+//! The version of a list.
+
+ghost use Rattle.ts_der.specs.Answer.{Answers};
+ghost use Rattle.ts_der.specs.View.{now};
+ghost use Rattle.ts_name.specs.Steps.{TakesIn};
+ghost use Rattle.ts_crl.specs.Version.{version_of, version_at};
+
+use ts_der::{Element, Reader};
+use ts_name::{CertFault, CertRule};
+
+const INTEGER: u8 = 0x02;
+
+/// The version of a list (RFC 5280 5.1.2.1).
+#[derive(Clone, Copy, Debug, PartialEq, Eq)]
+pub enum ListVersion {
+    /// Version 1, which is not written.
+    V1,
+    /// Version 2, written as 1.
+    V2,
+}
+
+/// The version that an INTEGER is.
+#[tactic(auto, unfolding(crate::specs::Version::version_of))]
+fn read_version(element: Element<'_>) -> Result<ListVersion, CertFault>
+    ensures { Answers (λ v. v) result (version_of (now element.entry)) }
+{
+    match element.integer()?.octets {
+        [1] => Ok(ListVersion::V2),
+        _ => Err(CertFault {
+            kind: CertRule::Version,
+            at: element.at,
+        }),
+    }
+}
+
+/// The version, if one stands next, which the reader has then passed; else version 1.
+#[tactic(auto, unfolding(crate::specs::Version::version_at))]
+pub(crate) fn next_version(fields: &mut Reader<'_>) -> Result<ListVersion, CertFault>
+    ensures { TakesIn (λ v. v) fields.new result (version_at fields.old) }
+{
+    match fields.optional(INTEGER)? {
+        Some(element) => read_version(element),
+        None => Ok(ListVersion::V1),
+    }
+}
