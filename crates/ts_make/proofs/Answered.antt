@@ -88,6 +88,9 @@ is-described b a text sayable before after from to =
       subject = refl;
       keyAlgorithm = refl;
       subjectPublicKey = refl;
+      issuerUniqueID = refl;
+      subjectUniqueID = refl;
+      extensions = refl;
       signatureAlgorithm = refl;
     }
 

@@ -1,5 +1,5 @@
 -- The certificate that a description says, and the forms of its times.
-use Rattle.std.proofs.Common.{ℕ, ◌≤◌, ℤ, inl, inr, List, ◌++◌, length, refl, arith}
+use Rattle.std.proofs.Common.{ℕ, ◌≤◌, ℤ, inl, inr, List, ◌++◌, length, None, refl, arith}
 use Rattle.sha2.specs.Sha256.{sha256}
 use Rattle.ts_time.specs.Civil.{IsInYears}
 use Rattle.ts_cert.specs.declared.version.Version.TheVariants.{V3}
@@ -25,6 +25,9 @@ tbs_said before after text =
       validity = record { not_before = before; not_after = after };
       subject = rdns_in text.subject.now;
       subjectPublicKeyInfo = record { algorithm = stand_in; subjectPublicKey = text.key.now };
+      issuerUniqueID = None;
+      subjectUniqueID = None;
+      extensions = None;
     }
 
 abbrev pub said : List ℕ → List ℕ → Time → Time → CertText → Certificate

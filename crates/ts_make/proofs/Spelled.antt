@@ -1,11 +1,13 @@
 -- What is made is the spelling of the certificate that the description says.
-use Rattle.std.proofs.Common.{ℕ, ◌≤◌, List, ◌++◌, length, refl, arith, length-append}
+use Rattle.std.proofs.Common.{◌≡◌, ℕ, ◌≤◌, List, [], ◌++◌, length, refl, sym, ap, arith, length-append}
+use Rattle.std.proofs.lemmas.List.{append-nil}
 use Rattle.sha2.specs.Sha256.{sha256}
 use Rattle.ts_der.specs.Element.{spell}
 use Rattle.ts_sig.specs.StandIn.{algorithm_identifier}
 use Rattle.ts_cert.specs.declared.version.Version.TheVariants.{V3}
 use Rattle.ts_cert.specs.declared.time.Time.{Time}
 use Rattle.ts_name.specs.Fields.{Within}
+use Rattle.ts_name.specs.Repeats.{first_repeated}
 use Rattle.ts_cert.specs.Spelling.{IsTime, IsTbs, IsCertificate, version_octets}
 use Rattle.ts_make.specs.declared.description.CertText.{CertText}
 use Rattle.ts_make.specs.Serial.{serial_content}
@@ -58,6 +60,10 @@ fields-short b a text le =
       key = p.4;
     }
 
+-- the optional fields behind the key are absent
+absent : (v s g i p u k : List ℕ) → v ++ (s ++ (g ++ (i ++ (p ++ (u ++ k))))) ≡ v ++ (s ++ (g ++ (i ++ (p ++ (u ++ (k ++ ([] ++ ([] ++ []))))))))
+absent v s g i p u k = ap (λ (o : List ℕ). v ++ (s ++ (g ++ (i ++ (p ++ (u ++ o)))))) (sym (append-nil k))
+
 tbs-is : (b a : List ℕ) (before after : Time) (text : CertText) → IsSayable text → IsTime b before → IsTime a after → length (tbs_octets b a text) ≤ 65536
     → Within 0x30 IsTbs (tbs_octets b a text) (tbs_said before after text)
 unfolding tbs_octets tbs_content
@@ -74,6 +80,9 @@ tbs-is b a before after text sayable from to le =
         period = spell 0x30 (b ++ a);
         issued_to = name_octets text.subject.now;
         key = key_octets text.key.now;
+        issuer_id = [];
+        subject_id = [];
+        last = [];
         serialNumber = serial-spelled text.serial sayable.serial short.serial;
         signature = algorithm-is;
         issuer = name-is text.issuer.now sayable.issuer short.issuer;
@@ -85,7 +94,10 @@ tbs-is b a before after text sayable from to le =
         };
         subject = name-is text.subject.now sayable.subject short.subject;
         subjectPublicKeyInfo = key-is text.key.now short.key;
-        fields = refl;
+        issuerUniqueID = refl;
+        subjectUniqueID = refl;
+        extensions = refl;
+        fields = absent (version_octets V3) (spell 0x02 (serial_content text.serial)) algorithm_identifier (name_octets text.issuer.now) (spell 0x30 (b ++ a)) (name_octets text.subject.now) (key_octets text.key.now);
       };
     }
 
@@ -108,7 +120,7 @@ parts-short b a text le =
 
 pub certificate-is : (b a : List ℕ) (before after : Time) (text : CertText) → IsSayable text → IsTime b before → IsTime a after → length (made b a text) ≤ 65536
     → IsCertificate (made b a text) (said b a before after text)
-unfolding made
+unfolding made first_repeated
 certificate-is b a before after text sayable from to le =
     let short = parts-short b a text le in
     let tbs = tbs_octets b a text in
@@ -130,4 +142,7 @@ certificate-is b a before after text sayable from to le =
         };
       };
       agree = refl;
+      version = tt;
+      distinct = refl;
+      sound = tt;
     }

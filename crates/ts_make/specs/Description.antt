@@ -42,7 +42,7 @@ pub record Says (t : Time) (moment : ℤ) : Type 0 where
   pub utc : IsInYears 1950 2049 moment → t.form ≡ Utc
   pub general : ¬ (IsInYears 1950 2049 moment) → t.form ≡ General
 
--- the certificate says what the description does
+-- the certificate says what the description does, and has no unique identifiers (4.1.2.8) and no extensions (4.1.2.9)
 pub record IsDescribed (text : CertText) (c : Certificate) : Type 0 where
   pub version : c.tbsCertificate.version ≡ V3
   pub serialNumber : twos_complement c.tbsCertificate.serialNumber ≡ pos text.serial
@@ -53,6 +53,9 @@ pub record IsDescribed (text : CertText) (c : Certificate) : Type 0 where
   pub subject : c.tbsCertificate.subject ≡ rdns_in text.subject.now
   pub keyAlgorithm : c.tbsCertificate.subjectPublicKeyInfo.algorithm ≡ stand_in
   pub subjectPublicKey : c.tbsCertificate.subjectPublicKeyInfo.subjectPublicKey ≡ text.key.now
+  pub issuerUniqueID : c.tbsCertificate.issuerUniqueID ≡ None
+  pub subjectUniqueID : c.tbsCertificate.subjectUniqueID ≡ None
+  pub extensions : c.tbsCertificate.extensions ≡ None
   pub signatureAlgorithm : c.signatureAlgorithm ≡ stand_in
 
 -- the stand-in takes the certificate's signature for that of what is signed, under the key of these octets

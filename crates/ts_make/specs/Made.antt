@@ -24,7 +24,8 @@ name_octets rdns = spell 0x30 (flat_map spelled_rdn (rdns_in rdns))
 unfoldable pub key_octets : List ℕ → List ℕ
 key_octets key = spell 0x30 (algorithm_identifier ++ bit_octets key)
 
--- TBSCertificate ::= SEQUENCE { version, serialNumber, signature, issuer, validity, subject, subjectPublicKeyInfo } (4.1.2)
+-- TBSCertificate ::= SEQUENCE { version, serialNumber, signature, issuer, validity, subject, subjectPublicKeyInfo, issuerUniqueID,
+-- subjectUniqueID, extensions } (4.1.2): the last three, which are OPTIONAL, are absent
 unfoldable pub tbs_content : List ℕ → List ℕ → CertText → List ℕ
 tbs_content before after text =
     version_octets V3
