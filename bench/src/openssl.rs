@@ -1,7 +1,7 @@
 //! OpenSSL's reader of lists of revoked certificates, as far as the benchmark calls it.
 
 use std::ffi::{c_int, c_long, c_void};
-use std::ptr::{null, null_mut};
+use std::ptr::null_mut;
 
 extern "C" {
     fn d2i_X509_CRL(into: *mut *mut c_void, octets: *mut *const u8, length: c_long) -> *mut c_void;
@@ -54,7 +54,7 @@ impl Serial {
         let mut next = integer.as_ptr();
         // SAFETY: as for a list.
         let number = unsafe { d2i_ASN1_INTEGER(null_mut(), &mut next, integer.len() as c_long) };
-        (number.cast_const() != null()).then_some(Serial(number))
+        (!number.is_null()).then_some(Serial(number))
     }
 }
 

@@ -22,9 +22,6 @@ use std::time::Instant;
 /// How often each subject is timed; what is printed is the median.
 const ROUNDS: usize = 31;
 
-/// How often an entry is asked for in one round.
-const QUESTIONS: usize = 20;
-
 /// The greatest number of octets that a list may have for `Crl::read`.
 const MAX_LIST: usize = 1_048_576;
 
@@ -39,13 +36,12 @@ struct Answer {
 
 extern "C" {
     fn ts_bench_read_list(octets: *const u8, length: usize) -> Answer;
-    fn ts_bench_count_entries(
+    fn ts_bench_find(
         octets: *const u8,
         length: usize,
         serial: *const u8,
         serial_length: usize,
-        times: usize,
-    ) -> usize;
+    ) -> bool;
 }
 
 /// What is wrong with octets as a list, by its number.
@@ -57,18 +53,10 @@ fn read(octets: &[u8]) -> Result<(), String> {
     }
 }
 
-/// How often a list, read once, has an entry of this serial number, asked so many times.
-fn count(octets: &[u8], serial: &[u8], times: usize) -> usize {
+/// Whether octets, read as a list, have an entry of this serial number.
+fn find(octets: &[u8], serial: &[u8]) -> bool {
     // SAFETY: as above.
-    unsafe {
-        ts_bench_count_entries(
-            octets.as_ptr(),
-            octets.len(),
-            serial.as_ptr(),
-            serial.len(),
-            times,
-        )
-    }
+    unsafe { ts_bench_find(octets.as_ptr(), octets.len(), serial.as_ptr(), serial.len()) }
 }
 
 /// The median time of a call, in nanoseconds.
@@ -100,18 +88,22 @@ fn tell_plain() -> Result<f64, String> {
     Ok(ours / octets)
 }
 
-/// How fast an entry is found: the last one, and one that is not there.
+/// How fast an entry is found: the last one, and one that is not there. Each is asked for behind a reading, whose time is
+/// taken off.
 fn tell_entry(plain: &[u8], read: f64) {
     for (what, number) in [("the last entry", ENTRIES - 1), ("no entry", ENTRIES)] {
         let wanted = serial(number);
-        let all = time(|| {
-            black_box(count(plain, &wanted, QUESTIONS));
+        let both = time(|| {
+            black_box(find(plain, &wanted));
         });
-        let each = (all - read) / QUESTIONS as f64;
-        let gigabytes = plain.len() as f64 / each;
-        println!("Crl::entry, {what}: {each:.0} ns, {gigabytes:.2} GB/s");
+        let found = both - read;
+        let gigabytes = plain.len() as f64 / found;
+        println!("Crl::entry, {what}: {found:.0} ns, {gigabytes:.2} GB/s");
     }
-    let (list, number) = (List::read(plain), Serial::read(&element(INTEGER, &serial(7))));
+    let (list, number) = (
+        List::read(plain),
+        Serial::read(&element(INTEGER, &serial(7))),
+    );
     if let (Some(list), Some(number)) = (list, number) {
         let theirs = time(|| {
             black_box(list.has(&number));
@@ -161,12 +153,20 @@ fn tell_shape(items: &str, of_plain: f64, make: impl Fn(u32) -> Vec<u8>) {
 fn main() -> Result<(), String> {
     let of_plain = tell_plain()?;
     println!();
-    println!("items                              count   octets   ns/octet    ratio            answer");
+    println!(
+        "items                              count   octets   ns/octet    ratio            answer"
+    );
     let reversed = |count| unknown(count).into_iter().rev().collect::<Vec<_>>();
     let numbered = |count| (0..count).map(|n| entry(n, &[])).collect::<Vec<_>>();
-    tell_shape("entries without extensions", of_plain, |n| list(&numbered(n), &[]));
-    tell_shape("list extensions, ascending", of_plain, |n| list(&[], &unknown(n)));
-    tell_shape("list extensions, descending", of_plain, |n| list(&[], &reversed(n)));
+    tell_shape("entries without extensions", of_plain, |n| {
+        list(&numbered(n), &[])
+    });
+    tell_shape("list extensions, ascending", of_plain, |n| {
+        list(&[], &unknown(n))
+    });
+    tell_shape("list extensions, descending", of_plain, |n| {
+        list(&[], &reversed(n))
+    });
     tell_shape("entry extensions, ascending", of_plain, |n| {
         list(&[entry(0, &unknown(n))], &[])
     });
