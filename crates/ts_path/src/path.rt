@@ -12,6 +12,9 @@ use ts_cert::Cert;
 use ts_sig::SignatureCheck;
 
 /// The verdict on a chain of one certificate under a trust anchor (RFC 5280 6.1). It takes no memory.
+///
+/// So far it judges the signature, the two times and the issuer's name. It does not look at extensions: not to be relied on
+/// for a certificate that has some.
 pub fn validate<'a, S: SignatureCheck>(
     anchor: &Anchor<'a>,
     chain: &[Cert<'a>],
