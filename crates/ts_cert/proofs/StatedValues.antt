@@ -116,10 +116,10 @@ octets-stated : {A : Type 0} {value : Tlv → Result A Fault} {Is : List ℕ →
     → (known : Known) (x : Element) → result_ok (alone (of_tag (layout_of known).tag value) (now x)) ≡ value_of_octets known value x.content.now
 octets-stated format known x = alone-content format (layout_of known).tag (now x) (spelled_at 0 0x04 x.content.now) x.octets refl
 
--- an extension that does not stand, or whose octets are no value, states nothing
-pub stated-none : {A : Type 0} (value : Tlv → Result A Fault) (known : Known) (t : Tbs) → None ≡ stated known octets_of t → None ≡ stated known value t
+-- where no element stands nothing is read
+pub stated_none : {A : Type 0} (known : Known) (value : Tlv → Result A Fault) (t : Tbs) → stated known octets_of t ≡ None → stated known value t ≡ None
 unfolding stated
-stated-none {A} value known t none = by_extension (known_extension known t) none
+stated_none {A} known value t none = sym (by_extension (known_extension known t) (sym none))
   where
     by_octets : (s : Tlv) (r : Result Tlv Fault) → alone (tagged_as (layout_of known).tag) s ≡ r → None ≡ result_ok (r >>= octets_of) → None ≡ result_ok (r >>= value)
     by_octets s (Ok y) is e = absurd cc
@@ -180,24 +180,31 @@ one-found known t xs some x found r answers = by_answer r answers ∙ sym (alone
     by_answer (Ok e) a = ap (λ (s : Result Tlv Fault). result_ok (s >>= octets_of)) (sym a)
     by_answer (Err f) a = ap (λ (s : Result Tlv Fault). result_ok (s >>= octets_of)) (sym a)
 
--- so what a reader answers is what is stated
-pub answer-stated : {X A : Type 0} {value : Tlv → Result A Fault} {Is : List ℕ → A → Type 0} {shape : Shape} {rules : ContentRules} → Format value Is shape rules
-    → (known : Known) (t : Tbs) (e : Element) (r : Result X Fault) (view : X → A) → Some e.content.now ≡ stated known octets_of t → Answers view r (value (now e))
-    → option_map view (result_ok r) ≡ stated known value t
-answer-stated {X} {A} {value} format known t e r view some answers = by_answer r answers ∙ stated-some format known t (now e) e.octets some
+-- what a reader answers of an element that has the content of an extension's value is what is stated by that extension
+abbrev pub AnswersStated : {X A : Type 0} → Known → (Tlv → Result A Fault) → (X → A) → Type 0
+AnswersStated {X} known value view =
+    (t : Tbs) (e : Element) (r : Result X Fault) → Some e.content.now ≡ stated known octets_of t → Answers view r (value (now e)) → option_map view (result_ok r) ≡ stated known value t
+
+pub answers-stated : {X A : Type 0} {value : Tlv → Result A Fault} {Is : List ℕ → A → Type 0} {shape : Shape} {rules : ContentRules} → Format value Is shape rules
+    → (known : Known) (view : X → A) → AnswersStated known value view
+answers-stated {X} {A} {value} format known view t e r some answers = by_answer r answers ∙ stated-some format known t (now e) e.octets some
   where
     by_answer : (r : Result X Fault) → Answers view r (value (now e)) → option_map view (result_ok r) ≡ result_ok (value (now e))
     by_answer (Ok x) a = ap (λ (s : Result A Fault). result_ok s) (sym a)
     by_answer (Err f) a = ap (λ (s : Result A Fault). result_ok s) (sym a)
 
 -- the same of a reader that answers the value itself
-pub answer-same : {A : Type 0} {value : Tlv → Result A Fault} {Is : List ℕ → A → Type 0} {shape : Shape} {rules : ContentRules} → Format value Is shape rules
-    → (known : Known) (t : Tbs) (e : Element) (r : Result A Fault) → Some e.content.now ≡ stated known octets_of t → Answers (λ x. x) r (value (now e)) → result_ok r ≡ stated known value t
-answer-same {A} format known t e r some answers = by_answer (result_ok r) ∙ answer-stated format known t e r (λ x. x) some answers
+abbrev pub AnswersItself : {A : Type 0} → Known → (Tlv → Result A Fault) → Type 0
+AnswersItself {A} known value =
+    (t : Tbs) (e : Element) (r : Result A Fault) → Some e.content.now ≡ stated known octets_of t → Answers (λ x. x) r (value (now e)) → result_ok r ≡ stated known value t
+
+pub answers-itself : {A : Type 0} {value : Tlv → Result A Fault} {Is : List ℕ → A → Type 0} {shape : Shape} {rules : ContentRules} → Format value Is shape rules
+    → (known : Known) → AnswersItself known value
+answers-itself {A} format known t e r some answers = alike (result_ok r) ∙ answers-stated format known (λ x. x) t e r some answers
   where
-    by_answer : (o : Option A) → o ≡ option_map (λ x. x) o
-    by_answer None = refl
-    by_answer (Some x) = refl
+    alike : (o : Option A) → o ≡ option_map (λ x. x) o
+    alike None = refl
+    alike (Some x) = refl
 
 -- ---- certificates
 
