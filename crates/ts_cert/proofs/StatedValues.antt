@@ -22,7 +22,7 @@ use Rattle.ts_ext.specs.declared.known.Holder.{Holder}
 use Rattle.ts_ext.specs.declared.known.Holder.TheVariants.{Certificate as CertificateHolder}
 use Rattle.ts_ext.specs.declared.known.Known.{Known}
 use Rattle.ts_ext.specs.AuthorityKey.{octets_of}
-use Rattle.ts_ext.specs.Ext.{ExtValue, IsExt, layout_of, content_of, ext_of}
+use Rattle.ts_ext.specs.Ext.{ExtValue, IsExt, layout_of, read_as, content_of, ext_of}
 use Rattle.ts_ext.specs.Extension.{Extension, Standing, said}
 use Rattle.ts_ext.specs.ExtensionView.{standing_as}
 use Rattle.ts_ext.specs.Known.{known_at, identifier_of}
@@ -248,3 +248,39 @@ keeps-rules octets c is known here v says = by_extension (known_extension known 
     by_extension (Some x) stands e =
         let w = value-stated known c.tbsCertificate is.sound here x stands in
         ap (λ (y : ExtValue). broken_rule y) (some_is (sym says ∙ w.1)) ∙ w.2
+
+-- ---- what is said in the form of one extension
+
+-- it is what is said without the form
+pub stated-as : {A : Type 0} (known : Known) (value : Tlv → Result A Fault) (form : A → ExtValue) (t : Tbs) → stated known (read_as value form) t ≡ option_map form (stated known value t)
+unfolding stated
+stated-as {A} known value form t = by_extension (known_extension known t)
+  where
+    tag : ℕ
+    tag = (layout_of known).tag
+
+    by_value : (r : Result A Fault) → result_ok (r >>= λ x. Ok (form x)) ≡ option_map form (result_ok r)
+    by_value (Ok x) = refl
+    by_value (Err d) = refl
+
+    by_element : (r : Result Tlv Fault) → result_ok (r >>= read_as value form) ≡ option_map form (result_ok (r >>= value))
+    by_element (Ok e) = by_value (value e)
+    by_element (Err d) = refl
+
+    by_extension : (o : Option Extension) → option_and_then (λ x. value_of_octets known (read_as value form) x.extnValue) o ≡ option_map form (option_and_then (λ x. value_of_octets known value x.extnValue) o)
+    by_extension None = refl
+    by_extension (Some x) =
+        let s = spelled_at 0 0x04 x.extnValue in
+        alone-then tag (read_as value form) s ∙ by_element (alone (tagged_as tag) s) ∙ ap (λ (o : Option A). option_map form o) (sym (alone-then tag value s))
+
+-- so of a certificate an extension that stands has a value that its own reading gives
+pub has-own-value : {A : Type 0} (octets : List ℕ) (c : Certificate) → IsCertificate octets c → (known : Known) → known_at CertificateHolder (identifier_of known) ≡ Some known
+    → (value : Tlv → Result A Fault) (form : A → ExtValue) → content_of known ≡ read_as value form
+    → (x : Extension) → known_extension known c.tbsCertificate ≡ Some x → (v : A) × (stated known value c.tbsCertificate ≡ Some v)
+has-own-value {A} octets c is known here value form same x stands =
+    let v = has-value octets c is known here x stands in
+    by_option (stated known value c.tbsCertificate) refl (sym (stated-as known value form c.tbsCertificate) ∙ ap (λ (r : Tlv → Result ExtValue Fault). stated known r c.tbsCertificate) (sym same) ∙ v.1)
+  where
+    by_option : {w : ExtValue} (o : Option A) → stated known value c.tbsCertificate ≡ o → option_map form o ≡ Some w → (v : A) × (stated known value c.tbsCertificate ≡ Some v)
+    by_option None e says = absurd cc
+    by_option (Some v) e says = (v, e)

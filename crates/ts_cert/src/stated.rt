@@ -1,4 +1,5 @@
-//! What a certificate says by its unique identifiers and its extensions.
+//! What a certificate says by its unique identifiers and its extensions. Each reader of an extension answers `None` where
+//! there is no such extension: of a certificate none stands without its value (`laws::no_missing_value`).
 
 ghost use Rattle.std.specs.Prelude.{◌≡◌, option_map};
 ghost use Rattle.ts_der.specs.Answer.{Answers};
