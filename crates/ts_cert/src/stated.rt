@@ -63,7 +63,7 @@ impl<'a> Cert<'a> {
         }
     }
 
-    /// What tells the key that signed from others of the issuer (RFC 5280 4.2.1.1).
+    /// What tells the key that signed the certificate from others of the issuer (RFC 5280 4.2.1.1).
     #[tactic(auto, using(crate::proofs::StatedValues::stated_none, crate::proofs::StatedReaders::authority_key_identifier))]
     pub fn authority_key_identifier(self) -> Option<AuthorityKeyIdentifier<'a>>
         ensures { option_map authority_key_in result ≡ stated extension.AuthorityKeyIdentifier authority_key_of (cert_in self.entry).tbsCertificate }
@@ -71,7 +71,7 @@ impl<'a> Cert<'a> {
         AuthorityKeyIdentifier::read(self.content(Known::AuthorityKeyIdentifier)?).ok()
     }
 
-    /// What tells the subject's key from others (RFC 5280 4.2.1.2).
+    /// What tells the key of the subject from others (RFC 5280 4.2.1.2).
     pub fn subject_key_identifier(self) -> Option<&'a [u8]>
         ensures { option_map (λ k. k.now) result ≡ stated extension.SubjectKeyIdentifier octets_of (cert_in self.entry).tbsCertificate }
     {
@@ -94,7 +94,7 @@ impl<'a> Cert<'a> {
         CertificatePolicies::read(self.content(Known::CertificatePolicies)?).ok()
     }
 
-    /// Which policies of the issuer are one with which of the subject (RFC 5280 4.2.1.5).
+    /// Which policies of the issuer count as which of the subject (RFC 5280 4.2.1.5).
     #[tactic(auto, using(crate::proofs::StatedValues::stated_none, crate::proofs::StatedReaders::policy_mappings))]
     pub fn policy_mappings(self) -> Option<PolicyMappings<'a>>
         ensures { option_map mappings_in result ≡ stated extension.PolicyMappings policy_mappings_of (cert_in self.entry).tbsCertificate }
@@ -134,7 +134,7 @@ impl<'a> Cert<'a> {
         NameConstraints::read(self.content(Known::NameConstraints)?).ok()
     }
 
-    /// After how many certificates a path needs a policy, and may map none (RFC 5280 4.2.1.11).
+    /// How many certificates may follow in a path before a policy is needed, and before none may be mapped (RFC 5280 4.2.1.11).
     #[tactic(auto, using(crate::proofs::StatedValues::stated_none, crate::proofs::StatedReaders::policy_constraints))]
     pub fn policy_constraints(self) -> Option<PolicyConstraints>
         ensures { result ≡ stated extension.PolicyConstraints policy_constraints_of (cert_in self.entry).tbsCertificate }
@@ -158,7 +158,7 @@ impl<'a> Cert<'a> {
         DistributionPoints::read(self.content(Known::CrlDistributionPoints)?).ok()
     }
 
-    /// After how many certificates anyPolicy no longer matches other policies (RFC 5280 4.2.1.14).
+    /// How many certificates may follow in a path before anyPolicy no longer stands for other policies (RFC 5280 4.2.1.14).
     #[tactic(auto, using(crate::proofs::StatedValues::stated_none, crate::proofs::StatedReaders::inhibit_any_policy))]
     pub fn inhibit_any_policy(self) -> Option<SkipCerts>
         ensures { option_map (λ n. n.0) result ≡ stated extension.InhibitAnyPolicy skip_certs_of (cert_in self.entry).tbsCertificate }
@@ -166,7 +166,7 @@ impl<'a> Cert<'a> {
         SkipCerts::read(self.content(Known::InhibitAnyPolicy)?).ok()
     }
 
-    /// Where the latest changes of those lists are found (RFC 5280 4.2.1.15).
+    /// Where the latest changes of such lists are found (RFC 5280 4.2.1.15).
     #[tactic(auto, using(crate::proofs::StatedValues::stated_none, crate::proofs::StatedReaders::freshest_crl))]
     pub fn freshest_crl(self) -> Option<DistributionPoints<'a>>
         ensures { option_map points_in result ≡ stated extension.FreshestCrl points_of (cert_in self.entry).tbsCertificate }
