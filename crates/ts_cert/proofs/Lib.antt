@@ -5,3 +5,4 @@ pub mod Certificates
 pub mod OneSpelling
 pub mod Judging
 pub mod StatedValues
+pub mod StatedReaders

@@ -22,7 +22,7 @@ use Rattle.ts_ext.specs.declared.known.Holder.{Holder}
 use Rattle.ts_ext.specs.declared.known.Holder.TheVariants.{Certificate as CertificateHolder}
 use Rattle.ts_ext.specs.declared.known.Known.{Known}
 use Rattle.ts_ext.specs.AuthorityKey.{octets_of}
-use Rattle.ts_ext.specs.Ext.{ExtValue, IsExt, layout_of, content_of, ext_of}
+use Rattle.ts_ext.specs.Ext.{ExtValue, IsExt, layout_of, read_as, content_of, ext_of}
 use Rattle.ts_ext.specs.Extension.{Extension, Standing, said}
 use Rattle.ts_ext.specs.ExtensionView.{standing_as}
 use Rattle.ts_ext.specs.Known.{known_at, identifier_of}
@@ -116,10 +116,10 @@ octets-stated : {A : Type 0} {value : Tlv → Result A Fault} {Is : List ℕ →
     → (known : Known) (x : Element) → result_ok (alone (of_tag (layout_of known).tag value) (now x)) ≡ value_of_octets known value x.content.now
 octets-stated format known x = alone-content format (layout_of known).tag (now x) (spelled_at 0 0x04 x.content.now) x.octets refl
 
--- an extension that does not stand, or whose octets are no value, states nothing
-pub stated-none : {A : Type 0} (value : Tlv → Result A Fault) (known : Known) (t : Tbs) → None ≡ stated known octets_of t → None ≡ stated known value t
+-- where no element stands nothing is read
+pub stated_none : {A : Type 0} (known : Known) (value : Tlv → Result A Fault) (t : Tbs) → stated known octets_of t ≡ None → stated known value t ≡ None
 unfolding stated
-stated-none {A} value known t none = by_extension (known_extension known t) none
+stated_none {A} known value t none = sym (by_extension (known_extension known t) (sym none))
   where
     by_octets : (s : Tlv) (r : Result Tlv Fault) → alone (tagged_as (layout_of known).tag) s ≡ r → None ≡ result_ok (r >>= octets_of) → None ≡ result_ok (r >>= value)
     by_octets s (Ok y) is e = absurd cc
@@ -180,24 +180,31 @@ one-found known t xs some x found r answers = by_answer r answers ∙ sym (alone
     by_answer (Ok e) a = ap (λ (s : Result Tlv Fault). result_ok (s >>= octets_of)) (sym a)
     by_answer (Err f) a = ap (λ (s : Result Tlv Fault). result_ok (s >>= octets_of)) (sym a)
 
--- so what a reader answers is what is stated
-pub answer-stated : {X A : Type 0} {value : Tlv → Result A Fault} {Is : List ℕ → A → Type 0} {shape : Shape} {rules : ContentRules} → Format value Is shape rules
-    → (known : Known) (t : Tbs) (e : Element) (r : Result X Fault) (view : X → A) → Some e.content.now ≡ stated known octets_of t → Answers view r (value (now e))
-    → option_map view (result_ok r) ≡ stated known value t
-answer-stated {X} {A} {value} format known t e r view some answers = by_answer r answers ∙ stated-some format known t (now e) e.octets some
+-- what a reader answers of an element that has the content of an extension's value is what is stated by that extension
+abbrev pub AnswersStated : {X A : Type 0} → Known → (Tlv → Result A Fault) → (X → A) → Type 0
+AnswersStated {X} known value view =
+    (t : Tbs) (e : Element) (r : Result X Fault) → Some e.content.now ≡ stated known octets_of t → Answers view r (value (now e)) → option_map view (result_ok r) ≡ stated known value t
+
+pub answers-stated : {X A : Type 0} {value : Tlv → Result A Fault} {Is : List ℕ → A → Type 0} {shape : Shape} {rules : ContentRules} → Format value Is shape rules
+    → (known : Known) (view : X → A) → AnswersStated known value view
+answers-stated {X} {A} {value} format known view t e r some answers = by_answer r answers ∙ stated-some format known t (now e) e.octets some
   where
     by_answer : (r : Result X Fault) → Answers view r (value (now e)) → option_map view (result_ok r) ≡ result_ok (value (now e))
     by_answer (Ok x) a = ap (λ (s : Result A Fault). result_ok s) (sym a)
     by_answer (Err f) a = ap (λ (s : Result A Fault). result_ok s) (sym a)
 
 -- the same of a reader that answers the value itself
-pub answer-same : {A : Type 0} {value : Tlv → Result A Fault} {Is : List ℕ → A → Type 0} {shape : Shape} {rules : ContentRules} → Format value Is shape rules
-    → (known : Known) (t : Tbs) (e : Element) (r : Result A Fault) → Some e.content.now ≡ stated known octets_of t → Answers (λ x. x) r (value (now e)) → result_ok r ≡ stated known value t
-answer-same {A} format known t e r some answers = by_answer (result_ok r) ∙ answer-stated format known t e r (λ x. x) some answers
+abbrev pub AnswersItself : {A : Type 0} → Known → (Tlv → Result A Fault) → Type 0
+AnswersItself {A} known value =
+    (t : Tbs) (e : Element) (r : Result A Fault) → Some e.content.now ≡ stated known octets_of t → Answers (λ x. x) r (value (now e)) → result_ok r ≡ stated known value t
+
+pub answers-itself : {A : Type 0} {value : Tlv → Result A Fault} {Is : List ℕ → A → Type 0} {shape : Shape} {rules : ContentRules} → Format value Is shape rules
+    → (known : Known) → AnswersItself known value
+answers-itself {A} format known t e r some answers = alike (result_ok r) ∙ answers-stated format known (λ x. x) t e r some answers
   where
-    by_answer : (o : Option A) → o ≡ option_map (λ x. x) o
-    by_answer None = refl
-    by_answer (Some x) = refl
+    alike : (o : Option A) → o ≡ option_map (λ x. x) o
+    alike None = refl
+    alike (Some x) = refl
 
 -- ---- certificates
 
@@ -241,3 +248,39 @@ keeps-rules octets c is known here v says = by_extension (known_extension known 
     by_extension (Some x) stands e =
         let w = value-stated known c.tbsCertificate is.sound here x stands in
         ap (λ (y : ExtValue). broken_rule y) (some_is (sym says ∙ w.1)) ∙ w.2
+
+-- ---- what is said in the form of one extension
+
+-- it is what is said without the form
+pub stated-as : {A : Type 0} (known : Known) (value : Tlv → Result A Fault) (form : A → ExtValue) (t : Tbs) → stated known (read_as value form) t ≡ option_map form (stated known value t)
+unfolding stated
+stated-as {A} known value form t = by_extension (known_extension known t)
+  where
+    tag : ℕ
+    tag = (layout_of known).tag
+
+    by_value : (r : Result A Fault) → result_ok (r >>= λ x. Ok (form x)) ≡ option_map form (result_ok r)
+    by_value (Ok x) = refl
+    by_value (Err d) = refl
+
+    by_element : (r : Result Tlv Fault) → result_ok (r >>= read_as value form) ≡ option_map form (result_ok (r >>= value))
+    by_element (Ok e) = by_value (value e)
+    by_element (Err d) = refl
+
+    by_extension : (o : Option Extension) → option_and_then (λ x. value_of_octets known (read_as value form) x.extnValue) o ≡ option_map form (option_and_then (λ x. value_of_octets known value x.extnValue) o)
+    by_extension None = refl
+    by_extension (Some x) =
+        let s = spelled_at 0 0x04 x.extnValue in
+        alone-then tag (read_as value form) s ∙ by_element (alone (tagged_as tag) s) ∙ ap (λ (o : Option A). option_map form o) (sym (alone-then tag value s))
+
+-- so of a certificate an extension that stands has a value that its own reading gives
+pub has-own-value : {A : Type 0} (octets : List ℕ) (c : Certificate) → IsCertificate octets c → (known : Known) → known_at CertificateHolder (identifier_of known) ≡ Some known
+    → (value : Tlv → Result A Fault) (form : A → ExtValue) → content_of known ≡ read_as value form
+    → (x : Extension) → known_extension known c.tbsCertificate ≡ Some x → (v : A) × (stated known value c.tbsCertificate ≡ Some v)
+has-own-value {A} octets c is known here value form same x stands =
+    let v = has-value octets c is known here x stands in
+    by_option (stated known value c.tbsCertificate) refl (sym (stated-as known value form c.tbsCertificate) ∙ ap (λ (r : Tlv → Result ExtValue Fault). stated known r c.tbsCertificate) (sym same) ∙ v.1)
+  where
+    by_option : {w : ExtValue} (o : Option A) → stated known value c.tbsCertificate ≡ o → option_map form o ≡ Some w → (v : A) × (stated known value c.tbsCertificate ≡ Some v)
+    by_option None e says = absurd cc
+    by_option (Some v) e says = (v, e)

@@ -16,6 +16,8 @@ mod owned_tests;
 mod rules;
 mod shape;
 mod stated;
+#[cfg(test)]
+mod stated_tests;
 mod tbs;
 #[cfg(test)]
 mod tests;
