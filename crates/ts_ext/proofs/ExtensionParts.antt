@@ -105,5 +105,5 @@ explicit_extensions-format =
       found = alone-found (of_tag 0x30 extensions_of) AreExplicit extensions-part;
       again = alone-again (of_tag 0x30 extensions_of) AreExplicit extensions-part;
       judged = alone-judged (tagged 0x30 extensions list_rules no_other) (of_tag 0x30 extensions_of) Whatever (λ octets. refl)
-        (tag-reads 0x30 extensions list_rules extensions_of Whatever extensions-format.judged);
+          (tag-reads 0x30 extensions list_rules extensions_of Whatever extensions-format.judged);
     }
