@@ -2,6 +2,8 @@
 //! first rule that is broken, with its place.
 #![tactic(auto)]
 
+#[cfg(test)]
+mod code_tests;
 mod crl;
 mod entry;
 mod extension_list;
