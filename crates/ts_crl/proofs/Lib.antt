@@ -4,6 +4,7 @@ pub mod Updates
 pub mod Walks
 pub mod ListParts
 pub mod Finds
+pub mod Marked
 pub mod ValueParts
 pub mod Readiness
 pub mod Keeping

@@ -8,5 +8,7 @@ pub mod Values
 pub mod Profile
 pub mod Spelling
 pub mod Table
+pub mod Marks
+pub mod MarkView
 pub mod EntryView
 pub mod ListView

@@ -5,11 +5,13 @@
 #[cfg(test)]
 mod code_tests;
 mod crl;
+mod entries;
 mod entry;
 mod extension_list;
 mod extension_rule;
 mod fault;
 pub mod laws;
+mod mark;
 mod placed;
 mod profile;
 mod revoked;

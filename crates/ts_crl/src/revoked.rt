@@ -1,83 +1,16 @@
-//! The entries of a list, one after another.
+//! The entries of a list.
 
-ghost use Rattle.std.specs.List.{find};
-ghost use Rattle.std.specs.Prelude.{◌≡◌, map, option_map};
-ghost use Rattle.ts_der.specs.Answer.{Answers, refusal};
+ghost use Rattle.std.specs.Prelude.{◌≡◌, None};
+ghost use Rattle.ts_der.specs.Answer.{refusal};
 ghost use Rattle.ts_der.specs.View.{now};
-ghost use Rattle.ts_name.specs.Fields.{optional_of};
-ghost use Rattle.ts_name.specs.Items.{each, items_at};
-ghost use Rattle.ts_name.specs.Steps.{Takes};
-ghost use Rattle.ts_crl.specs.Entries.{has_serial};
-ghost use Rattle.ts_crl.specs.EntryView.{entry_as, entry_in as said_in, entries_in, revoked_in};
-ghost use Rattle.ts_crl.specs.Reading.{entry_in, revoked_of};
+ghost use Rattle.ts_crl.specs.Reading.{revoked_of};
 
-use crate::entry::Entry;
-use ts_der::{Element, Fault, Integer, Reader};
-use ts_name::{FromElement, SequenceItems};
-
-const SEQUENCE: u8 = 0x30;
+use ts_der::Element;
 
 /// The certificates that a list says to be revoked, of which there may be none (RFC 5280 5.1.2.6).
 #[derive(Clone, Copy)]
 pub struct Revoked<'a> {
     pub(crate) element: Element<'a>,
-}
-
-impl<'a> Revoked<'a> {
-    /// The entries, in their order.
-    pub fn iter(self) -> SequenceItems<'a, Entry<'a>>
-        ensures { items_at entry_in result.rest ≡ revoked_in self.entry }
-    {
-        SequenceItems::within(self.element)
-    }
-
-    /// The first entry that has this serial number.
-    pub(crate) fn first_of(self, serial: Integer<'_>) -> Option<Entry<'a>>
-        ensures { option_map said_in result ≡ find (has_serial serial.entry.octets.now) (entries_in self.entry) }
-    {
-        for entry in self.iter() {
-            if entry.serial_number.octets == serial.octets {
-                return Some(entry);
-            }
-        }
-        None
-    }
-}
-
-/// The next entry, which the reader has then passed.
-#[tactic(auto, unfolding(ts_name::specs::Items::each))]
-fn next_entry<'a>(rest: &mut Reader<'a>) -> Result<Entry<'a>, Fault>
-    ensures { Takes entry_as rest.new result (each entry_in rest.old) }
-{
-    Entry::read(rest.next()?)
-}
-
-/// The entries of an element, one after another.
-fn check_entries(element: Element<'_>) -> Result<(), Fault>
-    ensures { refusal result ≡ refusal (revoked_of (now element.entry)) }
-{
-    let mut rest = element.reader();
-    while !rest.is_at_end() {
-        next_entry(&mut rest)?;
-    }
-    Ok(())
-}
-
-/// The entries that a SEQUENCE's content is.
-fn read_revoked<'a>(element: Element<'a>) -> Result<Revoked<'a>, Fault>
-    ensures { Answers revoked_in result (revoked_of (now element.entry)) }
-{
-    check_entries(element)?;
-    Ok(Revoked { element })
-}
-
-/// The entries, where they stand next.
-#[tactic(auto, unfolding(ts_name::specs::Fields::optional_of, ts_der::specs::Reading::optional_at))]
-pub(crate) fn next_revoked_if_any<'a>(fields: &mut Reader<'a>) -> Result<Option<Revoked<'a>>, Fault>
-    ensures { Takes (option_map revoked_in) fields.new result (optional_of 0x30 revoked_of fields.old) }
-{
-    match fields.optional(SEQUENCE)? {
-        Some(element) => Ok(Some(read_revoked(element)?)),
-        None => Ok(None),
-    }
+    // The entries were read.
+    ghost read: { refusal (revoked_of (now element)) ≡ None },
 }

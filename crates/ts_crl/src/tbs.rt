@@ -7,8 +7,9 @@ ghost use Rattle.ts_cert.specs.Period.{time_in};
 ghost use Rattle.ts_crl.specs.ListView.{tbs_in};
 ghost use Rattle.ts_crl.specs.Reading.{tbs_of};
 
+use crate::entries::next_revoked_if_any;
 use crate::placed::{Placed, next_wrapped_if_any};
-use crate::revoked::{Revoked, next_revoked_if_any};
+use crate::revoked::Revoked;
 use crate::update::next_update;
 use crate::version::{ListVersion, next_version};
 use ts_cert::{AlgorithmIdentifier, Stamp, Time, next_algorithm, next_name, next_time};

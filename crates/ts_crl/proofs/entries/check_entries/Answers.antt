@@ -8,7 +8,7 @@ use Rattle.ts_name.specs.Items.{each}
 use Rattle.ts_name.proofs.ItemParts.{each-consumes}
 use Rattle.ts_crl.specs.EntryView.{entry_as}
 use Rattle.ts_crl.specs.Reading.{entry_in}
-use Rattle.ts_crl.proofs.revoked.check_entries.Goals as goal
+use Rattle.ts_crl.proofs.entries.check_entries.Goals as goal
 
 pub returns-in_err-next_entry : goal.returns-in_err-next_entry
 returns-in_err-next_entry c =

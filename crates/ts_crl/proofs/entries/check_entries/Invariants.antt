@@ -6,7 +6,7 @@ use Rattle.ts_der.proofs.Many.{with_front}
 use Rattle.ts_name.specs.Items.{each}
 use Rattle.ts_crl.specs.List.{StandingEntry}
 use Rattle.ts_crl.specs.Reading.{entry_in}
-use Rattle.ts_crl.proofs.revoked.check_entries.Given as goal
+use Rattle.ts_crl.proofs.entries.check_entries.Given as goal
 
 abbrev pub invariant-loop-rest : goal.invariant-loop-rest
 invariant-loop-rest l = (front : List StandingEntry) × (with_front front (many (each entry_in) l.rest) ≡ many (each entry_in) (inside (now l.element)))

@@ -1,0 +1,25 @@
+use Rattle.std.proofs.Common.{Option, sym, ap, subst, ◌∙◌}
+use Rattle.std.specs.Prelude.{option_map}
+use Rattle.ts_der.specs.Element.{inside}
+use Rattle.ts_der.specs.View.{now}
+use Rattle.ts_name.specs.Items.{items_at}
+use Rattle.ts_crl.specs.declared.mark.Mark.{Mark as Lent}
+use Rattle.ts_crl.specs.EntryView.{entry_in as said_in}
+use Rattle.ts_crl.specs.Marks.{Mark}
+use Rattle.ts_crl.specs.MarkView.{mark_as}
+use Rattle.ts_crl.specs.Reading.{entry_in}
+use Rattle.ts_crl.proofs.Marked.{Found, first-marked, read-again}
+use Rattle.ts_crl.proofs.revoked.Revoked.first_of.Goals as goal
+
+pub returns-in-Some : goal.returns-in-Some
+returns-in-Some c =
+    let s = c.args.serial.octets.now in
+    let xs = items_at entry_in (inside (now c.args.self.element)) in
+    let found = subst (λ (o : Option Mark). Found s xs o) (sym c.mark_of.ensures ∙ ap (λ (o : Option Lent). option_map mark_as o) c.in-Some.is) (first-marked (now c.args.self.element) s (sym c.args.self.read)) in
+    ap (λ o. option_map said_in o) c.ok.ensures.value ∙ (read-again c.read.result (entry_in (now c.in-Some.mark.entry)) found.0 c.read.ensures found.1 ∙ sym found.2)
+
+pub returns-in-None : goal.returns-in-None
+returns-in-None c =
+    let s = c.args.serial.octets.now in
+    let xs = items_at entry_in (inside (now c.args.self.element)) in
+    sym (subst (λ (o : Option Mark). Found s xs o) (sym c.mark_of.ensures ∙ ap (λ (o : Option Lent). option_map mark_as o) c.in-None.is) (first-marked (now c.args.self.element) s (sym c.args.self.read)))
