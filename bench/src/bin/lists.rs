@@ -19,7 +19,7 @@ use openssl::{List, Serial};
 use std::hint::black_box;
 use std::time::Instant;
 
-/// How often each subject is timed; what is printed is the median.
+/// How often each subject is timed.
 const ROUNDS: usize = 31;
 
 /// The greatest number of octets that a list may have for `Crl::read`.
@@ -59,17 +59,14 @@ fn find(octets: &[u8], serial: &[u8]) -> bool {
     unsafe { ts_bench_find(octets.as_ptr(), octets.len(), serial.as_ptr(), serial.len()) }
 }
 
-/// The median time of a call, in nanoseconds.
+/// The least time of a call, in nanoseconds: what else the machine does can only add to it.
 fn time(mut call: impl FnMut()) -> f64 {
-    let mut times: Vec<f64> = (0..ROUNDS)
-        .map(|_| {
-            let start = Instant::now();
-            call();
-            start.elapsed().as_nanos() as f64
-        })
-        .collect();
-    times.sort_by(f64::total_cmp);
-    times[times.len() / 2]
+    let times = (0..ROUNDS).map(|_| {
+        let start = Instant::now();
+        call();
+        start.elapsed().as_nanos() as f64
+    });
+    times.fold(f64::INFINITY, f64::min)
 }
 
 /// The list of entries with reasons, and what both readers take for an octet of it. The answer is that of `Crl::read`.
@@ -84,19 +81,36 @@ fn tell_plain() -> Result<f64, String> {
     println!("Crl::read     {:>10.3} ns an octet", ours / octets);
     println!("d2i_X509_CRL  {:>10.3} ns an octet", theirs / octets);
     println!("ratio         {:>10.3}", ours / theirs);
-    tell_entry(&plain, ours);
+    tell_entry(&plain);
     Ok(ours / octets)
+}
+
+/// The least times of two calls that take turns, in nanoseconds.
+fn times(mut one: impl FnMut(), mut other: impl FnMut()) -> (f64, f64) {
+    let mut least = (f64::INFINITY, f64::INFINITY);
+    for _ in 0..2 * ROUNDS {
+        let start = Instant::now();
+        one();
+        least.0 = least.0.min(start.elapsed().as_nanos() as f64);
+        let start = Instant::now();
+        other();
+        least.1 = least.1.min(start.elapsed().as_nanos() as f64);
+    }
+    least
 }
 
 /// How fast an entry is found: the last one, and one that is not there. Each is asked for behind a reading, whose time is
 /// taken off.
-fn tell_entry(plain: &[u8], read: f64) {
+fn tell_entry(plain: &[u8]) {
     for (what, number) in [("the last entry", ENTRIES - 1), ("no entry", ENTRIES)] {
         let wanted = serial(number);
-        let both = time(|| {
-            black_box(find(plain, &wanted));
-        });
-        let found = both - read;
+        let (alone, both) = times(
+            || drop(black_box(read(black_box(plain)))),
+            || {
+                black_box(find(plain, &wanted));
+            },
+        );
+        let found = both - alone;
         let gigabytes = plain.len() as f64 / found;
         println!("Crl::entry, {what}: {found:.0} ns, {gigabytes:.2} GB/s");
     }
