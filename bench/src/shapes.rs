@@ -1,5 +1,5 @@
 //! The longest certificates of shapes that could be hard to read: one list of theirs has as many items as fit, no two
-//! of them equal.
+//! of them equal, or the last alone equal to the first.
 
 use crate::certificate::{attribute, authority, certificate, critical, extension, issuer};
 use crate::der::{element, nested, set_of, OBJECT_IDENTIFIER, SEQUENCE};
@@ -12,6 +12,20 @@ type Word = Vec<u8>;
 enum Order {
     Ascending,
     Descending,
+    /// Neither: each word is a large stride behind the one before it.
+    Shuffled,
+    /// The same, but the last word is the first one again, which is refused.
+    Repeated,
+}
+
+/// Coprime to each number of words.
+const STRIDE: usize = 7_919;
+
+/// Items in no order: a large stride from one to the next.
+pub fn shuffled<T: Clone>(items: &[T]) -> Vec<T> {
+    (0..items.len())
+        .map(|n| items[n * STRIDE % items.len()].clone())
+        .collect()
 }
 
 /// A shape: what its list has for items, and how the certificate is made with a list of words.
@@ -27,13 +41,17 @@ pub struct Longest {
     pub count: usize,
 }
 
-pub const SHAPES: [Shape; 8] = [
+pub const SHAPES: [Shape; 12] = [
     Shape::new("extensions, ascending", Order::Ascending, extensions),
     Shape::new("extensions, descending", Order::Descending, extensions),
+    Shape::new("extensions, shuffled", Order::Shuffled, extensions),
+    Shape::new("extensions, last again", Order::Repeated, extensions),
     Shape::new("RDNs of the subject", Order::Ascending, rdns),
     Shape::new("attributes of one RDN", Order::Ascending, attributes),
     Shape::new("policies, ascending", Order::Ascending, policies),
     Shape::new("policies, descending", Order::Descending, policies),
+    Shape::new("policies, shuffled", Order::Shuffled, policies),
+    Shape::new("policies, last again", Order::Repeated, policies),
     Shape::new("alternative names", Order::Ascending, alternative_names),
     Shape::new("permitted subtrees", Order::Ascending, subtrees),
 ];
@@ -51,8 +69,14 @@ impl Shape {
         let count = counts.partition_point(fits);
         let mut kept = words[..count].to_vec();
         kept.sort();
-        if let Order::Descending = self.order {
-            kept.reverse();
+        match self.order {
+            Order::Ascending => {}
+            Order::Descending => kept.reverse(),
+            Order::Shuffled => kept = shuffled(&kept),
+            Order::Repeated => {
+                kept = shuffled(&kept);
+                kept[count - 1] = kept[0].clone();
+            }
         }
         Longest {
             octets: (self.make)(&kept),

@@ -22,6 +22,9 @@ use std::time::Instant;
 /// How often each subject is timed.
 const ROUNDS: usize = 31;
 
+/// Coprime to each number of items.
+const STRIDE: usize = 7_919;
+
 /// The greatest number of octets that a list may have for `Crl::read`.
 const MAX_LIST: usize = 1_048_576;
 
@@ -149,15 +152,32 @@ fn unknown(count: u32) -> Vec<Vec<u8>> {
     (0..count).map(|n| extension(&word(n), &[])).collect()
 }
 
+/// The same in no order: a large stride from one to the next.
+fn shuffled(count: u32) -> Vec<Vec<u8>> {
+    let all = unknown(count);
+    (0..all.len())
+        .map(|n| all[n * STRIDE % all.len()].clone())
+        .collect()
+}
+
+/// The same, but the last is the first one again, which is refused.
+fn repeated(count: u32) -> Vec<Vec<u8>> {
+    let mut all = shuffled(count);
+    if let (Some(first), true) = (all.first().cloned(), all.len() > 1) {
+        all.pop();
+        all.push(first);
+    }
+    all
+}
+
 fn tell_shape(items: &str, of_plain: f64, make: impl Fn(u32) -> Vec<u8>) {
     let (count, octets) = longest(make);
     let answer = match read(&octets) {
         Ok(()) => "read".to_owned(),
         Err(fault) => fault,
     };
-    let start = Instant::now();
-    let _ = black_box(read(black_box(&octets)));
-    let ours = start.elapsed().as_nanos() as f64 / octets.len() as f64;
+    let whole = time(|| drop(black_box(read(black_box(&octets)))));
+    let ours = whole / octets.len() as f64;
     let ratio = ours / of_plain;
     let mark = if ratio > 20.0 { "ABOVE 20" } else { "" };
     let length = octets.len();
@@ -181,11 +201,20 @@ fn main() -> Result<(), String> {
     tell_shape("list extensions, descending", of_plain, |n| {
         list(&[], &reversed(n))
     });
+    tell_shape("list extensions, shuffled", of_plain, |n| {
+        list(&[], &shuffled(n))
+    });
+    tell_shape("list extensions, last again", of_plain, |n| {
+        list(&[], &repeated(n))
+    });
     tell_shape("entry extensions, ascending", of_plain, |n| {
         list(&[entry(0, &unknown(n))], &[])
     });
     tell_shape("entry extensions, descending", of_plain, |n| {
         list(&[entry(0, &reversed(n))], &[])
+    });
+    tell_shape("entry extensions, shuffled", of_plain, |n| {
+        list(&[entry(0, &shuffled(n))], &[])
     });
     Ok(())
 }

@@ -1,7 +1,6 @@
 -- General names: what is read is spelled so, what is spelled so is read, and a fault is the first rule of the table.
 use Rattle.std.proofs.Common.{◌≡◌, ℕ, ◌+◌, Bool, true, false, cond, eqb, not, ◌&&◌, ◌||◌, List, [], ◌++◌, length, Option, Some, None, Result, Ok, Err, refl, sym, ap, subst, ◌∙◌}
 use Rattle.std.specs.Prelude.{option_map}
-use Rattle.std.proofs.lemmas.Bool.{eqb-true}
 use Rattle.std.proofs.lemmas.List.{append-nil}
 use Rattle.ts_der.specs.declared.fault.DerFault.{DerFault}
 use Rattle.ts_der.specs.declared.fault.DerFault.TheVariants.{TextForm, OidForm}
@@ -9,13 +8,11 @@ use Rattle.ts_der.specs.declared.fault.Fault.{Fault}
 use Rattle.ts_der.specs.Octets.{AreOctets}
 use Rattle.ts_der.specs.Answer.{◌>>=◌}
 use Rattle.ts_der.specs.Rules.{Rule, first_broken, value_unless}
-use Rattle.ts_der.specs.Element.{Place, Tlv, spelled_at, inside}
+use Rattle.ts_der.specs.Element.{Tlv, inside}
 use Rattle.ts_der.specs.ObjectIdentifier.{is_oid, oid_rules}
-use Rattle.ts_der.specs.Reading.{located, value_at, next_at, end_at}
+use Rattle.ts_der.specs.Reading.{located, value_at, end_at}
 use Rattle.ts_der.specs.Text.{is_ascii, ascii_rules}
-use Rattle.ts_der.proofs.Elements.{next-found}
-use Rattle.ts_der.proofs.OctetLists.{AreOctets-part}
-use Rattle.ts_der.proofs.Laws.{bind_ok, ok_is, next-only}
+use Rattle.ts_der.proofs.Laws.{bind_ok, ok_is}
 use Rattle.ts_name.specs.declared.fault.CertFault.{CertFault}
 use Rattle.ts_name.specs.Canon.{Attr}
 use Rattle.ts_name.specs.Fault.{der, breaks}
@@ -25,7 +22,7 @@ use Rattle.ts_name.specs.Items.{each}
 use Rattle.ts_name.specs.General.{GeneralName, otherName, rfc822Name, dNSName, x400Address, directoryName, ediPartyName, uniformResourceIdentifier, iPAddress, registeredID, IsForm, IsGeneralName, directory_of, general_of, general_at, has_range_length}
 use Rattle.ts_name.specs.GeneralTable.{general_name}
 use Rattle.ts_name.specs.Rows.{name}
-use Rattle.ts_name.specs.Shape.{Shape, ContentRules, nothing, plain, ◌then◌, ◌or_else◌, row_fault, judge, der_rules, no_rules}
+use Rattle.ts_name.specs.Shape.{nothing, plain, ◌then◌, ◌or_else◌, row_fault, judge, der_rules, no_rules}
 use Rattle.ts_name.proofs.Shapes.{end-ok, end-again}
 use Rattle.ts_name.proofs.Parts.{Part, took}
 use Rattle.ts_name.proofs.ItemParts.{choice-found, choice-judged, form-part}

@@ -1,18 +1,18 @@
 -- Fields that may be absent: what is read is spelled so, what is spelled so is read, and the first rule that is broken.
-use Rattle.std.proofs.Common.{◌≡◌, ℕ, ◌+◌, Bool, true, false, cond, not, ◌||◌, eqb, List, [], ◌∷◌, ◌++◌, length, Option, Some, None, Result, Ok, Err, refl, sym, ap, subst, ◌∙◌, arith}
+use Rattle.std.proofs.Common.{◌≡◌, ℕ, ◌+◌, Bool, true, false, cond, not, ◌||◌, eqb, List, [], ◌++◌, length, Option, Some, None, Result, Ok, Err, refl, sym, ap, subst, ◌∙◌, arith}
 use Rattle.std.specs.Prelude.{option_map}
 use Rattle.std.proofs.lemmas.Bool.{eqb-false}
 use Rattle.ts_der.specs.declared.fault.Fault.{Fault}
 use Rattle.ts_der.specs.Octets.{AreOctets}
 use Rattle.ts_der.specs.Answer.{◌>>=◌}
-use Rattle.ts_der.specs.Element.{Place, Tlv, spell, inside}
+use Rattle.ts_der.specs.Element.{Place, Tlv, inside}
 use Rattle.ts_der.specs.Reading.{begins_with, element_at, element_of, behind}
 use Rattle.ts_der.proofs.Laws.{bind_ok, ok_is}
 use Rattle.ts_name.specs.declared.fault.CertFault.{CertFault}
 use Rattle.ts_name.specs.Fault.{der, breaks}
 use Rattle.ts_name.specs.Names.{within}
 use Rattle.ts_name.specs.Fields.{Within, IfAny, optional_of}
-use Rattle.ts_name.specs.Shape.{Row, optional, tagged, no_other, Shape, ◌then◌, ◌or_else◌, header_fault, row_fault, judge, ContentRules}
+use Rattle.ts_name.specs.Shape.{optional, tagged, no_other, Shape, ◌then◌, ◌or_else◌, header_fault, row_fault, judge, ContentRules}
 use Rattle.ts_name.proofs.Parts.{Value, within-part, took}
 use Rattle.ts_name.proofs.Judging.{Judged, element-judged}
 

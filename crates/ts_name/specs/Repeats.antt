@@ -1,9 +1,9 @@
 -- What a list states twice: the first item, by its place, that is known by the key of an earlier one.
-use Rattle.std.specs.Prelude.{ℕ, Bool, List, [], ◌∷◌, Option, Some, None, if◌then◌else◌}
+use Rattle.std.specs.Prelude.{◌≡◌, ℕ, ◌-◌, ◌≤◌, ◌⊎◌, Bool, false, ◌||◌, List, [], ◌∷◌, length, map, Option, Some, None, if◌then◌else◌}
 use Rattle.std.specs.Borrow.{Bor}
 use Rattle.std.specs.Cmp.Lexicographic.{slice_cmp}
-use Rattle.std.specs.List.{list_any}
-use Rattle.std.specs.List.Sorted.{IsStrictlySortedBy}
+use Rattle.std.specs.List.{list_any, slice_index}
+use Rattle.std.specs.List.Sorted.{IsSorted}
 use Rattle.std.specs.Ordering.{nat_cmp}
 use Rattle.std.specs.Str.{bytes_eq}
 
@@ -16,6 +16,24 @@ unfoldable pub first_repeated : {A : Type 0} → (A → List ℕ) → List (List
 first_repeated key seen [] = None
 first_repeated key seen (x ∷ xs) = if is_among (key x) seen then Some x else first_repeated key (key x ∷ seen) xs
 
--- keys in ascending order
+-- the keys that a table holds
+abbrev pub keys_in : List (Bor (List ℕ)) → List (List ℕ)
+keys_in table = map (λ k. k.now) table
+
+-- they ascend
 abbrev pub AreAscending : List (Bor (List ℕ)) → Type 0
-AreAscending keys = IsStrictlySortedBy (λ a b. slice_cmp nat_cmp a.now b.now) keys
+AreAscending table = IsSorted (λ a b. slice_cmp nat_cmp a.now b.now) table
+
+-- these items are as many as there is room for, or fewer and nothing is behind them
+abbrev pub Fills : {A : Type 0} → ℕ → List A → List A → Type 0
+Fills room front behind = (length front ≤ room) × ((length front ≡ room) ⊎ (behind ≡ []))
+
+-- two keys that stand side by side are equal, or the first is equal to the one before them
+abbrev pub has_equal_neighbours : Option (List ℕ) → List (List ℕ) → Bool
+has_equal_neighbours last [] = false
+has_equal_neighbours None (k ∷ ks) = has_equal_neighbours (Some k) ks
+has_equal_neighbours (Some l) (k ∷ ks) = bytes_eq l k || has_equal_neighbours (Some k) ks
+
+-- the last octet of a key, 0 of an empty one
+abbrev pub end_of : List ℕ → ℕ
+end_of key = slice_index key (length key - 1)

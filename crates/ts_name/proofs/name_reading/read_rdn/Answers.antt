@@ -1,6 +1,5 @@
-use Rattle.std.proofs.Common.{◌≡◌, List, [], None, Ok, Result, refl}
+use Rattle.std.proofs.Common.{◌≡◌, List, [], None, Ok, refl}
 use Rattle.std.specs.Result.{result_unwrap_or}
-use Rattle.ts_der.specs.declared.fault.Fault.{Fault}
 use Rattle.ts_der.specs.Answer.{refusal}
 use Rattle.ts_der.specs.Element.{Tlv, inside}
 use Rattle.ts_der.specs.Reading.{many}

@@ -1,8 +1,8 @@
 use Rattle.std.proofs.Common.{◌≡◌, ◌-◌, true, false, [], ◌∷◌, ◌++◌, List, ℕ, sym, ap, subst, ◌∙◌, arith}
 use Rattle.std.proofs.lemmas.List.{length_push, append_assoc}
 use Rattle.ts_name.specs.Items.{items_at}
-use Rattle.ts_name.specs.Repeats.{is_among}
-use Rattle.ts_name.proofs.KeyTables.{keys_in, found-among, placed-among, ascending-rises}
+use Rattle.ts_name.specs.Repeats.{is_among, keys_in}
+use Rattle.ts_name.proofs.KeyTables.{found-among, placed-among, ascending-rises}
 use Rattle.ts_name.proofs.FirstRepeats.{apart-more, scan-met, scan-unmet, scan-end}
 use Rattle.ts_name.proofs.repeats.scan.Goals as goal
 

@@ -1,6 +1,6 @@
 use Rattle.std.proofs.Common.{◌≡◌, ◌≤◌, List, ◌++◌, length}
 use Rattle.ts_name.specs.Items.{items_at}
-use Rattle.ts_name.proofs.KeyTables.{keys_in}
+use Rattle.ts_name.specs.Repeats.{keys_in}
 use Rattle.ts_name.proofs.FirstRepeats.{AreApart}
 use Rattle.ts_name.proofs.repeats.scan.Given as goal
 

@@ -1,4 +1,4 @@
-use Rattle.std.proofs.Common.{◌≡◌, refl, sym, ap, ◌∙◌}
+use Rattle.std.proofs.Common.{◌≡◌, refl}
 use Rattle.ts_der.specs.View.{now}
 use Rattle.ts_name.specs.NameSpelling.{IsRdnContent}
 use Rattle.ts_name.specs.NameView.{attributes_in}

@@ -1,4 +1,4 @@
-use Rattle.std.proofs.Common.{◌≡◌, ◌<◌, List, length, refl, sym, subst, ◌∙◌, arith}
+use Rattle.std.proofs.Common.{◌<◌, List, length, refl, sym, subst, ◌∙◌, arith}
 use Rattle.ts_name.specs.Items.{items_at}
 use Rattle.ts_name.proofs.ItemParts.{walk-end, walk-step, walk-stop}
 use Rattle.ts_name.proofs.sequence_of.SequenceItemsIterator.next.Goals as goal
