@@ -34,6 +34,7 @@ impl<'a> FromElement<'a> for Extension<'a> {
     ghost key_of = { λ x. x.extnID };
 
     #[tactic(auto, unfolding(ts_name::specs::Items::of_tag))]
+    #[inline(always)]
     fn read(element: Element<'a>) -> Result<Extension<'a>, Fault> {
         read_extension(tagged_as(element, SEQUENCE)?)
     }
@@ -48,6 +49,7 @@ impl<'a> Keyed<'a> for Extension<'a> {
 
 /// The extension that a SEQUENCE is.
 #[tactic(auto, unfolding(crate::specs::Extension::standing_of))]
+#[inline(always)]
 fn read_extension<'a>(element: Element<'a>) -> Result<Extension<'a>, Fault>
     ensures { Answers standing_as result (standing_of (now element.entry)) }
 {

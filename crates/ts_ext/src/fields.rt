@@ -24,6 +24,7 @@ pub(crate) const SEQUENCE: u8 = 0x30;
 
 /// An OBJECT IDENTIFIER.
 #[tactic(auto, unfolding(ts_name::specs::Fields::oid_at, ts_name::specs::Names::within))]
+#[inline(always)]
 pub(crate) fn next_oid<'a>(fields: &mut Reader<'a>) -> Result<OidRef<'a>, Fault>
     ensures { Takes (λ oid. oid.content.now) fields.new result (oid_at fields.old) }
 {

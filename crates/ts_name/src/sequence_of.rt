@@ -116,6 +116,7 @@ impl<'a, T: FromElement<'a>> Iterator for SequenceItems<'a, T> {
 
     ghost remaining = { item_count (λ items. items_at T.reading items.rest) };
 
+    #[inline(always)]
     fn next(&mut self) -> Option<T> {
         if self.rest.is_at_end() {
             return None;
@@ -183,6 +184,7 @@ fn check_items<'a, T: FromElement<'a>>(element: Element<'a>) -> Result<(), Fault
 
 /// The next item, which the reader has then passed.
 #[tactic(auto, unfolding(crate::specs::Items::each))]
+#[inline(always)]
 fn next_item<'a, T: FromElement<'a>>(rest: &mut Reader<'a>) -> Result<T, Fault>
     ensures { Takes T.record_of rest.new result (each T.reading rest.old) }
 {
