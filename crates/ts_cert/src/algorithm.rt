@@ -23,6 +23,7 @@ pub struct AlgorithmIdentifier<'a> {
 
 /// The element that is left, if any is.
 #[tactic(auto, unfolding(crate::specs::Reading::parameters_at))]
+#[inline(always)]
 fn next_parameters<'a>(fields: &mut Reader<'a>) -> Result<Option<&'a [u8]>, Fault>
     ensures { Takes (λ p. option_copied p) fields.new result (parameters_at fields.old) }
 {
@@ -34,6 +35,7 @@ fn next_parameters<'a>(fields: &mut Reader<'a>) -> Result<Option<&'a [u8]>, Faul
 
 /// The algorithm identifier that a SEQUENCE is.
 #[tactic(auto, unfolding(crate::specs::Reading::algorithm_of))]
+#[inline(always)]
 pub fn read_algorithm<'a>(element: Element<'a>) -> Result<AlgorithmIdentifier<'a>, Fault>
     ensures { Answers algorithm_in result (algorithm_of (now element.entry)) }
 {
@@ -50,6 +52,7 @@ pub fn read_algorithm<'a>(element: Element<'a>) -> Result<AlgorithmIdentifier<'a
 
 /// The algorithm identifier that stands next, which the reader has then passed.
 #[tactic(auto, unfolding(crate::specs::Reading::algorithm_at, ts_name::specs::Names::within))]
+#[inline(always)]
 pub fn next_algorithm<'a>(fields: &mut Reader<'a>) -> Result<AlgorithmIdentifier<'a>, Fault>
     ensures { Takes algorithm_in fields.new result (algorithm_at fields.old) }
 {

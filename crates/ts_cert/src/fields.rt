@@ -17,6 +17,7 @@ pub(crate) const SEQUENCE: u8 = 0x30;
 
 /// The content octets of an OBJECT IDENTIFIER.
 #[tactic(auto, unfolding(ts_name::specs::Fields::oid_at, ts_name::specs::Names::within))]
+#[inline(always)]
 pub(crate) fn next_oid<'a>(fields: &mut Reader<'a>) -> Result<&'a [u8], Fault>
     ensures { Takes (λ c. c.now) fields.new result (oid_at fields.old) }
 {
@@ -41,6 +42,7 @@ pub fn next_bits<'a>(fields: &mut Reader<'a>) -> Result<&'a [u8], Fault>
 
 /// A distinguished name.
 #[tactic(auto, unfolding(ts_name::specs::Fields::name_at, ts_name::specs::Names::within))]
+#[inline(always)]
 pub fn next_name<'a>(fields: &mut Reader<'a>) -> Result<Name<'a>, Fault>
     ensures { Takes rdns_in fields.new result (name_at fields.old) }
 {

@@ -21,6 +21,7 @@ pub struct SubjectPublicKeyInfo<'a> {
 
 /// The key that a SEQUENCE is.
 #[tactic(auto, unfolding(crate::specs::Reading::key_of))]
+#[inline(always)]
 fn read_key<'a>(element: Element<'a>) -> Result<SubjectPublicKeyInfo<'a>, Fault>
     ensures { Answers key_in result (key_of (now element.entry)) }
 {
@@ -36,6 +37,7 @@ fn read_key<'a>(element: Element<'a>) -> Result<SubjectPublicKeyInfo<'a>, Fault>
 
 /// The key that stands next, which the reader has then passed.
 #[tactic(auto, unfolding(crate::specs::Reading::key_at, ts_name::specs::Names::within))]
+#[inline(always)]
 pub(crate) fn next_key<'a>(fields: &mut Reader<'a>) -> Result<SubjectPublicKeyInfo<'a>, Fault>
     ensures { Takes key_in fields.new result (key_at fields.old) }
 {

@@ -63,6 +63,7 @@ fn next_extensions<'a>(fields: &mut Reader<'a>) -> Result<Option<Element<'a>>, F
 
 /// The fields that are left, and no more.
 #[tactic(auto, unfolding(crate::specs::Reading::late_fields_at))]
+#[inline(always)]
 pub(crate) fn read_late_fields<'a>(fields: &mut Reader<'a>) -> Result<LateFields<'a>, Fault>
     ensures { Answers late_in result (late_fields_at fields.old) }
 {

@@ -42,6 +42,7 @@ fn version_rule(version: Version, late: &LateFields<'_>) -> Option<CertFault>
 
 /// The first extension that stands twice (RFC 5280 4.2), then the first rule that a value breaks.
 #[tactic(auto, unfolding(ts_name::specs::Repeats::first_repeated))]
+#[inline(always)]
 fn list_rule(extensions: Option<Element<'_>>) -> Option<CertFault>
     ensures { result ≡ (repeated_fault (unwrap_or (option_map standings_within extensions.entry) []) or_else values_fault Certificate (unwrap_or (option_map standings_within extensions.entry) [])) }
 {
@@ -52,6 +53,7 @@ fn list_rule(extensions: Option<Element<'_>>) -> Option<CertFault>
 }
 
 /// The first of these rules that is broken.
+#[inline(always)]
 pub(crate) fn broken_rule(version: Version, late: &LateFields<'_>) -> Option<CertFault>
     ensures { result ≡ extensions_fault version (late_in late.now) }
 {

@@ -103,6 +103,7 @@ impl Period {
 
 /// The time that an element is, by its tag.
 #[tactic(auto, unfolding(crate::specs::Time::time_of))]
+#[inline(always)]
 pub fn read_time(element: Element<'_>) -> Result<Time, Fault>
     ensures { Answers (λ t. t) result (time_of (now element.entry)) }
 {
@@ -124,6 +125,7 @@ pub fn read_time(element: Element<'_>) -> Result<Time, Fault>
 
 /// The time that stands next, which the reader has then passed.
 #[tactic(auto, unfolding(crate::specs::Time::time_at))]
+#[inline(always)]
 pub fn next_time(fields: &mut Reader<'_>) -> Result<Time, Fault>
     ensures { Takes (λ t. t) fields.new result (time_at fields.old) }
 {
@@ -132,6 +134,7 @@ pub fn next_time(fields: &mut Reader<'_>) -> Result<Time, Fault>
 
 /// The period that a SEQUENCE is.
 #[tactic(auto, unfolding(crate::specs::Time::validity_of))]
+#[inline(always)]
 fn read_validity(element: Element<'_>) -> Result<Validity, Fault>
     ensures { Answers (λ v. v) result (validity_of (now element.entry)) }
 {
@@ -147,6 +150,7 @@ fn read_validity(element: Element<'_>) -> Result<Validity, Fault>
 
 /// The period that stands next, which the reader has then passed.
 #[tactic(auto, unfolding(crate::specs::Reading::validity_at, ts_name::specs::Names::within))]
+#[inline(always)]
 pub(crate) fn next_validity(fields: &mut Reader<'_>) -> Result<Validity, Fault>
     ensures { Takes (λ v. v) fields.new result (validity_at fields.old) }
 {

@@ -91,6 +91,7 @@ fn read_content<'a>(known: Known, element: Element<'a>) -> Result<Ext<'a>, Fault
 
 /// The value of an extension that an element of its tag is.
 #[tactic(auto, unfolding(ts_name::specs::Items::of_tag))]
+#[inline(always)]
 fn read_value<'a>(known: Known, element: Element<'a>) -> Result<Ext<'a>, Fault>
     ensures { Answers ext_in result (value_of known (now element.entry)) }
 {
@@ -99,6 +100,7 @@ fn read_value<'a>(known: Known, element: Element<'a>) -> Result<Ext<'a>, Fault>
 
 /// The one value within an OCTET STRING.
 #[tactic(auto, unfolding(ts_name::specs::Items::alone, ts_name::specs::Items::each))]
+#[inline(always)]
 fn read_alone<'a>(known: Known, octets: Element<'a>) -> Result<Ext<'a>, Fault>
     ensures { Answers ext_in result (alone (value_of known) (now octets.entry)) }
 {
@@ -127,6 +129,7 @@ impl<'a> Ext<'a> {
 }
 
 #[tactic(auto, unfolding(crate::specs::Ext::ext_of))]
+#[inline(always)]
 fn read_ext<'a>(holder: Holder, oid: OidRef<'a>, octets: Element<'a>) -> Result<Ext<'a>, Fault>
     ensures { Answers ext_in result (ext_of (known_at holder oid.entry.content.now) (now octets.entry)) }
 {

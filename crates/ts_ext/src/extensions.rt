@@ -151,6 +151,7 @@ fn read_within<'a>(element: Element<'a>) -> Result<Extensions<'a>, Fault>
 }
 
 /// The first rule that the values of a list break.
+#[inline(always)]
 fn first_broken_value(extensions: Extensions<'_>, holder: Holder) -> Option<CertFault>
     ensures { result ≡ values_fault holder (standings_in extensions.entry) }
 {
@@ -173,6 +174,7 @@ fn place_of(holder: Holder, at: usize) -> usize
 }
 
 /// The first rule that the value of an extension breaks.
+#[inline(always)]
 fn broken_value<'a>(holder: Holder, extension: Extension<'a>) -> Option<CertFault>
     ensures { result ≡ value_fault holder (standing_as extension.entry) }
 {

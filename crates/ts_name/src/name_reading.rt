@@ -56,6 +56,7 @@ pub(crate) fn read_attribute<'a>(element: Element<'a>) -> Result<Attribute<'a>, 
 
 /// The next attribute of a set, which the reader has then passed.
 #[tactic(auto, unfolding(crate::specs::Names::within))]
+#[inline(always)]
 fn next_attribute<'a>(rest: &mut Reader<'a>) -> Result<Attribute<'a>, Fault>
     ensures { Takes attr_of rest.new result (attribute_at rest.old) }
 {
@@ -64,6 +65,7 @@ fn next_attribute<'a>(rest: &mut Reader<'a>) -> Result<Attribute<'a>, Fault>
 }
 
 /// The attributes of a set, one after another.
+#[inline(always)]
 fn check_attributes(set: Element<'_>) -> Result<(), Fault>
     ensures { refusal result ≡ refusal (many attribute_at (inside (now set.entry))) }
 {
@@ -91,6 +93,7 @@ fn check_rdn(set: Element<'_>) -> Result<(), Fault>
 }
 
 /// The next relative distinguished name, which the reader has then passed.
+#[inline(always)]
 fn pass_rdn(rest: &mut Reader<'_>) -> Result<(), Fault>
     ensures { Passes rest.new result (rdn_at rest.old) }
 {
@@ -99,6 +102,7 @@ fn pass_rdn(rest: &mut Reader<'_>) -> Result<(), Fault>
 }
 
 /// The relative distinguished names of a name, one after another.
+#[inline(always)]
 fn check_rdns(name: Element<'_>) -> Result<(), Fault>
     ensures { refusal result ≡ refusal (name_of (now name.entry)) }
 {
@@ -126,6 +130,7 @@ impl<'a> Name<'a> {
     }
 }
 
+#[inline(always)]
 fn read_name<'a>(element: Element<'a>) -> Result<Name<'a>, Fault>
     ensures { Answers rdns_in result (name_of (now element.entry)) }
 {
