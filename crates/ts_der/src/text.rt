@@ -25,7 +25,7 @@ fn read_utf8(content: &[u8]) -> Result<&str, DerFault>
 fn are_ascii(octets: &[u8]) -> bool
     ensures { result ≡ is_ascii octets.now }
 {
-    octets.iter().all(|octet| *octet < 0x80)
+    octets.is_ascii()
 }
 
 fn read_ascii(content: &[u8]) -> Result<&[u8], DerFault>
