@@ -10,6 +10,7 @@ mod entry;
 mod extension_list;
 mod extension_rule;
 mod fault;
+mod findings;
 pub mod laws;
 mod mark;
 mod placed;

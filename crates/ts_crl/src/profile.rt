@@ -42,12 +42,7 @@ fn unprocessed_if_any<'a>(holder: Holder, placed: Option<Placed<'a>>) -> Option<
 fn unprocessed_of_entries<'a>(revoked: Revoked<'a>) -> Option<&'a [u8]>
     ensures { option_copied result ≡ unprocessed_of (entries_in revoked.entry) }
 {
-    for entry in revoked.iter() {
-        if let Some(oid) = unprocessed_if_any(Holder::Entry, entry.extensions) {
-            return Some(oid);
-        }
-    }
-    None
+    revoked.findings.unprocessed
 }
 
 /// The same where there may be no list of entries.
@@ -71,12 +66,7 @@ fn unprocessed<'a>(crl: &Crl<'a>) -> Option<&'a [u8]>
 fn has_issuer(revoked: Revoked<'_>) -> bool
     ensures { result ≡ list_any names_issuer (entries_in revoked.entry) }
 {
-    for entry in revoked.iter() {
-        if is_among(Known::CertificateIssuer, entry.extensions) {
-            return true;
-        }
-    }
-    false
+    revoked.findings.names_issuer
 }
 
 /// The same where there may be no list of entries.

@@ -10,11 +10,15 @@ use crate::extension_rule::ExtensionRule;
 use crate::placed::Placed;
 use crate::revoked::Revoked;
 use crate::version::ListVersion;
-use ts_ext::{Extension, Holder};
-use ts_name::{CertFault, CertRule, first_repeated};
+use ts_ext::Holder;
+use ts_name::{CertFault, CertRule};
 
 /// The first place at which extensions break a rule.
-fn rule_fault<'a>(rule: ExtensionRule, holder: Holder, placed: Placed<'a>) -> Option<CertFault>
+pub(crate) fn rule_fault(
+    rule: ExtensionRule,
+    holder: Holder,
+    placed: Placed<'_>,
+) -> Option<CertFault>
     ensures { result ≡ rule_fault_of rule holder (placed_in placed.entry) }
 {
     match rule {
@@ -23,7 +27,7 @@ fn rule_fault<'a>(rule: ExtensionRule, holder: Holder, placed: Placed<'a>) -> Op
             at: placed.at,
         }),
         ExtensionRule::Repeated => {
-            let extension = first_repeated::<Extension<'a>>(placed.list.element)?;
+            let extension = placed.list.first_repeated()?;
             Some(CertFault {
                 kind: CertRule::DuplicateExtension,
                 at: extension.at,
@@ -47,12 +51,11 @@ fn fault_if_any(
 fn entries_fault(rule: ExtensionRule, revoked: Revoked<'_>) -> Option<CertFault>
     ensures { result ≡ entries_fault_of rule (revoked_in revoked.entry) }
 {
-    for entry in revoked.iter() {
-        if let Some(fault) = fault_if_any(rule, Holder::Entry, entry.extensions) {
-            return Some(fault);
-        }
+    match rule {
+        ExtensionRule::OldVersion => revoked.findings.old_version,
+        ExtensionRule::Repeated => revoked.findings.repeated,
+        ExtensionRule::Values => revoked.findings.value,
     }
-    None
 }
 
 /// The same where there may be no list of entries.
