@@ -1,7 +1,6 @@
 //! What the rules of a list ask of the extensions of its entries.
 
-ghost use Rattle.std.specs.Prelude.{◌≡◌, ◌||◌, [], ◌∷◌, Some, map};
-ghost use Rattle.std.specs.List.{list_any};
+ghost use Rattle.std.specs.Prelude.{◌≡◌, ◌||◌, [], ◌∷◌, Some};
 ghost use Rattle.std.specs.Option.{option_copied};
 ghost use Rattle.ts_der.specs.Answer.{Answers};
 ghost use Rattle.ts_der.specs.View.{now};
@@ -9,21 +8,14 @@ ghost use Rattle.ts_name.specs.Shape.{◌or_else◌};
 ghost use Rattle.ts_ext.specs.declared.known.Holder.TheVariants.{Entry as EntryHolder};
 ghost use Rattle.ts_ext.specs.declared.known.Known.TheVariants.{CertificateIssuer, ReasonCode as ReasonExtension};
 ghost use Rattle.ts_ext.specs.Ext.{reasonCode, ext_of, ext_fault};
-ghost use Rattle.ts_ext.specs.Extension.{said};
 ghost use Rattle.ts_ext.specs.ExtensionView.{standing_as};
-ghost use Rattle.ts_ext.specs.ValueRules.{content_fault, value_fault as value_fault_of, values_fault};
-ghost use Rattle.ts_crl.specs.EntryView.{entry_as, extension_as, listed_in, placed_in};
-ghost use Rattle.ts_crl.specs.Findings.{findings_of, joined};
+ghost use Rattle.ts_ext.specs.ValueRules.{content_fault, value_fault as value_fault_of};
+ghost use Rattle.ts_crl.specs.EntryView.{extension_as};
+ghost use Rattle.ts_crl.specs.Findings.{findings_of};
 ghost use Rattle.ts_crl.specs.FindingsView.{findings_in};
 ghost use Rattle.ts_crl.specs.Profile.{unprocessed_in};
-ghost use Rattle.ts_crl.specs.Rules.{rule_fault as rule_fault_of};
 ghost use Rattle.ts_crl.specs.Values.{is_known};
 
-use crate::entry::Entry;
-use crate::extension_list::ExtensionList;
-use crate::extension_rule::ExtensionRule;
-use crate::placed::Placed;
-use crate::rules::rule_fault;
 use ts_der::{Element, Fault};
 use ts_ext::{Ext, Extension, Holder, Known, ReasonCode};
 use ts_name::{CertFault, tagged_as};
@@ -64,8 +56,8 @@ fn reason_fault(octets: Element<'_>) -> Option<CertFault>
     }
 }
 
-/// The first rule that the value of an extension of an entry breaks. Most are reasons, which are not brought into the form
-/// of all values.
+/// The first rule that the value of an extension of an entry breaks. Most are reasons, which are read without room for the
+/// other values.
 fn value_fault(extension: Extension<'_>) -> Option<CertFault>
     ensures { result ≡ value_fault_of EntryHolder (standing_as extension.entry) }
 {
@@ -100,16 +92,6 @@ fn is_issuer(extension: Extension<'_>) -> bool
     extension.id.content == [0x55, 0x1D, Known::CertificateIssuer.arc()].as_slice()
 }
 
-/// A fault that was found before, else the first place at which the extensions of an entry break a rule.
-fn or_fault(found: Option<CertFault>, rule: ExtensionRule, placed: Placed<'_>) -> Option<CertFault>
-    ensures { result ≡ (found or_else rule_fault_of rule EntryHolder (placed_in placed.entry)) }
-{
-    match found {
-        Some(fault) => Some(fault),
-        None => rule_fault(rule, Holder::Entry, placed),
-    }
-}
-
 impl<'a> Findings<'a> {
     /// What is found in no entries.
     pub(crate) fn none() -> Findings<'a>
@@ -124,33 +106,8 @@ impl<'a> Findings<'a> {
         }
     }
 
-    /// What is found in one more entry.
-    pub(crate) fn note(&mut self, entry: Entry<'a>)
-        ensures { findings_in self.new ≡ joined (findings_in self.old) (findings_of (entry_as entry.entry ∷ [])) }
-    {
-        let Some(placed) = entry.extensions else {
-            return;
-        };
-        self.old_version = or_fault(self.old_version, ExtensionRule::OldVersion, placed);
-        self.repeated = or_fault(self.repeated, ExtensionRule::Repeated, placed);
-        self.note_all(placed.list);
-    }
-
-    /// What is found in each of the extensions of an entry.
-    fn note_all(&mut self, list: ExtensionList<'a>)
-        ensures old_version { self.new.old_version ≡ self.old.old_version }
-        ensures repeated { self.new.repeated ≡ self.old.repeated }
-        ensures value { self.new.value ≡ (self.old.value or_else values_fault EntryHolder (listed_in list.entry)) }
-        ensures unprocessed { option_copied self.new.unprocessed ≡ (option_copied self.old.unprocessed or_else unprocessed_in EntryHolder (map said (listed_in list.entry))) }
-        ensures issuer { self.new.names_issuer ≡ (self.old.names_issuer || list_any (is_known CertificateIssuer) (map said (listed_in list.entry))) }
-    {
-        for extension in list.extensions().iter() {
-            self.note_one(extension);
-        }
-    }
-
-    /// What is found in one extension.
-    fn note_one(&mut self, extension: Extension<'a>)
+    /// Adds what is found in one more extension of an entry.
+    pub(crate) fn note(&mut self, extension: Extension<'a>)
         ensures old_version { self.new.old_version ≡ self.old.old_version }
         ensures repeated { self.new.repeated ≡ self.old.repeated }
         ensures value { self.new.value ≡ (self.old.value or_else value_fault_of EntryHolder (standing_as extension.entry)) }

@@ -13,6 +13,7 @@ mod fault;
 mod findings;
 pub mod laws;
 mod mark;
+mod noting;
 mod placed;
 mod profile;
 mod revoked;

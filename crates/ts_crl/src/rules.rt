@@ -10,14 +10,14 @@ use crate::extension_rule::ExtensionRule;
 use crate::placed::Placed;
 use crate::revoked::Revoked;
 use crate::version::ListVersion;
-use ts_ext::Holder;
-use ts_name::{CertFault, CertRule};
+use ts_ext::{Extension, Holder};
+use ts_name::{CertFault, CertRule, first_repeated};
 
 /// The first place at which extensions break a rule.
-pub(crate) fn rule_fault(
+pub(crate) fn rule_fault<'a>(
     rule: ExtensionRule,
     holder: Holder,
-    placed: Placed<'_>,
+    placed: Placed<'a>,
 ) -> Option<CertFault>
     ensures { result ≡ rule_fault_of rule holder (placed_in placed.entry) }
 {
@@ -27,7 +27,7 @@ pub(crate) fn rule_fault(
             at: placed.at,
         }),
         ExtensionRule::Repeated => {
-            let extension = placed.list.first_repeated()?;
+            let extension = first_repeated::<Extension<'a>>(placed.list.element)?;
             Some(CertFault {
                 kind: CertRule::DuplicateExtension,
                 at: extension.at,
