@@ -47,7 +47,7 @@ fn fault_if_any(
     rule_fault(rule, holder, placed?)
 }
 
-/// The first place at which the extensions of entries break a rule.
+/// The first place at which the extensions of entries break a rule, which was found when they were read.
 fn entries_fault(rule: ExtensionRule, revoked: Revoked<'_>) -> Option<CertFault>
     ensures { result ≡ entries_fault_of rule (revoked_in revoked.entry) }
 {
