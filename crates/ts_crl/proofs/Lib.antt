@@ -2,6 +2,7 @@ pub mod Saying
 pub mod EntryParts
 pub mod Updates
 pub mod Walks
+pub mod Joining
 pub mod ListParts
 pub mod Finds
 pub mod Marked

@@ -1,16 +1,22 @@
 -- The value of an extension is the same wherever it stands.
-use Rattle.std.proofs.Common.{◌≡◌, List, Option, Result, Ok, Err, ℕ, refl, sym, ap, subst, ◌∙◌}
+use Rattle.std.proofs.Common.{◌≡◌, List, Option, Some, None, Result, Ok, Err, ℕ, refl, sym, ap, subst, ◌∙◌}
 use Rattle.std.specs.Prelude.{option_map}
 use Rattle.std.specs.Result.{result_ok}
 use Rattle.ts_der.specs.declared.fault.Fault.{Fault}
 use Rattle.ts_der.specs.Octets.{AreOctets}
-use Rattle.ts_der.specs.Answer.{Answers}
+use Rattle.ts_der.specs.Answer.{Answers, refusal}
 use Rattle.ts_der.specs.Element.{Tlv, spelled_at}
+use Rattle.ts_name.specs.Fault.{about}
+use Rattle.ts_name.specs.Shape.{◌or_else◌}
+use Rattle.ts_name.proofs.Judging.{about-judged}
 use Rattle.ts_ext.specs.declared.ext.Ext.{Ext}
 use Rattle.ts_ext.specs.declared.known.Known.{Known}
-use Rattle.ts_ext.specs.Ext.{ExtValue, IsExt, ext_of}
+use Rattle.ts_ext.specs.declared.known.Known.TheVariants.{ReasonCode as ReasonExtension}
+use Rattle.ts_ext.specs.declared.reason_code.ReasonCode.{ReasonCode}
+use Rattle.ts_ext.specs.Ext.{ExtValue, IsExt, reasonCode, ext_of, ext_fault}
 use Rattle.ts_ext.specs.ExtView.{ext_in}
-use Rattle.ts_ext.proofs.Exts.{ext-found, ext-again}
+use Rattle.ts_ext.specs.ValueRules.{content_fault}
+use Rattle.ts_ext.proofs.Exts.{ext-found, ext-again, ext-judged}
 use Rattle.ts_crl.specs.Values.{ok_of, value_in_octets}
 
 -- what is read at one place is read at another
@@ -36,3 +42,15 @@ lent-anywhere known e fits r o read is = ap (λ (q : Option Ext). option_map ext
     by_result : (r : Result Ext Fault) → Answers ext_in r (ext_of known e) → option_map ext_in (result_ok r) ≡ ok_of (ext_of known e)
     by_result (Ok x) a = ap (λ (q : Result ExtValue Fault). ok_of q) (sym a)
     by_result (Err f) a = ap (λ (q : Result ExtValue Fault). ok_of q) (sym a)
+
+-- ---- reasons
+
+-- what a reason is refused for is the first rule that it breaks
+pub reason-judged : (v : Tlv) (r : Result ReasonCode Fault) → Answers (λ x. reasonCode x) r (ext_of (Some ReasonExtension) v)
+    → option_map about (refusal r) ≡ (ext_fault (Some ReasonExtension) v or_else content_fault 0 (ext_of (Some ReasonExtension) v))
+reason-judged v (Ok x) a =
+    let none : None ≡ ext_fault (Some ReasonExtension) v = about-judged (λ x. reasonCode x) (Ok x) (ext_of (Some ReasonExtension) v) _ (λ x. Unit {0}) a (ext-judged (Some ReasonExtension) v) in
+    rw (← none, a) refl
+reason-judged v (Err f) a =
+    let some : Some (about f) ≡ ext_fault (Some ReasonExtension) v = about-judged (λ x. reasonCode x) (Err f) (ext_of (Some ReasonExtension) v) _ (λ x. Unit {0}) a (ext-judged (Some ReasonExtension) v) in
+    rw (← some) refl

@@ -8,6 +8,8 @@ pub mod Values
 pub mod Profile
 pub mod Spelling
 pub mod Table
+pub mod Findings
+pub mod FindingsView
 pub mod Marks
 pub mod MarkView
 pub mod EntryView

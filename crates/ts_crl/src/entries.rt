@@ -3,20 +3,24 @@
 ghost use Rattle.std.specs.List.{find};
 ghost use Rattle.std.specs.Prelude.{◌≡◌, map, option_map};
 ghost use Rattle.std.specs.Str.{bytes_eq};
-ghost use Rattle.ts_der.specs.Answer.{Answers, refusal};
+ghost use Rattle.ts_der.specs.Answer.{Answers};
 ghost use Rattle.ts_der.specs.Element.{inside};
 ghost use Rattle.ts_der.specs.View.{now};
 ghost use Rattle.ts_name.specs.Fields.{optional_of};
-ghost use Rattle.ts_name.specs.Items.{each, items_at};
+ghost use Rattle.ts_name.specs.Items.{items_at};
 ghost use Rattle.ts_name.specs.Steps.{Takes};
 ghost use Rattle.ts_crl.specs.Entries.{has_serial};
-ghost use Rattle.ts_crl.specs.EntryView.{entry_as, entry_in as said_in, entries_in, revoked_in};
+ghost use Rattle.ts_crl.specs.EntryView.{entry_in as said_in, entries_in, revoked_in};
+ghost use Rattle.ts_crl.specs.Findings.{Finds};
+ghost use Rattle.ts_crl.specs.FindingsView.{findings_in};
 ghost use Rattle.ts_crl.specs.Marks.{mark_of};
 ghost use Rattle.ts_crl.specs.MarkView.{mark_as};
 ghost use Rattle.ts_crl.specs.Reading.{entry_in, revoked_of};
 
 use crate::entry::Entry;
+use crate::findings::Findings;
 use crate::mark::Mark;
+use crate::noting::note_next;
 use crate::revoked::Revoked;
 use ts_der::{Element, Fault, Integer, Reader};
 use ts_name::{FromElement, SequenceItems};
@@ -54,31 +58,24 @@ impl<'a> Revoked<'a> {
     }
 }
 
-/// The next entry, which the reader has then passed.
-#[tactic(auto, unfolding(ts_name::specs::Items::each))]
-fn next_entry<'a>(rest: &mut Reader<'a>) -> Result<Entry<'a>, Fault>
-    ensures { Takes entry_as rest.new result (each entry_in rest.old) }
-{
-    Entry::read(rest.next()?)
-}
-
-/// The entries of an element, one after another.
-fn check_entries(element: Element<'_>) -> Result<(), Fault>
-    ensures { refusal result ≡ refusal (revoked_of (now element.entry)) }
+/// What is found in the entries of an element, one after another.
+fn check_entries<'a>(element: Element<'a>) -> Result<Findings<'a>, Fault>
+    ensures { Finds findings_in result (revoked_of (now element.entry)) }
 {
     let mut rest = element.reader();
+    let mut findings = Findings::none();
     while !rest.is_at_end() {
-        next_entry(&mut rest)?;
+        note_next(&mut rest, &mut findings)?;
     }
-    Ok(())
+    Ok(findings)
 }
 
 /// The entries that a SEQUENCE's content is.
 fn read_revoked<'a>(element: Element<'a>) -> Result<Revoked<'a>, Fault>
     ensures { Answers revoked_in result (revoked_of (now element.entry)) }
 {
-    check_entries(element)?;
-    Ok(Revoked { element })
+    let findings = check_entries(element)?;
+    Ok(Revoked { element, findings })
 }
 
 /// The entries, where they stand next.

@@ -5,7 +5,7 @@ ghost use Rattle.std.specs.List.{list_any};
 ghost use Rattle.std.specs.Option.{option_copied};
 ghost use Rattle.ts_ext.specs.Extension.{said};
 ghost use Rattle.ts_ext.specs.NameViews.{issuing_point_in};
-ghost use Rattle.ts_crl.specs.EntryView.{listed_in, placed_in, entries_in, revoked_in};
+ghost use Rattle.ts_crl.specs.EntryView.{listed_in, placed_in, revoked_in};
 ghost use Rattle.ts_crl.specs.Fault.{fault_in};
 ghost use Rattle.ts_crl.specs.List.{said_extensions, said_entry};
 ghost use Rattle.ts_crl.specs.ListView.{crl_in};
@@ -38,23 +38,11 @@ fn unprocessed_if_any<'a>(holder: Holder, placed: Option<Placed<'a>>) -> Option<
     unprocessed_in(holder, placed?.list)
 }
 
-/// The same of entries, one after another.
-fn unprocessed_of_entries<'a>(revoked: Revoked<'a>) -> Option<&'a [u8]>
-    ensures { option_copied result ≡ unprocessed_of (entries_in revoked.entry) }
-{
-    for entry in revoked.iter() {
-        if let Some(oid) = unprocessed_if_any(Holder::Entry, entry.extensions) {
-            return Some(oid);
-        }
-    }
-    None
-}
-
-/// The same where there may be no list of entries.
+/// The same of entries, where there may be no list of them: it was found when they were read.
 fn unprocessed_of_entries_if_any<'a>(revoked: Option<Revoked<'a>>) -> Option<&'a [u8]>
     ensures { option_copied result ≡ unprocessed_of (unwrap_or (option_map (map said_entry) (option_map revoked_in revoked.entry)) []) }
 {
-    unprocessed_of_entries(revoked?)
+    revoked?.findings.unprocessed
 }
 
 /// The object identifier of the first critical extension of a list, then of its entries, that is not processed.
@@ -67,24 +55,12 @@ fn unprocessed<'a>(crl: &Crl<'a>) -> Option<&'a [u8]>
     }
 }
 
-/// Whether an entry names another issuer.
-fn has_issuer(revoked: Revoked<'_>) -> bool
-    ensures { result ≡ list_any names_issuer (entries_in revoked.entry) }
-{
-    for entry in revoked.iter() {
-        if is_among(Known::CertificateIssuer, entry.extensions) {
-            return true;
-        }
-    }
-    false
-}
-
-/// The same where there may be no list of entries.
+/// Whether an entry names another issuer, where there may be no list of them: it was found when they were read.
 fn has_issuer_if_any(revoked: Option<Revoked<'_>>) -> bool
     ensures { result ≡ list_any names_issuer (unwrap_or (option_map (map said_entry) (option_map revoked_in revoked.entry)) []) }
 {
     match revoked {
-        Some(revoked) => has_issuer(revoked),
+        Some(revoked) => revoked.findings.names_issuer,
         None => false,
     }
 }

@@ -2,15 +2,24 @@
 
 ghost use Rattle.std.specs.Prelude.{◌≡◌, None};
 ghost use Rattle.ts_der.specs.Answer.{refusal};
+ghost use Rattle.ts_der.specs.Element.{inside};
 ghost use Rattle.ts_der.specs.View.{now};
-ghost use Rattle.ts_crl.specs.Reading.{revoked_of};
+ghost use Rattle.ts_name.specs.Items.{items_at};
+ghost use Rattle.ts_crl.specs.Findings.{findings_of};
+ghost use Rattle.ts_crl.specs.FindingsView.{findings_in};
+ghost use Rattle.ts_crl.specs.Reading.{entry_in, revoked_of};
 
+use crate::findings::Findings;
 use ts_der::Element;
 
 /// The certificates that a list says to be revoked, of which there may be none (RFC 5280 5.1.2.6).
 #[derive(Clone, Copy)]
 pub struct Revoked<'a> {
     pub(crate) element: Element<'a>,
+    /// What the rules of a list ask of the extensions of the entries.
+    pub(crate) findings: Findings<'a>,
     // The entries were read.
     ghost read: { refusal (revoked_of (now element)) ≡ None },
+    // What was found is found in these.
+    ghost found: { findings_in findings ≡ findings_of (items_at entry_in (inside (now element))) },
 }

@@ -14,7 +14,11 @@ use ts_ext::{Extension, Holder};
 use ts_name::{CertFault, CertRule, first_repeated};
 
 /// The first place at which extensions break a rule.
-fn rule_fault<'a>(rule: ExtensionRule, holder: Holder, placed: Placed<'a>) -> Option<CertFault>
+pub(crate) fn rule_fault<'a>(
+    rule: ExtensionRule,
+    holder: Holder,
+    placed: Placed<'a>,
+) -> Option<CertFault>
     ensures { result ≡ rule_fault_of rule holder (placed_in placed.entry) }
 {
     match rule {
@@ -43,16 +47,15 @@ fn fault_if_any(
     rule_fault(rule, holder, placed?)
 }
 
-/// The first place at which the extensions of entries break a rule.
+/// The first place at which the extensions of entries break a rule, which was found when they were read.
 fn entries_fault(rule: ExtensionRule, revoked: Revoked<'_>) -> Option<CertFault>
     ensures { result ≡ entries_fault_of rule (revoked_in revoked.entry) }
 {
-    for entry in revoked.iter() {
-        if let Some(fault) = fault_if_any(rule, Holder::Entry, entry.extensions) {
-            return Some(fault);
-        }
+    match rule {
+        ExtensionRule::OldVersion => revoked.findings.old_version,
+        ExtensionRule::Repeated => revoked.findings.repeated,
+        ExtensionRule::Values => revoked.findings.value,
     }
-    None
 }
 
 /// The same where there may be no list of entries.

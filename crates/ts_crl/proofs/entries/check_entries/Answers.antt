@@ -6,28 +6,31 @@ use Rattle.ts_der.specs.View.{now}
 use Rattle.ts_der.proofs.Many.{goes_on, breaks_off, is_done}
 use Rattle.ts_name.specs.Items.{each}
 use Rattle.ts_name.proofs.ItemParts.{each-consumes}
-use Rattle.ts_crl.specs.EntryView.{entry_as}
+use Rattle.ts_crl.specs.FindingsView.{findings_in}
 use Rattle.ts_crl.specs.Reading.{entry_in}
+use Rattle.ts_crl.proofs.Joining.{entry-joined}
 use Rattle.ts_crl.proofs.entries.check_entries.Goals as goal
 
-pub returns-in_err-next_entry : goal.returns-in_err-next_entry
-returns-in_err-next_entry c =
+pub returns-in_err-note_next : goal.returns-in_err-note_next
+returns-in_err-note_next c =
     let p = err_from_is_err_and c.from_residual.result c.from_residual.ensures.1 in
     let i = c.loop-rest.invariant in
-    let total = breaks_off (each entry_in) (each-consumes entry_in) i.0 c.loop-rest.rest c.in_err-next_entry.field-0.0 (many (each entry_in) (inside (now c.args.element))) (sym c.is_at_end.ensures ∙ c.loop-rest-test.true) c.in_err-next_entry.ensures i.1 in
+    let total = breaks_off (each entry_in) (each-consumes entry_in) i.0 c.loop-rest.rest c.in_err-note_next.field-0.0 (many (each entry_in) (inside (now c.args.element))) (sym c.is_at_end.ensures ∙ c.loop-rest-test.true) c.in_err-note_next.ensures i.1 in
     rw (p.1, p.2, total) refl
 
 pub loop-rest-smaller : goal.loop-rest-smaller
-loop-rest-smaller c = each-consumes entry_in c.loop-rest.rest (entry_as c.in_ok-next_entry.field-0) c.next_entry.new.rest c.in_ok-next_entry.ensures
+loop-rest-smaller c = let x = c.in_ok-note_next.ensures in each-consumes entry_in c.loop-rest.rest x.0 c.note_next.new.rest x.1
 
 pub loop-rest-preserved : goal.loop-rest-preserved
 loop-rest-preserved c =
     let i = c.loop-rest.invariant in
-    let x = entry_as c.in_ok-next_entry.field-0 in
-    (i.0 ++ x ∷ [], goes_on (each entry_in) (each-consumes entry_in) i.0 c.loop-rest.rest x c.next_entry.new.rest (many (each entry_in) (inside (now c.args.element))) (sym c.is_at_end.ensures ∙ c.loop-rest-test.true) c.in_ok-next_entry.ensures i.1)
+    let x = c.in_ok-note_next.ensures in (
+      i.0 ++ x.0 ∷ [],
+      goes_on (each entry_in) (each-consumes entry_in) i.0 c.loop-rest.rest x.0 c.note_next.new.rest (many (each entry_in) (inside (now c.args.element))) (sym c.is_at_end.ensures ∙ c.loop-rest-test.true) x.1 i.1,
+      entry-joined i.0 x.0 (findings_in c.loop-rest.findings) (findings_in c.note_next.new.findings) i.2 x.2,
+    )
 
 pub returns : goal.returns
 returns c =
     let i = c.loop-rest.invariant in
-    let all = is_done (each entry_in) i.0 c.loop-rest.rest (many (each entry_in) (inside (now c.args.element))) (sym c.is_at_end.ensures ∙ c.loop-rest-test.false) i.1 in
-    rw all refl
+    (i.0, is_done (each entry_in) i.0 c.loop-rest.rest (many (each entry_in) (inside (now c.args.element))) (sym c.is_at_end.ensures ∙ c.loop-rest-test.false) i.1, i.2)

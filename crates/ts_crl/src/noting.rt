@@ -1,0 +1,129 @@
+//! Entries that are read once for their shape and for what the rules of a list ask of their extensions.
+
+ghost use Rattle.std.specs.Prelude.{◌≡◌, [], ◌∷◌, length};
+ghost use Rattle.ts_der.specs.View.{now};
+ghost use Rattle.ts_name.specs.Fields.{optional_of};
+ghost use Rattle.ts_name.specs.Items.{each, some_of};
+ghost use Rattle.ts_name.specs.Shape.{◌or_else◌};
+ghost use Rattle.ts_name.specs.Steps.{Takes};
+ghost use Rattle.ts_ext.specs.declared.known.Holder.TheVariants.{Entry as EntryHolder};
+ghost use Rattle.ts_ext.specs.Extension.{standing_in};
+ghost use Rattle.ts_ext.specs.ExtensionView.{standing_as};
+ghost use Rattle.ts_crl.specs.declared.extension_rule.ExtensionRule.TheVariants.{OldVersion, Repeated};
+ghost use Rattle.ts_crl.specs.EntryView.{listed_in, placed_in};
+ghost use Rattle.ts_crl.specs.Findings.{findings_of, found_in, found_if_any, Notes, NotesNext, NotesAmong};
+ghost use Rattle.ts_crl.specs.FindingsView.{findings_in};
+ghost use Rattle.ts_crl.specs.Reading.{extensions_of, entry_of, entry_in};
+ghost use Rattle.ts_crl.specs.Rules.{rule_fault as rule_fault_of};
+
+use crate::extension_list::ExtensionList;
+use crate::extension_rule::ExtensionRule;
+use crate::findings::Findings;
+use crate::placed::Placed;
+use crate::rules::rule_fault;
+use ts_cert::{next_integer, next_time};
+use ts_der::{DerFault, Element, Fault, Reader};
+use ts_ext::{Extension, Holder};
+use ts_name::{CertFault, FromElement, tagged_as};
+
+const SEQUENCE: u8 = 0x30;
+
+/// The next extension, which the reader has then passed.
+#[tactic(auto, unfolding(ts_name::specs::Items::each))]
+fn next_extension<'a>(rest: &mut Reader<'a>) -> Result<Extension<'a>, Fault>
+    ensures { Takes standing_as rest.new result (each standing_in rest.old) }
+{
+    Extension::read(rest.next()?)
+}
+
+/// Reads the extensions that a SEQUENCE's content is, of which there is one or more, and counts them.
+fn note_extensions<'a>(element: Element<'a>, findings: &mut Findings<'a>) -> Result<usize, Fault>
+    ensures { NotesAmong (findings_in findings.old) (findings_in findings.new) result (some_of standing_in (now element.entry)) }
+{
+    let mut rest = element.reader();
+    let mut count = 0;
+    while !rest.is_at_end() {
+        let extension = next_extension(&mut rest)?;
+        findings.note(extension);
+        count += 1;
+    }
+    if element.content.is_empty() {
+        return Err(Fault {
+            kind: DerFault::Empty,
+            at: element.at,
+        });
+    }
+    Ok(count)
+}
+
+/// A fault that was found before, else the first place at which the extensions of an entry break a rule.
+fn or_fault(found: Option<CertFault>, rule: ExtensionRule, placed: Placed<'_>) -> Option<CertFault>
+    ensures { result ≡ (found or_else rule_fault_of rule EntryHolder (placed_in placed.entry)) }
+{
+    match found {
+        Some(fault) => Some(fault),
+        None => rule_fault(rule, Holder::Entry, placed),
+    }
+}
+
+/// The same for extensions that are counted: one alone repeats none.
+fn or_repeat(found: Option<CertFault>, placed: Placed<'_>, count: usize) -> Option<CertFault>
+    requires { count ≡ length (listed_in placed.list) }
+    ensures { result ≡ (found or_else rule_fault_of Repeated EntryHolder (placed_in placed.entry)) }
+{
+    if count > 1 {
+        or_fault(found, ExtensionRule::Repeated, placed)
+    } else {
+        found
+    }
+}
+
+/// Reads the extensions of an entry, which are those that a SEQUENCE is.
+#[tactic(auto, unfolding(crate::specs::Reading::extensions_of))]
+fn note_placed<'a>(element: Element<'a>, findings: &mut Findings<'a>) -> Result<(), Fault>
+    ensures { Notes found_in (findings_in findings.old) (findings_in findings.new) result (extensions_of (now element.entry)) }
+{
+    let count = note_extensions(element, findings)?;
+    let placed = Placed {
+        at: element.at,
+        list: ExtensionList { element },
+    };
+    findings.old_version = or_fault(findings.old_version, ExtensionRule::OldVersion, placed);
+    findings.repeated = or_repeat(findings.repeated, placed, count);
+    Ok(())
+}
+
+/// Reads the extensions of an entry, where they stand next.
+#[tactic(auto, unfolding(ts_name::specs::Fields::optional_of, ts_der::specs::Reading::optional_at))]
+fn note_extensions_if_any<'a>(
+    fields: &mut Reader<'a>,
+    findings: &mut Findings<'a>,
+) -> Result<(), Fault>
+    ensures { NotesNext found_if_any fields.new (findings_in findings.old) (findings_in findings.new) result (optional_of 0x30 extensions_of fields.old) }
+{
+    match fields.optional(SEQUENCE)? {
+        Some(element) => note_placed(element, findings),
+        None => Ok(()),
+    }
+}
+
+/// Reads the entry that a SEQUENCE is.
+#[tactic(auto, unfolding(crate::specs::Reading::entry_of))]
+fn note_entry<'a>(element: Element<'a>, findings: &mut Findings<'a>) -> Result<(), Fault>
+    ensures { Notes (λ x. findings_of (x ∷ [])) (findings_in findings.old) (findings_in findings.new) result (entry_of (now element.entry)) }
+{
+    let mut fields = element.reader();
+    next_integer(&mut fields)?;
+    next_time(&mut fields)?;
+    note_extensions_if_any(&mut fields, findings)?;
+    fields.end()?;
+    Ok(())
+}
+
+/// Reads the next entry, which the reader has then passed, and adds what is found in it to what was found before.
+#[tactic(auto, unfolding(ts_name::specs::Items::each, ts_name::specs::Items::of_tag))]
+pub(crate) fn note_next<'a>(rest: &mut Reader<'a>, findings: &mut Findings<'a>) -> Result<(), Fault>
+    ensures { NotesNext (λ x. findings_of (x ∷ [])) rest.new (findings_in findings.old) (findings_in findings.new) result (each entry_in rest.old) }
+{
+    note_entry(tagged_as(rest.next()?, SEQUENCE)?, findings)
+}
