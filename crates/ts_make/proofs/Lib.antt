@@ -1,10 +1,13 @@
+pub mod Pieces
 pub mod TooLong
 pub mod OneTime
 pub mod Fields
 pub mod StandIns
 pub mod SerialNumbers
 pub mod NameForms
+pub mod ExtensionForms
 pub mod Said
 pub mod Spelled
 pub mod Refused
+pub mod SignedRead
 pub mod Answered

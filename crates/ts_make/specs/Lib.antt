@@ -2,6 +2,8 @@ pub mod Serial
 pub mod Description
 pub mod Times
 pub mod TimeView
+pub mod Items
+pub mod Extensions
 pub mod Made
 pub mod Writing
 pub mod Making

@@ -45,8 +45,9 @@ pub enum NameText<'a> {
     Mail(&'a str),
 }
 
-/// A part of an extension (RFC 5280 4.2). The parts of one extension gather in it, in their order; which extensions there
-/// are, and in which order they stand, is the order of this list.
+/// A part of an extension (RFC 5280 4.2). The parts of one extension gather in it, in their order; the extensions that have
+/// a part are there, in the order of this list. Of `BasicConstraints`, `InhibitAnyPolicy` and `Critical` each part is an
+/// extension of its own.
 #[derive(Clone, Copy)]
 pub enum ExtensionText<'a> {
     /// keyUsage, critical: the bit of this number is 1 (RFC 5280 4.2.1.3).

@@ -5,11 +5,15 @@
 mod certificate;
 mod description;
 mod elements;
+mod extensions;
 mod fault;
+mod items;
 mod key;
+mod kind;
 pub mod laws;
 mod names;
 mod serial;
+mod single;
 mod tbs;
 #[cfg(test)]
 mod tests;
