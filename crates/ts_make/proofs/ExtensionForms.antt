@@ -11,7 +11,8 @@ use Rattle.ts_make.specs.declared.description.ExtensionText.{ExtensionText}
 use Rattle.ts_make.specs.declared.description.ExtensionText.TheVariants as part
 use Rattle.ts_make.specs.declared.kind.Kind.{Kind}
 use Rattle.ts_make.specs.declared.kind.Kind.TheVariants as kind
-use Rattle.ts_make.specs.Extensions.{critical_octets, extension_content, extension_octets, field_octets, field_of, id_ce, sequence, alone, of_kind, kinds, described_extensions}
+use Rattle.ts_make.specs.Extensions.{critical_octets, extension_content, extension_octets, field_octets, field_of, id_ce, key_usage, sequence, alone, of_kind, kinds, described_extensions}
+use Rattle.ts_make.specs.KeyUsage.{numbers_in}
 use Rattle.ts_make.proofs.StandIns.{content-short, fits-sequence}
 
 -- ---- object identifiers
@@ -32,6 +33,11 @@ sequence-known : (arc : ℕ) (critical : Bool) (content : List ℕ) → is_oid (
 sequence-known arc critical [] is = tt
 sequence-known arc critical (octet ∷ content) is = (is, tt)
 
+usage-known : (numbers : List ℕ) → AreKnown (key_usage numbers)
+unfolding is_oid series_of subidentifier
+usage-known [] = tt
+usage-known (n ∷ numbers) = (refl, tt)
+
 alone-known : (k : Kind) (text : ExtensionText) → AreKnown (alone k text)
 unfolding is_oid series_of subidentifier
 alone-known kind.BasicConstraints (part.BasicConstraints length) = (refl, tt)
@@ -41,6 +47,7 @@ alone-known other text = tt
 
 kind-known : (texts : List ExtensionText) (k : Kind) → AreKnown (of_kind k texts)
 unfolding is_oid series_of subidentifier
+kind-known texts kind.KeyUsage = usage-known (numbers_in texts)
 kind-known texts kind.SubjectAltName = sequence-known 17 _ _ refl
 kind-known texts kind.BasicConstraints = known-pieces (alone kind.BasicConstraints) texts (alone-known kind.BasicConstraints)
 kind-known texts kind.NameConstraints = sequence-known 30 _ _ refl

@@ -3,6 +3,7 @@ pub mod TooLong
 pub mod OneTime
 pub mod Fields
 pub mod StandIns
+pub mod BitFlags
 pub mod SerialNumbers
 pub mod NameForms
 pub mod ExtensionForms

@@ -11,6 +11,7 @@ use Rattle.ts_make.specs.declared.kind.Kind.TheVariants as kind
 use Rattle.ts_make.specs.declared.items.Items.TheVariants as items
 use Rattle.ts_make.specs.Serial.{serial_content}
 use Rattle.ts_make.specs.Items.{items_of}
+use Rattle.ts_make.specs.KeyUsage.{numbers_in, usage_content}
 
 -- ---- the octets of extensions
 
@@ -88,10 +89,16 @@ constraints_content texts = tagged_if_any 0xA0 (items_of items.PermittedSubtrees
 unfoldable pub policy_constraints_content : List ExtensionText → List ℕ
 policy_constraints_content texts = items_of items.ExplicitPolicy texts ++ items_of items.InhibitedMapping texts
 
+-- keyUsage (4.2.1.3), absent where no bit is set
+abbrev pub key_usage : List ℕ → List Extension
+key_usage [] = []
+key_usage (n ∷ numbers) = extension (id_ce 15) true (spell 0x03 (usage_content (n ∷ numbers))) ∷ []
+
 -- ---- all of them
 
 -- the extensions of one kind
 abbrev pub of_kind : Kind → List ExtensionText → List Extension
+of_kind kind.KeyUsage texts = key_usage (numbers_in texts)
 -- subjectAltName (4.2.1.6)
 of_kind kind.SubjectAltName texts = sequence 17 false (items_of items.AlternativeNames texts)
 of_kind kind.BasicConstraints texts = flat_map (alone kind.BasicConstraints) texts
@@ -113,8 +120,8 @@ of_kind kind.Critical texts = flat_map (alone kind.Critical) texts
 -- the kinds, in the order in which they stand
 abbrev pub kinds : List Kind
 kinds =
-    kind.SubjectAltName ∷ kind.BasicConstraints ∷ kind.NameConstraints ∷ kind.CrlDistributionPoints ∷ kind.CertificatePolicies
-    ∷ kind.PolicyMappings ∷ kind.PolicyConstraints ∷ kind.ExtendedKeyUsage ∷ kind.InhibitAnyPolicy ∷ kind.Critical ∷ []
+    kind.KeyUsage ∷ kind.SubjectAltName ∷ kind.BasicConstraints ∷ kind.NameConstraints ∷ kind.CrlDistributionPoints
+    ∷ kind.CertificatePolicies ∷ kind.PolicyMappings ∷ kind.PolicyConstraints ∷ kind.ExtendedKeyUsage ∷ kind.InhibitAnyPolicy ∷ kind.Critical ∷ []
 
 unfoldable pub described_extensions : List ExtensionText → List Extension
 described_extensions texts = flat_map (λ k. of_kind k texts) kinds

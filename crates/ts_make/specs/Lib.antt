@@ -3,6 +3,7 @@ pub mod Description
 pub mod Times
 pub mod TimeView
 pub mod Items
+pub mod KeyUsage
 pub mod Extensions
 pub mod Made
 pub mod Writing

@@ -10,6 +10,7 @@ use crate::description::ExtensionText;
 use crate::elements::{EXTENSIONS, SEQUENCE, append_element, element};
 use crate::fault::MakeFault;
 use crate::items::{Items, append_items};
+use crate::key_usage::append_key_usage;
 use crate::kind::{KINDS, Kind};
 use crate::single::{append_alone, append_extension};
 use std::alloc::Global;
@@ -125,6 +126,7 @@ fn append_kind(
     ensures { Appends result (flat_map extension_octets (of_kind kind parts.now)) octets.old.items octets.new.items }
 {
     match kind {
+        Kind::KeyUsage => append_key_usage(alloc, octets, parts),
         Kind::SubjectAltName => {
             append_list(alloc, octets, 17, false, Items::AlternativeNames, parts)
         }

@@ -3,6 +3,8 @@
 /// A kind of extension (RFC 5280 4.2.1).
 #[derive(Clone, Copy)]
 pub(crate) enum Kind {
+    /// keyUsage.
+    KeyUsage,
     /// subjectAltName.
     SubjectAltName,
     /// basicConstraints.
@@ -26,7 +28,8 @@ pub(crate) enum Kind {
 }
 
 /// The kinds in the order in which they stand.
-pub(crate) const KINDS: [Kind; 10] = [
+pub(crate) const KINDS: [Kind; 11] = [
+    Kind::KeyUsage,
     Kind::SubjectAltName,
     Kind::BasicConstraints,
     Kind::NameConstraints,

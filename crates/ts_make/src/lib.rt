@@ -9,6 +9,7 @@ mod extensions;
 mod fault;
 mod items;
 mod key;
+mod key_usage;
 mod kind;
 pub mod laws;
 mod names;
