@@ -5,6 +5,8 @@
 mod certificate;
 mod description;
 mod elements;
+#[cfg(test)]
+mod extension_tests;
 mod extensions;
 mod fault;
 mod items;

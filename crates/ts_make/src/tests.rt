@@ -89,12 +89,9 @@ fn is_made(alloc: Global, text: &CertText<'_>, octets: &[u8]) -> Result<bool, Ma
 
 #[test]
 fn makes_a_root_a_leaf_and_distant_times(rt: HostRuntime) {
-    for (text, octets) in [(root(), R), (leaf(), L), (distant(), FAR)] {
-        assert!(rt;
-            is_made(rt.alloc(), &text, octets) == Ok(true),
-            "{octets:?}"
-        );
-    }
+    assert!(rt; is_made(rt.alloc(), &root(), R) == Ok(true));
+    assert!(rt; is_made(rt.alloc(), &leaf(), L) == Ok(true));
+    assert!(rt; is_made(rt.alloc(), &distant(), FAR) == Ok(true));
 }
 
 /// The number of octets of R with these moments and a key of this length.
