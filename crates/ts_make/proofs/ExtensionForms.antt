@@ -1,7 +1,7 @@
 -- The extensions of a description are spelled so, whatever their values say.
-use Rattle.std.proofs.Common.{◌≡◌, ℕ, ◌≤◌, Bool, true, false, List, [], ◌∷◌, ◌++◌, length, refl, subst, arith, length-append}
+use Rattle.std.proofs.Common.{◌≡◌, ℕ, ◌≤◌, Bool, true, false, List, [], ◌∷◌, ◌++◌, length, refl, arith, length-append}
 use Rattle.std.specs.List.{flat_map, AllByRecursion}
-use Rattle.ts_der.specs.Element.{Fits, spell}
+use Rattle.ts_der.specs.Element.{spell}
 use Rattle.ts_der.specs.ObjectIdentifier.{is_oid, series_of, subidentifier}
 use Rattle.ts_name.specs.Fields.{Within, IfAny}
 use Rattle.ts_name.specs.Items.{AreItems}

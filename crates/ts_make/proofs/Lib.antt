@@ -6,6 +6,10 @@ pub mod StandIns
 pub mod BitFlags
 pub mod SerialNumbers
 pub mod NameForms
+pub mod ToldLists
+pub mod ToldNumbers
+pub mod ToldNames
+pub mod ToldUsage
 pub mod ExtensionForms
 pub mod Said
 pub mod Spelled

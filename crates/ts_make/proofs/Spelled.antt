@@ -1,5 +1,5 @@
 -- What is made is the spelling of the certificate that the description says.
-use Rattle.std.proofs.Common.{◌≡◌, ℕ, ◌≤◌, List, [], ◌++◌, length, refl, arith, length-append}
+use Rattle.std.proofs.Common.{ℕ, ◌≤◌, List, [], ◌++◌, length, refl, arith, length-append}
 use Rattle.sha2.specs.Sha256.{sha256}
 use Rattle.ts_der.specs.Element.{spell}
 use Rattle.ts_sig.specs.StandIn.{algorithm_identifier}

@@ -5,6 +5,7 @@ pub mod TimeView
 pub mod Items
 pub mod KeyUsage
 pub mod Extensions
+pub mod Told
 pub mod Made
 pub mod Writing
 pub mod Making
