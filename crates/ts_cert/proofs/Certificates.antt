@@ -331,7 +331,7 @@ signed-found e s fits read =
       found.has,
     )
 
-signed-again : (e : Tlv) (c : Certificate) → IsSigned e.content c
+pub signed-again : (e : Tlv) (c : Certificate) → IsSigned e.content c
     → (l : LateFields) × (signed_of e ≡ Ok (record { certificate = c; identifier_at = e.start + length c.tbs; late = l })) × Has c.tbsCertificate l
 unfolding signed_of
 signed-again e c is =

@@ -1,6 +1,6 @@
 -- What the answer of making a certificate says.
-use Rattle.std.proofs.Common.{◌≡◌, ℕ, ◌≤◌, ◌⊎◌, inl, inr, true, List, ◌++◌, length, Result, Ok, Err, refl, ap, ◌∙◌}
-use Rattle.std.specs.Prelude.{IfOk, IfErr, OnOk, is_ok}
+use Rattle.std.proofs.Common.{◌≡◌, ℕ, ◌≤◌, ◌⊎◌, inl, inr, true, List, [], ◌∷◌, ◌++◌, length, Option, Some, None, Result, Ok, Err, refl, sym, ap, subst, ◌∙◌}
+use Rattle.std.specs.Prelude.{IfOk, IfErr, OnOk, is_ok, unwrap_or}
 use Rattle.std.specs.declared.vec.Vec.{Vec}
 use Rattle.std.specs.declared.alloc.Global.{Global}
 use Rattle.std.proofs.lemmas.Slice.Eq.{bytes_eq-Decides}
@@ -12,8 +12,17 @@ use Rattle.ts_time.specs.Civil.{IsInYears}
 use Rattle.ts_cert.specs.declared.time.Time.{Time}
 use Rattle.ts_name.specs.Fault.{breaks}
 use Rattle.ts_cert.specs.Certificate.{Certificate}
-use Rattle.ts_cert.specs.Reading.{certificate_of}
-use Rattle.ts_cert.proofs.Certificates.{certificate-again}
+use Rattle.ts_cert.specs.Reading.{unless_broken, certificate_of}
+use Rattle.ts_cert.specs.declared.version.Version.TheVariants.{V3}
+use Rattle.ts_cert.specs.Certificate.{all_extensions}
+use Rattle.ts_cert.specs.Rules.{LateFields, extensions_fault}
+use Rattle.ts_cert.proofs.FieldRules.{Has, KeepsRules, rules-again}
+use Rattle.ts_name.specs.Repeats.{first_repeated}
+use Rattle.ts_ext.specs.declared.known.Holder.TheVariants.{Certificate as CertificateHolder}
+use Rattle.ts_ext.specs.Extension.{Extension}
+use Rattle.ts_ext.specs.ValueRules.{AreSound}
+use Rattle.ts_make.specs.Extensions.{described_extensions, field_of}
+use Rattle.ts_make.proofs.SignedRead.{signed-read}
 use Rattle.ts_make.specs.declared.description.CertText.{CertText}
 use Rattle.ts_make.specs.declared.fault.MakeFault.{MakeFault}
 use Rattle.ts_make.specs.declared.fault.MakeFault.TheVariants.{Memory, TooLong, Unreadable}
@@ -21,11 +30,11 @@ use Rattle.ts_make.specs.Description.{IsDescribed, IsSignedBy, Says}
 use Rattle.ts_make.specs.Sayable.{IsSayable, IfWritten}
 use Rattle.ts_make.specs.Times.{IsTimeOf}
 use Rattle.ts_make.specs.Made.{tbs_octets, made}
-use Rattle.ts_make.specs.Making.{AnswersMade, IsRefusal}
+use Rattle.ts_make.specs.Making.{AnswersMade, AreAllowed, IsRefusal}
 use Rattle.ts_make.proofs.OneTime.{in_years_or_not}
 use Rattle.ts_make.proofs.SerialNumbers.{serial-is}
-use Rattle.ts_make.proofs.Said.{said, time-said}
-use Rattle.ts_make.proofs.Spelled.{fields-short, parts-short, certificate-is}
+use Rattle.ts_make.proofs.Said.{tbs_said, said, time-said}
+use Rattle.ts_make.proofs.Spelled.{fields-short, parts-short, signed-is}
 use Rattle.ts_make.proofs.Refused.{IsOutside, certificate-refused}
 
 -- both moments lie in the years 0 to 9999, or one does not
@@ -39,13 +48,15 @@ in_years text =
       ]
     ]
 
--- what is made is read as the certificate that the description says
+-- what is made is read as the certificate that the description says, unless a rule of its extensions is broken
 pub record IsRead (b a : List ℕ) (text : CertText) : Type 0 where
   pub before : Time
   pub after : Time
   pub not_before : Says before text.from
   pub not_after : Says after text.to
-  pub read : certificate_of (made b a text) ≡ Ok (said b a before after text)
+  pub late : LateFields
+  pub has : Has (tbs_said before after text) late
+  pub read : certificate_of (made b a text) ≡ unless_broken (extensions_fault V3 late) (said b a before after text)
 
 pub is-read : (b a : List ℕ) (text : CertText) → IsSayable text → IsTimeOf b text.from → IsTimeOf a text.to → length (made b a text) ≤ 65536
     → IsInYears 0 9999 text.from → IsInYears 0 9999 text.to → IsRead b a text
@@ -54,13 +65,38 @@ is-read b a text sayable from to le from_in to_in =
     let fields = fields-short b a text parts.tbs in
     let before = time-said b text.from from from_in fields.before in
     let after = time-said a text.to to to_in fields.after in
+    let whole = signed-read (made b a text) (said b a before.time after.time text) le (signed-is b a before.time after.time text sayable before.is after.is le) refl in
     record {
       before = before.time;
       after = after.time;
       not_before = before.says;
       not_after = after.says;
-      read = certificate-again (made b a text) (said b a before.time after.time text) (certificate-is b a before.time after.time text sayable before.is after.is le);
+      late = whole.0;
+      has = whole.1;
+      read = whole.2;
     }
+
+-- what is read is the certificate where reading does not fail
+kept : {A : Type 0} (o : Option CertFault) (x : A) → is_ok (unless_broken o x) ≡ true → unless_broken o x ≡ Ok x
+kept None x ok = refl
+kept (Some f) x ok = absurd cc
+
+pub is-ok : (b a : List ℕ) (text : CertText) (is : IsRead b a text) → is_ok (certificate_of (made b a text)) ≡ true → certificate_of (made b a text) ≡ Ok (said b a is.before is.after text)
+is-ok b a text is ok = is.read ∙ kept (extensions_fault V3 is.late) (said b a is.before is.after text) (sym (ap is_ok is.read) ∙ ok)
+
+-- the list of a field
+list-of : (xs : List Extension) → unwrap_or (field_of xs) [] ≡ xs
+list-of [] = refl
+list-of (x ∷ xs) = refl
+
+-- allowed extensions break no rule
+no-fault : (b a : List ℕ) (text : CertText) (is : IsRead b a text) → AreAllowed (described_extensions text.extensions.now) → extensions_fault V3 is.late ≡ None
+no-fault b a text is allowed =
+    let xs = described_extensions text.extensions.now in
+    let same : all_extensions (tbs_said is.before is.after text) ≡ xs = list-of xs in
+    let rules : KeepsRules (tbs_said is.before is.after text) =
+    (tt, ap (λ (l : List Extension). first_repeated (λ x. x.extnID) [] l) same ∙ allowed.distinct, subst (AreSound CertificateHolder) (sym same) allowed.sound) in
+    rules-again (tbs_said is.before is.after text) is.late is.has rules
 
 ok_not_err : {A : Type 0} (r : Result A CertFault) (f : CertFault) → r ≡ Err f → is_ok r ≡ true → ⊥
 ok_not_err (Ok x) f e ok = cc
@@ -106,7 +142,7 @@ pub answers-described : (r : Result (Vec ℕ Global) MakeFault) (b a : List ℕ)
 answers-described (Ok v) b a text sayable from to h =
     let years = years-of b a text sayable from to h.1 h.2 in
     let is = is-read b a text sayable from to h.1 years.0 years.1 in
-    (said b a is.before is.after text, ap certificate_of h.0 ∙ is.read, is-described b a text sayable is.before is.after is.not_before is.not_after)
+    (said b a is.before is.after text, ap certificate_of h.0 ∙ is-ok b a text is h.2, is-described b a text sayable is.before is.after is.not_before is.not_after)
 answers-described (Err e) b a text sayable from to h = tt
 
 pub answers-signed : (r : Result (Vec ℕ Global) MakeFault) (b a : List ℕ) (text : CertText) → IfWritten r (IsSayable text) → IsTimeOf b text.from → IsTimeOf a text.to
@@ -114,7 +150,7 @@ pub answers-signed : (r : Result (Vec ℕ Global) MakeFault) (b a : List ℕ) (t
 answers-signed (Ok v) b a text sayable from to h =
     let years = years-of b a text sayable from to h.1 h.2 in
     let is = is-read b a text sayable from to h.1 years.0 years.1 in
-    (said b a is.before is.after text, ap certificate_of h.0 ∙ is.read, is-signed b a text is.before is.after)
+    (said b a is.before is.after text, ap certificate_of h.0 ∙ is-ok b a text is h.2, is-signed b a text is.before is.after)
 answers-signed (Err e) b a text sayable from to h = tt
 
 pub answers-years : (r : Result (Vec ℕ Global) MakeFault) (b a : List ℕ) (text : CertText) → IfWritten r (IsSayable text) → IsTimeOf b text.from → IsTimeOf a text.to
@@ -131,11 +167,11 @@ refusal b a text fault sayable from to le e =
     elim (in_years text) [
       | inl years ↦
           let is = is-read b a text sayable from to le years.0 years.1 in
-          absurd (ok_not_err (certificate_of (made b a text)) fault e (ap is_ok is.read))
+          inr (λ allowed. ok_not_err (certificate_of (made b a text)) fault e (ap is_ok (is.read ∙ ap (λ (o : Option CertFault). unless_broken o (said b a is.before is.after text)) (no-fault b a text is allowed))))
       | inr outside ↦
           let refused = certificate-refused b a text sayable from to le outside in
           let same = one-fault (certificate_of (made b a text)) fault (breaks refused.0 (Der TimeForm)) e refused.1 in
-          (ap (λ (f : CertFault). f.kind) same, either outside)
+          inl (ap (λ (f : CertFault). f.kind) same, either outside)
     ]
   where
     either : IsOutside text → (IsInYears 0 9999 text.from → ⊥) ⊎ (IsInYears 0 9999 text.to → ⊥)

@@ -31,6 +31,7 @@ use Rattle.ts_make.specs.declared.description.CertText.{CertText}
 use Rattle.ts_make.specs.Serial.{serial_content}
 use Rattle.ts_make.specs.Description.{rdns_in, stand_in}
 use Rattle.ts_make.specs.Sayable.{IsSayable}
+use Rattle.ts_make.specs.Extensions.{described_extensions, field_octets}
 use Rattle.ts_make.specs.Times.{IsTimeOf}
 use Rattle.ts_make.specs.Made.{bit_octets, name_octets, key_octets, tbs_content, tbs_octets, made}
 use Rattle.ts_make.proofs.StandIns.{fits-sequence, algorithm-is}
@@ -103,7 +104,7 @@ tbs-refused : (b a : List ℕ) (text : CertText) (e : Tlv) → IsSayable text �
 unfolding tbs_of tbs_content validity_at within
 tbs-refused b a text e sayable from to le outside whole =
     let short = fields-short b a text le in
-    let r6 : List ℕ = key_octets text.key.now in
+    let r6 : List ℕ = key_octets text.key.now ++ field_octets (described_extensions text.extensions.now) in
     let r5 : List ℕ = name_octets text.subject.now ++ r6 in
     let r4 : List ℕ = spell 0x30 (b ++ a) ++ r5 in
     let r3 : List ℕ = name_octets text.issuer.now ++ r4 in

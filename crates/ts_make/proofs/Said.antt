@@ -10,6 +10,7 @@ use Rattle.ts_cert.specs.Spelling.{IsTime}
 use Rattle.ts_make.specs.declared.description.CertText.{CertText}
 use Rattle.ts_make.specs.Serial.{serial_content}
 use Rattle.ts_make.specs.Description.{rdns_in, stand_in, Says}
+use Rattle.ts_make.specs.Extensions.{described_extensions, field_of}
 use Rattle.ts_make.specs.Times.{IsTimeOf}
 use Rattle.ts_make.specs.Made.{tbs_octets}
 use Rattle.ts_make.proofs.StandIns.{content-short}
@@ -27,7 +28,7 @@ tbs_said before after text =
       subjectPublicKeyInfo = record { algorithm = stand_in; subjectPublicKey = text.key.now };
       issuerUniqueID = None;
       subjectUniqueID = None;
-      extensions = None;
+      extensions = field_of (described_extensions text.extensions.now);
     }
 
 abbrev pub said : List ℕ → List ℕ → Time → Time → CertText → Certificate

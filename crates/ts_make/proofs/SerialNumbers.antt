@@ -1,25 +1,28 @@
 -- A serial number is written in as few octets as can be, and is that number.
-use Rattle.std.proofs.Common.{◌≡◌, ℕ, ◌/◌, ◌%◌, ◌^◌, ◌<◌, ◌≤◌, true, inl, inr, List, [], ◌∷◌, length, refl, ap, arith, pos}
+use Rattle.std.proofs.Common.{◌≡◌, ℕ, ◌/◌, ◌%◌, ◌^◌, ◌<◌, ◌≤◌, true, false, inl, inr, List, [], ◌∷◌, length, refl, ap, arith, pos}
 use Rattle.std.proofs.lemmas.Bool.{cases_lt, cases_eq, lt-ltb, le-ltb, ne_eqb}
 use Rattle.ts_der.specs.Element.{number, spell}
-use Rattle.ts_der.specs.Integer.{is_shortest, twos_complement}
+use Rattle.ts_der.specs.Integer.{is_shortest, is_negative, twos_complement}
 use Rattle.ts_der.specs.Integer as integers
 use Rattle.ts_name.specs.Fields.{Within, IsInteger}
+use Rattle.ts_ext.specs.Spelling.{IsSmall}
 use Rattle.ts_make.specs.Serial.{serial_content}
 use Rattle.ts_make.proofs.StandIns.{content-short}
 
 -- a number in as few octets as can be
 pub record IsSerial (content : List ℕ) (n : ℕ) : Type 0 where
   pub shortest : is_shortest content ≡ true
+  pub natural : is_negative content ≡ false
+  pub number_is : number content ≡ n
   pub value : twos_complement content ≡ pos n
 
 one : (n : ℕ) → n < 2 ^ 7 → IsSerial (n ∷ []) n
 unfolding twos_complement number
-one n lt = record { shortest = refl; value = rw (le-ltb 127 n (omega arith)) (ap pos (omega arith)) }
+one n lt = record { shortest = refl; natural = le-ltb 127 n (omega arith); number_is = omega arith; value = rw (le-ltb 127 n (omega arith)) (ap pos (omega arith)) }
 
 more : (a b : ℕ) (octets : List ℕ) (n : ℕ) → a < 128 → (a ≡ 0 → 128 ≤ b) → number (a ∷ b ∷ octets) ≡ n → IsSerial (a ∷ b ∷ octets) n
 unfolding twos_complement
-more a b octets n low first e = record { shortest = form; value = rw (le-ltb 127 a (omega arith)) (ap pos e) }
+more a b octets n low first e = record { shortest = form; natural = le-ltb 127 a (omega arith); number_is = e; value = rw (le-ltb 127 a (omega arith)) (ap pos e) }
   where
     form : is_shortest (a ∷ b ∷ octets) ≡ true
     form = elim (cases_eq a 0) [
@@ -59,3 +62,7 @@ serial-spelled n high le =
 -- the same in the words of X.690
 pub serial-integer : (n : ℕ) → n < 2 ^ 32 → integers.IsInteger (serial_content n) (pos n)
 serial-integer n high = let is = serial-is n high in record { shortest = is.shortest; value = is.value }
+
+-- the same as a number that is not negative
+pub serial-small : (n : ℕ) → n < 2 ^ 32 → IsSmall (serial_content n) n
+serial-small n high = let is = serial-is n high in record { shortest = is.shortest; natural = is.natural; value = is.number_is; limit = high }

@@ -1,21 +1,21 @@
 -- What is made is the spelling of the certificate that the description says.
-use Rattle.std.proofs.Common.{◌≡◌, ℕ, ◌≤◌, List, [], ◌++◌, length, refl, sym, ap, arith, length-append}
-use Rattle.std.proofs.lemmas.List.{append-nil}
+use Rattle.std.proofs.Common.{ℕ, ◌≤◌, List, [], ◌++◌, length, refl, arith, length-append}
 use Rattle.sha2.specs.Sha256.{sha256}
 use Rattle.ts_der.specs.Element.{spell}
 use Rattle.ts_sig.specs.StandIn.{algorithm_identifier}
 use Rattle.ts_cert.specs.declared.version.Version.TheVariants.{V3}
 use Rattle.ts_cert.specs.declared.time.Time.{Time}
 use Rattle.ts_name.specs.Fields.{Within}
-use Rattle.ts_name.specs.Repeats.{first_repeated}
-use Rattle.ts_cert.specs.Spelling.{IsTime, IsTbs, IsCertificate, version_octets}
+use Rattle.ts_cert.specs.Spelling.{IsTime, IsTbs, IsSigned, version_octets}
 use Rattle.ts_make.specs.declared.description.CertText.{CertText}
 use Rattle.ts_make.specs.Serial.{serial_content}
 use Rattle.ts_make.specs.Sayable.{IsSayable}
 use Rattle.ts_make.specs.Made.{bit_octets, name_octets, key_octets, tbs_content, tbs_octets, made}
 use Rattle.ts_make.proofs.StandIns.{content-short, fits-sequence, algorithm-is, bits-are, key-is}
 use Rattle.ts_make.proofs.SerialNumbers.{serial-spelled}
+use Rattle.ts_make.specs.Extensions.{described_extensions, field_octets}
 use Rattle.ts_make.proofs.NameForms.{name-is}
+use Rattle.ts_make.proofs.ExtensionForms.{described-known, field-is}
 use Rattle.ts_make.proofs.Said.{tbs_said, said}
 
 -- no field of what is signed is longer than all
@@ -29,23 +29,26 @@ pub record FieldsShort (b a : List ℕ) (text : CertText) : Type 0 where
   pub after : length a ≤ 65536
   pub subject : length (name_octets text.subject.now) ≤ 65536
   pub key : length (key_octets text.key.now) ≤ 65536
+  pub extensions : length (field_octets (described_extensions text.extensions.now)) ≤ 65536
 
-parts : (v s g i p u k : List ℕ) → length (v ++ (s ++ (g ++ (i ++ (p ++ (u ++ k)))))) ≤ 65536 → (length s ≤ 65536) × (length i ≤ 65536) × (length p ≤ 65536) × (length u ≤ 65536) × (length k ≤ 65536)
-parts v s g i p u k le =
-    let e1 = length-append v (s ++ (g ++ (i ++ (p ++ (u ++ k))))) in
-    let e2 = length-append s (g ++ (i ++ (p ++ (u ++ k)))) in
-    let e3 = length-append g (i ++ (p ++ (u ++ k))) in
-    let e4 = length-append i (p ++ (u ++ k)) in
-    let e5 = length-append p (u ++ k) in
-    let e6 = length-append u k in
-    (omega arith, omega arith, omega arith, omega arith, omega arith)
+parts : (v s g i p u k x : List ℕ) → length (v ++ (s ++ (g ++ (i ++ (p ++ (u ++ (k ++ x))))))) ≤ 65536
+    → (length s ≤ 65536) × (length i ≤ 65536) × (length p ≤ 65536) × (length u ≤ 65536) × (length k ≤ 65536) × (length x ≤ 65536)
+parts v s g i p u k x le =
+    let e1 = length-append v (s ++ (g ++ (i ++ (p ++ (u ++ (k ++ x)))))) in
+    let e2 = length-append s (g ++ (i ++ (p ++ (u ++ (k ++ x))))) in
+    let e3 = length-append g (i ++ (p ++ (u ++ (k ++ x)))) in
+    let e4 = length-append i (p ++ (u ++ (k ++ x))) in
+    let e5 = length-append p (u ++ (k ++ x)) in
+    let e6 = length-append u (k ++ x) in
+    let e7 = length-append k x in
+    (omega arith, omega arith, omega arith, omega arith, omega arith, omega arith)
 
 pub fields-short : (b a : List ℕ) (text : CertText) → length (tbs_octets b a text) ≤ 65536 → FieldsShort b a text
 unfolding tbs_octets tbs_content
 fields-short b a text le =
     let within = content-short 0x30 (tbs_content b a text) in
     let all : length (tbs_content b a text) ≤ 65536 = omega arith in
-    let p = parts (version_octets V3) (spell 0x02 (serial_content text.serial)) algorithm_identifier (name_octets text.issuer.now) (spell 0x30 (b ++ a)) (name_octets text.subject.now) (key_octets text.key.now) all in
+    let p = parts (version_octets V3) (spell 0x02 (serial_content text.serial)) algorithm_identifier (name_octets text.issuer.now) (spell 0x30 (b ++ a)) (name_octets text.subject.now) (key_octets text.key.now) (field_octets (described_extensions text.extensions.now)) all in
     let times = content-short 0x30 (b ++ a) in
     let both = length-append b a in
     record {
@@ -58,11 +61,8 @@ fields-short b a text le =
       after = omega (arith, p.2);
       subject = p.3;
       key = p.4;
+      extensions = p.5;
     }
-
--- the optional fields behind the key are absent
-absent : (v s g i p u k : List ℕ) → v ++ (s ++ (g ++ (i ++ (p ++ (u ++ k))))) ≡ v ++ (s ++ (g ++ (i ++ (p ++ (u ++ (k ++ ([] ++ ([] ++ []))))))))
-absent v s g i p u k = ap (λ (o : List ℕ). v ++ (s ++ (g ++ (i ++ (p ++ (u ++ o)))))) (sym (append-nil k))
 
 tbs-is : (b a : List ℕ) (before after : Time) (text : CertText) → IsSayable text → IsTime b before → IsTime a after → length (tbs_octets b a text) ≤ 65536
     → Within 0x30 IsTbs (tbs_octets b a text) (tbs_said before after text)
@@ -82,7 +82,7 @@ tbs-is b a before after text sayable from to le =
         key = key_octets text.key.now;
         issuer_id = [];
         subject_id = [];
-        last = [];
+        last = field_octets (described_extensions text.extensions.now);
         serialNumber = serial-spelled text.serial sayable.serial short.serial;
         signature = algorithm-is;
         issuer = name-is text.issuer.now sayable.issuer short.issuer;
@@ -96,8 +96,8 @@ tbs-is b a before after text sayable from to le =
         subjectPublicKeyInfo = key-is text.key.now short.key;
         issuerUniqueID = refl;
         subjectUniqueID = refl;
-        extensions = refl;
-        fields = absent (version_octets V3) (spell 0x02 (serial_content text.serial)) algorithm_identifier (name_octets text.issuer.now) (spell 0x30 (b ++ a)) (name_octets text.subject.now) (key_octets text.key.now);
+        extensions = field-is (described_extensions text.extensions.now) (described-known text.extensions.now) short.extensions;
+        fields = refl;
       };
     }
 
@@ -118,31 +118,24 @@ parts-short b a text le =
     let e2 = length-append algorithm_identifier bits in
     record { content = omega arith; tbs = omega arith; signature = omega arith }
 
-pub certificate-is : (b a : List ℕ) (before after : Time) (text : CertText) → IsSayable text → IsTime b before → IsTime a after → length (made b a text) ≤ 65536
-    → IsCertificate (made b a text) (said b a before after text)
-unfolding made first_repeated
-certificate-is b a before after text sayable from to le =
+pub signed-is : (b a : List ℕ) (before after : Time) (text : CertText) → IsSayable text → IsTime b before → IsTime a after → length (made b a text) ≤ 65536
+    → Within 0x30 IsSigned (made b a text) (said b a before after text)
+unfolding made
+signed-is b a before after text sayable from to le =
     let short = parts-short b a text le in
     let tbs = tbs_octets b a text in
     let bits = bit_octets (sha256 (text.signer.now ++ tbs)) in
     let content = tbs ++ (algorithm_identifier ++ bits) in
     record {
-      size = le;
-      whole = record {
-        content = content;
-        fits = fits-sequence content short.content;
-        spelled = refl;
-        value = record {
-          identifier = algorithm_identifier;
-          bits = bits;
-          tbsCertificate = tbs-is b a before after text sayable from to short.tbs;
-          signatureAlgorithm = algorithm-is;
-          signatureValue = bits-are (sha256 (text.signer.now ++ tbs)) short.signature;
-          fields = refl;
-        };
+      content = content;
+      fits = fits-sequence content short.content;
+      spelled = refl;
+      value = record {
+        identifier = algorithm_identifier;
+        bits = bits;
+        tbsCertificate = tbs-is b a before after text sayable from to short.tbs;
+        signatureAlgorithm = algorithm-is;
+        signatureValue = bits-are (sha256 (text.signer.now ++ tbs)) short.signature;
+        fields = refl;
       };
-      agree = refl;
-      version = tt;
-      distinct = refl;
-      sound = tt;
     }

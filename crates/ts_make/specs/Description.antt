@@ -13,6 +13,7 @@ use Rattle.ts_make.specs.declared.description.AttributeType.{AttributeType}
 use Rattle.ts_make.specs.declared.description.AttributeType.TheVariants.{CommonName, OrganizationName}
 use Rattle.ts_make.specs.declared.description.RdnText.{RdnText}
 use Rattle.ts_make.specs.declared.description.CertText.{CertText}
+use Rattle.ts_make.specs.Extensions.{described_extensions, field_of}
 
 -- the content of a type's OBJECT IDENTIFIER: 2 * 40 + 5, 4, and the attribute's arc (RFC 5280 Appendix A.1)
 abbrev pub kind_octets : AttributeType → List ℕ
@@ -42,7 +43,7 @@ pub record Says (t : Time) (moment : ℤ) : Type 0 where
   pub utc : IsInYears 1950 2049 moment → t.form ≡ Utc
   pub general : ¬ (IsInYears 1950 2049 moment) → t.form ≡ General
 
--- the certificate says what the description does, and has no unique identifiers (4.1.2.8) and no extensions (4.1.2.9)
+-- the certificate says what the description does, and has no unique identifiers (4.1.2.8)
 pub record IsDescribed (text : CertText) (c : Certificate) : Type 0 where
   pub version : c.tbsCertificate.version ≡ V3
   pub serialNumber : twos_complement c.tbsCertificate.serialNumber ≡ pos text.serial
@@ -55,7 +56,7 @@ pub record IsDescribed (text : CertText) (c : Certificate) : Type 0 where
   pub subjectPublicKey : c.tbsCertificate.subjectPublicKeyInfo.subjectPublicKey ≡ text.key.now
   pub issuerUniqueID : c.tbsCertificate.issuerUniqueID ≡ None
   pub subjectUniqueID : c.tbsCertificate.subjectUniqueID ≡ None
-  pub extensions : c.tbsCertificate.extensions ≡ None
+  pub extensions : c.tbsCertificate.extensions ≡ field_of (described_extensions text.extensions.now)
   pub signatureAlgorithm : c.signatureAlgorithm ≡ stand_in
 
 -- the stand-in takes the certificate's signature for that of what is signed, under the key of these octets

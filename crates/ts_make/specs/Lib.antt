@@ -2,6 +2,10 @@ pub mod Serial
 pub mod Description
 pub mod Times
 pub mod TimeView
+pub mod Items
+pub mod KeyUsage
+pub mod Extensions
+pub mod Told
 pub mod Made
 pub mod Writing
 pub mod Making

@@ -11,6 +11,7 @@ use Rattle.ts_make.specs.declared.description.RdnText.{RdnText}
 use Rattle.ts_make.specs.declared.description.CertText.{CertText}
 use Rattle.ts_make.specs.Serial.{serial_content}
 use Rattle.ts_make.specs.Description.{rdns_in}
+use Rattle.ts_make.specs.Extensions.{described_extensions, field_octets}
 
 -- BIT STRING of whole octets: no bit is unused (X.690 8.6)
 abbrev pub bit_octets : List ℕ → List ℕ
@@ -25,7 +26,7 @@ unfoldable pub key_octets : List ℕ → List ℕ
 key_octets key = spell 0x30 (algorithm_identifier ++ bit_octets key)
 
 -- TBSCertificate ::= SEQUENCE { version, serialNumber, signature, issuer, validity, subject, subjectPublicKeyInfo, issuerUniqueID,
--- subjectUniqueID, extensions } (4.1.2): the last three, which are OPTIONAL, are absent
+-- subjectUniqueID, extensions } (4.1.2): the unique identifiers, which are OPTIONAL, are absent
 unfoldable pub tbs_content : List ℕ → List ℕ → CertText → List ℕ
 tbs_content before after text =
     version_octets V3
@@ -34,7 +35,8 @@ tbs_content before after text =
     ++ (name_octets text.issuer.now
     ++ (spell 0x30 (before ++ after)
     ++ (name_octets text.subject.now
-    ++ key_octets text.key.now)))))
+    ++ (key_octets text.key.now
+    ++ field_octets (described_extensions text.extensions.now)))))))
 
 unfoldable pub tbs_octets : List ℕ → List ℕ → CertText → List ℕ
 tbs_octets before after text = spell 0x30 (tbs_content before after text)

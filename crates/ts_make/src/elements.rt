@@ -9,15 +9,22 @@ use std::alloc::Global;
 use ts_cert::MAX_CERTIFICATE;
 use ts_der::Writer;
 
+pub(crate) const BOOLEAN: u8 = 0x01;
+
 pub(crate) const INTEGER: u8 = 0x02;
 
-const BIT_STRING: u8 = 0x03;
+pub(crate) const BIT_STRING: u8 = 0x03;
+
+pub(crate) const OCTET_STRING: u8 = 0x04;
 
 pub(crate) const OBJECT_IDENTIFIER: u8 = 0x06;
 
 pub(crate) const SEQUENCE: u8 = 0x30;
 
 pub(crate) const SET: u8 = 0x31;
+
+/// [3] EXPLICIT, the extensions of a certificate.
+pub(crate) const EXTENSIONS: u8 = 0xa3;
 
 /// Appends octets.
 pub(crate) fn append(octets: &mut Vec<u8>, part: &[u8]) -> Result<(), MakeFault>

@@ -5,16 +5,23 @@
 mod certificate;
 mod description;
 mod elements;
+#[cfg(test)]
+mod extension_tests;
+mod extensions;
 mod fault;
+mod items;
 mod key;
+mod key_usage;
+mod kind;
 pub mod laws;
 mod names;
 mod serial;
+mod single;
 mod tbs;
 #[cfg(test)]
 mod tests;
 mod times;
 
 pub use certificate::make_cert;
-pub use description::{AttributeType, CertText, Extension, RdnText};
+pub use description::{AttributeType, CertText, ExtensionText, NameText, RdnText};
 pub use fault::MakeFault;

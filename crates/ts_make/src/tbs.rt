@@ -7,11 +7,12 @@ ghost use Rattle.ts_make.specs.Sayable.{IsSayable};
 ghost use Rattle.ts_make.specs.Writing.{Writes};
 
 use crate::description::CertText;
-use crate::elements::{SEQUENCE, append, element};
+use crate::elements::{INTEGER, SEQUENCE, append, element};
+use crate::extensions::append_extensions;
 use crate::fault::MakeFault;
 use crate::key::append_key;
 use crate::names::append_name;
-use crate::serial::append_serial;
+use crate::serial::append_number;
 use crate::times::{TimeText, append_validity};
 use std::alloc::Global;
 use ts_sig::STAND_IN_ALGORITHM;
@@ -32,12 +33,13 @@ fn write_fields(
 {
     let mut fields = Vec::new(alloc);
     append(&mut fields, VERSION_3.as_slice())?;
-    append_serial(alloc, &mut fields, text.serial)?;
+    append_number(alloc, &mut fields, INTEGER, text.serial)?;
     append(&mut fields, STAND_IN_ALGORITHM.as_slice())?;
     append_name(alloc, &mut fields, text.issuer)?;
     append_validity(alloc, &mut fields, before, after)?;
     append_name(alloc, &mut fields, text.subject)?;
     append_key(alloc, &mut fields, text.key)?;
+    append_extensions(alloc, &mut fields, text.extensions)?;
     Ok(fields)
 }
 

@@ -41,40 +41,46 @@ const FROM: i64 = 1_767_225_600;
 const TO: i64 = 1_798_761_600;
 
 /// The description of R.
-const ROOT: CertText<'static> = CertText {
-    serial: 1,
-    issuer: &[CN_R],
-    subject: &[CN_R],
-    from: Moment(FROM),
-    to: Moment(TO),
-    key: b"a",
-    signer: b"a",
-    extensions: &[],
-};
+fn root() -> CertText<'static> {
+    CertText {
+        serial: 1,
+        issuer: &[CN_R],
+        subject: &[CN_R],
+        from: Moment(FROM),
+        to: Moment(TO),
+        key: b"a",
+        signer: b"a",
+        extensions: &[],
+    }
+}
 
 /// The description of L.
-const LEAF: CertText<'static> = CertText {
-    serial: 2,
-    issuer: &[CN_R],
-    subject: &[CN_L],
-    from: Moment(FROM),
-    to: Moment(TO),
-    key: b"b",
-    signer: b"a",
-    extensions: &[],
-};
+fn leaf() -> CertText<'static> {
+    CertText {
+        serial: 2,
+        issuer: &[CN_R],
+        subject: &[CN_L],
+        from: Moment(FROM),
+        to: Moment(TO),
+        key: b"b",
+        signer: b"a",
+        extensions: &[],
+    }
+}
 
 /// The description of FAR.
-const DISTANT: CertText<'static> = CertText {
-    serial: 128,
-    issuer: &[],
-    subject: &[O, CN_L],
-    from: Moment(2_524_608_000),
-    to: Moment(253_402_300_799),
-    key: b"",
-    signer: b"",
-    extensions: &[],
-};
+fn distant() -> CertText<'static> {
+    CertText {
+        serial: 128,
+        issuer: &[],
+        subject: &[O, CN_L],
+        from: Moment(2_524_608_000),
+        to: Moment(253_402_300_799),
+        key: b"",
+        signer: b"",
+        extensions: &[],
+    }
+}
 
 /// Whether these octets are made of a description.
 fn is_made(alloc: Global, text: &CertText<'_>, octets: &[u8]) -> Result<bool, MakeFault> {
@@ -83,9 +89,9 @@ fn is_made(alloc: Global, text: &CertText<'_>, octets: &[u8]) -> Result<bool, Ma
 
 #[test]
 fn makes_a_root_a_leaf_and_distant_times(rt: HostRuntime) {
-    for (text, octets) in [(&ROOT, R), (&LEAF, L), (&DISTANT, FAR)] {
-        assert!(rt; is_made(rt.alloc(), text, octets) == Ok(true), "{octets:?}");
-    }
+    assert!(rt; is_made(rt.alloc(), &root(), R) == Ok(true));
+    assert!(rt; is_made(rt.alloc(), &leaf(), L) == Ok(true));
+    assert!(rt; is_made(rt.alloc(), &distant(), FAR) == Ok(true));
 }
 
 /// The number of octets of R with these moments and a key of this length.
@@ -95,7 +101,7 @@ fn made_length(alloc: Global, from: i64, to: i64, length: usize) -> Result<usize
         from: Moment(from),
         to: Moment(to),
         key: &key,
-        ..ROOT
+        ..root()
     };
     Ok(make_cert(alloc, &text)?.len())
 }

@@ -1,0 +1,117 @@
+-- The lists within values say what the parts do.
+use Rattle.std.proofs.Common.{◌≡◌, ◌≢◌, ℕ, ◌≤◌, true, List, [], ◌∷◌, ◌++◌, length, Some, refl, sym, ap, ◌∙◌, arith, length-append, append_assoc}
+use Rattle.std.proofs.lemmas.List.{append-nil}
+use Rattle.std.specs.List.{flat_map, AllByRecursion}
+use Rattle.ts_der.specs.Element.{spell}
+use Rattle.ts_der.specs.ObjectIdentifier.{is_oid}
+use Rattle.ts_name.specs.Fields.{Within, IsOid}
+use Rattle.ts_name.specs.Items.{AreItems}
+use Rattle.ts_ext.specs.declared.known.Known.TheVariants as extension
+use Rattle.ts_ext.specs.Ext.{IsExt, certificatePolicies, policyMappings, extKeyUsage}
+use Rattle.ts_ext.specs.Spelling.{IsPolicyInformation, IsPolicyMapping}
+use Rattle.ts_make.specs.declared.description.ExtensionText.{ExtensionText}
+use Rattle.ts_make.specs.declared.description.ExtensionText.TheVariants as part
+use Rattle.ts_make.specs.declared.items.Items.TheVariants as items
+use Rattle.ts_make.specs.Items.{item, items_of}
+use Rattle.ts_make.specs.Told.{policy, mapping, purpose}
+use Rattle.ts_make.proofs.StandIns.{content-short, fits-sequence}
+
+-- ---- pieces that are items
+
+items-append : {A : Type 0} (Spells : List ℕ → A → Type 0) (a b : List ℕ) (xs ys : List A) → AreItems Spells a xs → AreItems Spells b ys → AreItems Spells (a ++ b) (xs ++ ys)
+items-append Spells a b [] ys first second = rw first second
+items-append Spells a b (x ∷ xs) ys first second =
+    (first.0, first.1 ++ b, first.2, ap (λ (o : List ℕ). o ++ b) first.3 ∙ append_assoc first.0 first.1 b, items-append Spells first.1 b xs ys first.4 second)
+
+-- where each part puts its items into a list, the list is all of them
+pub told-items : {A : Type 0} (Spells : List ℕ → A → Type 0) (f : ExtensionText → List ℕ) (g : ExtensionText → List A) (P : ExtensionText → Type 0)
+    → ((t : ExtensionText) → P t → length (f t) ≤ 65536 → AreItems Spells (f t) (g t)) → (texts : List ExtensionText) → AllByRecursion P texts → length (flat_map f texts) ≤ 65536
+    → AreItems Spells (flat_map f texts) (flat_map g texts)
+told-items Spells f g P each [] all le = refl
+told-items Spells f g P each (t ∷ texts) all le =
+    let both = length-append (f t) (flat_map f texts) in
+    items-append Spells (f t) (flat_map f texts) (g t) (flat_map g texts) (each t all.0 (omega arith)) (told-items Spells f g P each texts all.1 (omega arith))
+
+-- every list of parts has what every part has
+pub any-parts : (texts : List ExtensionText) → AllByRecursion (λ t. Unit {0}) texts
+any-parts [] = tt
+any-parts (t ∷ texts) = (tt, any-parts texts)
+
+-- one item
+pub one-item : {A : Type 0} (Spells : List ℕ → A → Type 0) (octets : List ℕ) (x : A) → Spells octets x → AreItems Spells octets (x ∷ [])
+one-item Spells octets x is = (octets, [], is, sym (append-nil octets), refl)
+
+-- ---- object identifiers
+
+-- an element of an object identifier
+pub oid-is : (oid : List ℕ) → is_oid oid ≡ true → length (spell 0x06 oid) ≤ 65536 → Within 0x06 IsOid (spell 0x06 oid) oid
+oid-is oid is le =
+    let short = content-short 0x06 oid in
+    record { content = oid; fits = record { octet = omega arith; low = omega arith; short = omega arith }; spelled = refl; value = (refl, is) }
+
+policy-part : (t : ExtensionText) → Unit {0} → length (item items.Policies t) ≤ 65536 → AreItems (Within 0x30 IsPolicyInformation) (item items.Policies t) (policy t)
+policy-part (part.Policy oid) any le =
+    let id = spell 0x06 oid.content.now in
+    let short = content-short 0x30 id in
+    one-item (Within 0x30 IsPolicyInformation) (spell 0x30 id) (record { policyIdentifier = oid.content.now; policyQualifiers = _ })
+    (record {
+      content = id;
+      fits = fits-sequence id (omega arith);
+      spelled = refl;
+      value = record { id = id; qualifiers = []; policyIdentifier = oid-is oid.content.now oid.form (omega arith); policyQualifiers = refl; fields = sym (append-nil id) };
+    })
+policy-part other any le = refl
+
+mapping-part : (t : ExtensionText) → Unit {0} → length (item items.PolicyMappings t) ≤ 65536 → AreItems (Within 0x30 IsPolicyMapping) (item items.PolicyMappings t) (mapping t)
+mapping-part (part.PolicyMapping issuer subject) any le =
+    let first = spell 0x06 issuer.content.now in
+    let second = spell 0x06 subject.content.now in
+    let short = content-short 0x30 (first ++ second) in
+    let both = length-append first second in
+    one-item (Within 0x30 IsPolicyMapping) (spell 0x30 (first ++ second)) (record { issuerDomainPolicy = issuer.content.now; subjectDomainPolicy = subject.content.now })
+    (record {
+      content = first ++ second;
+      fits = fits-sequence (first ++ second) (omega arith);
+      spelled = refl;
+      value = record { issuer = first; subject = second; issuerDomainPolicy = oid-is issuer.content.now issuer.form (omega arith); subjectDomainPolicy = oid-is subject.content.now subject.form (omega arith); fields = refl };
+    })
+mapping-part other any le = refl
+
+purpose-part : (t : ExtensionText) → Unit {0} → length (item items.KeyPurposes t) ≤ 65536 → AreItems (Within 0x06 IsOid) (item items.KeyPurposes t) (purpose t)
+purpose-part (part.KeyPurpose oid) any le = one-item (Within 0x06 IsOid) (spell 0x06 oid.content.now) oid.content.now (oid-is oid.content.now oid.form le)
+purpose-part other any le = refl
+
+-- ---- values
+
+pub policies-told : (texts : List ExtensionText) → flat_map policy texts ≢ [] → length (items_of items.Policies texts) ≤ 65536
+    → IsExt (Some extension.CertificatePolicies) (spell 0x30 (items_of items.Policies texts)) (certificatePolicies (flat_map policy texts))
+policies-told texts some le =
+    let content = items_of items.Policies texts in
+    record {
+      content = content;
+      fits = fits-sequence content le;
+      spelled = refl;
+      value = (flat_map policy texts, refl, (some, told-items (Within 0x30 IsPolicyInformation) (item items.Policies) policy (λ t. Unit {0}) policy-part texts (any-parts texts) le));
+    }
+
+pub mappings-told : (texts : List ExtensionText) → flat_map mapping texts ≢ [] → length (items_of items.PolicyMappings texts) ≤ 65536
+    → IsExt (Some extension.PolicyMappings) (spell 0x30 (items_of items.PolicyMappings texts)) (policyMappings (flat_map mapping texts))
+mappings-told texts some le =
+    let content = items_of items.PolicyMappings texts in
+    record {
+      content = content;
+      fits = fits-sequence content le;
+      spelled = refl;
+      value = (flat_map mapping texts, refl, (some, told-items (Within 0x30 IsPolicyMapping) (item items.PolicyMappings) mapping (λ t. Unit {0}) mapping-part texts (any-parts texts) le));
+    }
+
+pub purposes-told : (texts : List ExtensionText) → flat_map purpose texts ≢ [] → length (items_of items.KeyPurposes texts) ≤ 65536
+    → IsExt (Some extension.ExtendedKeyUsage) (spell 0x30 (items_of items.KeyPurposes texts)) (extKeyUsage (flat_map purpose texts))
+purposes-told texts some le =
+    let content = items_of items.KeyPurposes texts in
+    record {
+      content = content;
+      fits = fits-sequence content le;
+      spelled = refl;
+      value = (flat_map purpose texts, refl, (some, told-items (Within 0x06 IsOid) (item items.KeyPurposes) purpose (λ t. Unit {0}) purpose-part texts (any-parts texts) le));
+    }

@@ -1,0 +1,5 @@
+use Rattle.ts_make.proofs.ToldLists.{purposes-told}
+use Rattle.ts_make.proofs.laws.key_purposes.Goals as goal
+
+pub returns : goal.returns
+returns c = purposes-told

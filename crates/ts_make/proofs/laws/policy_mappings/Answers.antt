@@ -1,0 +1,5 @@
+use Rattle.ts_make.proofs.ToldLists.{mappings-told}
+use Rattle.ts_make.proofs.laws.policy_mappings.Goals as goal
+
+pub returns : goal.returns
+returns c = mappings-told
