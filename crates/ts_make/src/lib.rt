@@ -16,5 +16,5 @@ mod tests;
 mod times;
 
 pub use certificate::make_cert;
-pub use description::{AttributeType, CertText, Extension, RdnText};
+pub use description::{AttributeType, CertText, ExtensionText, NameText, RdnText};
 pub use fault::MakeFault;
