@@ -10,16 +10,10 @@ use Rattle.ts_make.specs.Description.{kind_octets, rdn_in, rdns_in}
 use Rattle.ts_make.specs.Times.{IsTimeOf}
 use Rattle.ts_make.specs.Made.{made, tbs_octets, tbs_content, name_octets, key_octets}
 use Rattle.ts_make.proofs.OneTime.{one-time}
-use Rattle.trustd.specs.declared.answer.CertWords.{CertWords}
+use Rattle.trustd.specs.declared.cert_line.CertWords.{CertWords}
 use Rattle.trustd.specs.Words.{IsNumber, IsHex, IsDn, kind_word, rdn_word}
 use Rattle.trustd.specs.CertLine.{IsMade}
-use Rattle.trustd.proofs.Spelling.{IsHex-decoded, IsHex-one}
-
-one_number : (word : List ℕ) (m n : ℕ) → IsNumber word m → IsNumber word n → m ≡ n
-one_number word m n is other = decimal_injective m n (omega (arith, is.range)) (omega (arith, other.range)) (sym is.written ∙ other.written)
-
-one_hex : (word xs ys : List ℕ) → IsHex word xs → IsHex word ys → xs ≡ ys
-one_hex word xs ys is other = IsHex-one word xs ys is (IsHex-decoded word ys other)
+use Rattle.trustd.proofs.OneParts.{one_number, one_hex}
 
 abbrev first_octet : List ℕ → ℕ
 first_octet xs = get_or xs 0 0

@@ -4,7 +4,11 @@
 ghost use Rattle.std.specs.Prelude.{◌≤◌};
 
 mod answer;
+mod cert_line;
+mod check_line;
 mod command_line;
+mod extension_words;
+mod keyword;
 mod lab;
 mod laws;
 mod named;
