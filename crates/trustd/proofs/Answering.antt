@@ -1,9 +1,15 @@
 -- What answers a line, or refuses it.
-use Rattle.std.proofs.Common.{◌≡◌, ◌≢◌, ◌∙◌, refl, sym, ap, subst, ℕ, List, map, Option, None, Some, is_some, option_map, MatchOption, ok_or, true, Result, Ok, Err, IfOk, IfErr, string_bytes}
+use Rattle.std.proofs.Common.{◌≡◌, ◌≢◌, ◌∙◌, refl, sym, ap, subst, ℕ, List, length, map, Option, None, Some, is_some, option_map, MatchOption, ok_or, true, false, Result, Ok, Err, IfOk, IfErr, string_bytes, is_ok, ◌<◌, arith}
 use Rattle.std.specs.declared.string.String.{String}
 use Rattle.std.specs.declared.alloc.Global.{Global}
+use Rattle.std.specs.declared.vec.Vec.{Vec}
+use Rattle.ts_name.specs.declared.fault.CertFault.{CertFault}
 use Rattle.ts_time.specs.Text.{IsGeneral}
 use Rattle.ts_make.specs.declared.description.CertText.{CertText}
+use Rattle.ts_make.specs.declared.fault.MakeFault.{MakeFault}
+use Rattle.ts_make.specs.declared.fault.MakeFault.TheVariants.{TooLong, Unreadable}
+use Rattle.ts_cert.specs.Reading.{certificate_of}
+use Rattle.ts_make.specs.Making.{AnswersMade}
 use Rattle.trustd.specs.declared.cert_line.CertWords.{CertWords}
 use Rattle.trustd.specs.declared.check_line.CheckWords.{CheckWords}
 use Rattle.trustd.specs.declared.script.LineFault.{LineFault}
@@ -12,7 +18,7 @@ use Rattle.trustd.specs.Words.{IsName, IsNumber, IsHex, IsDn}
 use Rattle.trustd.specs.Parts.{part_in}
 use Rattle.trustd.specs.ExtensionWords.{AreParts}
 use Rattle.trustd.specs.Known.{Entry}
-use Rattle.trustd.specs.CertLine.{cert_line, extension_words, IsMade, IsSaid, IsCertLine, RefusesWords, RefusesCert}
+use Rattle.trustd.specs.CertLine.{cert_line, extension_words, IsMade, IsSaid, IsCertLine, IsUnreadable, RefusesWords, RefusesCert}
 use Rattle.trustd.specs.CheckLine.{check_line, IsCheckSaid, RefusesCheck, names_of}
 use Rattle.trustd.specs.Says.{Answers, check_kind, kind_of}
 
@@ -82,7 +88,36 @@ pub found_some : {T U : Type 0} (f : T → U) (o : Option T) (q : Option U) → 
 found_some f None q is same = cc is
 found_some f (Some x) q is same = λ none. cc (same ∙ none)
 
+pub found_none : {T U : Type 0} (f : T → U) (o : Option T) (q : Option U) → is_some o ≡ false → option_map f o ≡ q → q ≡ None
+found_none f None q is same = sym same
+found_none f (Some x) q is same = absurd cc
+
 -- so an answer that is taken for one is there
 pub ok_some : {T : Type 0} (o : Option T) (x : T) → Ok x ≡ ok_or o Form → o ≡ Some x
 ok_some None x is = absurd cc
 ok_some (Some y) x is = let same : y ≡ x = cc is in ap Some same
+
+-- what was made is too long, can't be read, or is returned
+pub made_long : (r : Result (Vec ℕ Global) MakeFault) (fault : MakeFault) (octets : List ℕ) → AnswersMade r octets → r ≡ Err fault → fault ≡ TooLong → 65536 < length octets
+made_long r fault octets answers is long =
+    let P : Result (Vec ℕ Global) MakeFault → Type 0 = λ x. AnswersMade x octets in
+    subst P (is ∙ ap Err long) answers
+
+pub made_unreadable : (r : Result (Vec ℕ Global) MakeFault) (fault : MakeFault) (why : CertFault) (octets : List ℕ) → AnswersMade r octets → r ≡ Err fault
+    → fault ≡ Unreadable why → IsUnreadable octets
+made_unreadable r fault why octets answers is unreadable =
+    let P : Result (Vec ℕ Global) MakeFault → Type 0 = λ x. AnswersMade x octets in
+    let found = subst P (is ∙ ap Err unreadable) answers in
+    (found.0, ap is_ok found.1)
+
+pub long_stands : (octets : List ℕ) → 65536 < length octets → ¬ (IsUnreadable octets)
+long_stands octets long is = let short = is.0 in omega arith
+
+pub read_stands : (octets : List ℕ) → is_ok (certificate_of octets) ≡ true → ¬ (IsUnreadable octets)
+read_stands octets reads is = cc (sym reads ∙ is.1)
+
+pub made_stands : (r : Result (Vec ℕ Global) MakeFault) (v : Vec ℕ Global) (octets : List ℕ) → AnswersMade r octets → r ≡ Ok v → ¬ (IsUnreadable octets)
+made_stands r v octets answers is =
+    let P : Result (Vec ℕ Global) MakeFault → Type 0 = λ x. AnswersMade x octets in
+    let found = subst P is answers in
+    read_stands octets found.2

@@ -1,5 +1,5 @@
 -- Words that are decoded one after another.
-use Rattle.std.proofs.Common.{◌≡◌, ◌≢◌, ◌∙◌, refl, sym, ap, subst, ℕ, ◌<◌, ◌^◌, List, [], ◌∷◌, ◌++◌, map, append_assoc, Result, Ok, Err, IfErr, Option, Some, None}
+use Rattle.std.proofs.Common.{◌≡◌, ◌∙◌, refl, sym, ap, subst, ℕ, ◌<◌, ◌^◌, List, [], ◌∷◌, ◌++◌, map, append_assoc}
 use Rattle.std.specs.List.{AllByRecursion}
 use Rattle.std.specs.Fmt.{decimal}
 use Rattle.trustd.specs.declared.script.LineFault.{LineFault}
@@ -7,7 +7,7 @@ use Rattle.trustd.specs.declared.script.LineFault.TheVariants.{Unknown, Form, Na
 use Rattle.trustd.specs.Pieces.{pieces_of}
 use Rattle.trustd.specs.Words.{IsNumber, RefusesWord}
 use Rattle.trustd.specs.Parts.{Part}
-use Rattle.trustd.specs.ExtensionWords.{IsNumbers, Says, IsWord, AreWords}
+use Rattle.trustd.specs.ExtensionWords.{IsNumbers, IsWord, AreWords}
 use Rattle.trustd.proofs.OneParts.{one_word_said}
 
 -- what is refused as one thing is refused as another that would be one

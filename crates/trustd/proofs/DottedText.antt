@@ -1,5 +1,5 @@
 -- The dotted form of an object identifier is text: it has digits and dots alone.
-use Rattle.std.proofs.Common.{◌≡◌, ◌∙◌, refl, sym, ap, ℕ, ◌-◌, ◌+◌, ◌*◌, ◌^◌, ◌<◌, List, [], ◌∷◌, ◌++◌, Option, None, Some, Bool, true, false, not, ◌&&◌, eqb, ltb, cond, arith}
+use Rattle.std.proofs.Common.{◌≡◌, ◌∙◌, refl, ap, ℕ, ◌-◌, ◌+◌, ◌*◌, ◌^◌, ◌<◌, List, [], ◌∷◌, ◌++◌, Option, None, Some, Bool, true, false, not, ◌&&◌, eqb, ltb, cond, arith}
 use Rattle.std.specs.List.{AllByRecursion}
 use Rattle.std.specs.Option.{option_and_then}
 use Rattle.std.specs.Char.{is_ascii_digit}
@@ -10,8 +10,6 @@ use Rattle.std.proofs.lemmas.Option.{option_and_then_some}
 use Rattle.std.proofs.lemmas.Str.{IsUtf8-from_ascii}
 use Rattle.std.proofs.lemmas.Str.Ascii.{IsAscii-from_all}
 use Rattle.std.proofs.lemmas.List.Elements.{All-from_recursion}
-use Rattle.ts_der.specs.ObjectIdentifier.{arcs}
-use Rattle.ts_der.specs.Dotted.{dotted}
 use Rattle.ts_der.specs.DottedReading.{arc_with, arcs_from, content_of, content_in}
 use Rattle.ts_der.proofs.OidLaws.{content_read}
 use Rattle.trustd.specs.ExtensionWords.{IsText, IsDotted}

@@ -1,5 +1,5 @@
 -- Words are cut behind their keywords in one way.
-use Rattle.std.proofs.Common.{◌≡◌, ◌≢◌, ◌∙◌, refl, sym, ap, subst, ℕ, List, [], ◌∷◌, ◌++◌, Option, Some, None, option_map, MatchOption, Bool, true, false, not, ◌&&◌, eqb, cond}
+use Rattle.std.proofs.Common.{◌≡◌, ◌≢◌, ◌∙◌, refl, sym, ap, subst, ℕ, List, [], ◌∷◌, ◌++◌, Option, Some, None, MatchOption, Bool, true, false, not, ◌&&◌, eqb, cond}
 use Rattle.std.specs.List.{join_with_byte, list_all, onto_first}
 use Rattle.std.specs.Str.{bytes_eq}
 use Rattle.std.proofs.lemmas.Slice.Eq.{bytes_eq-Decides}
@@ -8,9 +8,7 @@ use Rattle.trustd.specs.declared.keyword.NameKind.TheVariants.{Dns, Ip, Mail}
 use Rattle.trustd.specs.declared.keyword.Keyword.{Keyword}
 use Rattle.trustd.specs.declared.keyword.Keyword.TheVariants.{KeyUsage, SubjectAltName, BasicConstraints, PermittedSubtree, ExcludedSubtree, DistributionPoint, Policy, PolicyMapping, RequireExplicitPolicy, InhibitPolicyMapping, KeyPurpose, InhibitAnyPolicy, Critical}
 use Rattle.trustd.specs.declared.keyword.TheConstants.{KEYWORDS}
-use Rattle.trustd.specs.declared.script.LineFault.{LineFault}
 use Rattle.trustd.specs.Pieces.{pieces_of, pieces_behind}
-use Rattle.trustd.specs.Words.{RefusesWord}
 use Rattle.trustd.specs.Parts.{Part}
 use Rattle.trustd.specs.ExtensionWords.{keyword_text, value_text, keyword_named, SaysWith, IsWord}
 use Rattle.trustd.proofs.Cutting.{pieces_some}

@@ -1,6 +1,5 @@
 -- The words of a `cert` line are those of one certificate.
 use Rattle.std.proofs.Common.{◌≡◌, ◌∙◌, refl, sym, ap, subst, ℕ, ◌<◌, List, [], ◌∷◌, ◌++◌, map, get_or, lit<, arith}
-use Rattle.std.proofs.lemmas.Fmt.{decimal_injective}
 use Rattle.ts_time.proofs.TextLemmas.{IsGeneral-one_moment}
 use Rattle.ts_make.specs.declared.description.AttributeType.{AttributeType}
 use Rattle.ts_make.specs.declared.description.AttributeType.TheVariants.{CommonName, OrganizationName}
@@ -11,7 +10,7 @@ use Rattle.ts_make.specs.Times.{IsTimeOf}
 use Rattle.ts_make.specs.Made.{made, tbs_octets, tbs_content, name_octets, key_octets}
 use Rattle.ts_make.proofs.OneTime.{one-time}
 use Rattle.trustd.specs.declared.cert_line.CertWords.{CertWords}
-use Rattle.trustd.specs.Words.{IsNumber, IsHex, IsDn, kind_word, rdn_word}
+use Rattle.trustd.specs.Words.{IsDn, kind_word, rdn_word}
 use Rattle.trustd.specs.CertLine.{IsMade}
 use Rattle.trustd.proofs.OneParts.{one_number, one_hex}
 

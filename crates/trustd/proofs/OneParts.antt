@@ -1,5 +1,5 @@
 -- What words say of extensions, they say in one way.
-use Rattle.std.proofs.Common.{◌≡◌, ◌≢◌, ◌∙◌, refl, sym, ap, subst, ℕ, ◌<◌, ◌^◌, List, [], ◌∷◌, ◌++◌, map, Option, Some, None, arith}
+use Rattle.std.proofs.Common.{◌≡◌, ◌∙◌, refl, sym, ap, subst, ℕ, ◌<◌, ◌^◌, List, [], ◌∷◌, map, Option, Some, None, arith}
 use Rattle.std.specs.Fmt.{decimal}
 use Rattle.std.specs.List.{AllByRecursion}
 use Rattle.std.proofs.lemmas.Fmt.{decimal_injective}
@@ -9,12 +9,11 @@ use Rattle.trustd.specs.declared.keyword.NameKind.{NameKind}
 use Rattle.trustd.specs.declared.keyword.NameKind.TheVariants.{Dns, Ip, Mail}
 use Rattle.trustd.specs.declared.keyword.Keyword.{Keyword}
 use Rattle.trustd.specs.declared.keyword.Keyword.TheVariants.{KeyUsage, SubjectAltName, BasicConstraints, PermittedSubtree, ExcludedSubtree, DistributionPoint, Policy, PolicyMapping, RequireExplicitPolicy, InhibitPolicyMapping, KeyPurpose, InhibitAnyPolicy, Critical}
-use Rattle.trustd.specs.Pieces.{pieces_of, pieces_behind}
 use Rattle.trustd.specs.Words.{IsNumber, IsHex}
 use Rattle.trustd.specs.Parts.{Part, PartName, usage_bit}
-use Rattle.trustd.specs.ExtensionWords.{keyword_text, value_text, IsText, IsDotted, IsNumbers, IsMapping, IsNameValue, Says, SaysValue, SaysWith, IsWord, AreWords, AreParts}
+use Rattle.trustd.specs.ExtensionWords.{IsText, IsDotted, IsNumbers, IsNameValue, Says, SaysValue, SaysWith, IsWord, AreWords}
 use Rattle.trustd.proofs.Spelling.{IsHex-decoded, IsHex-one}
-use Rattle.trustd.proofs.Keywords.{Cut, cut_of}
+use Rattle.trustd.proofs.Keywords.{cut_of}
 
 pub one_number : (word : List ℕ) (m n : ℕ) → IsNumber word m → IsNumber word n → m ≡ n
 one_number word m n is other = decimal_injective m n (omega (arith, is.range)) (omega (arith, other.range)) (sym is.written ∙ other.written)

@@ -1,15 +1,14 @@
 -- A line is answered, or refused with one word.
-use Rattle.std.proofs.Common.{◌≡◌, ◌≢◌, ◌∙◌, ◌<◌, refl, sym, ap, subst, ℕ, List, None, Some, length, true, is_ok, inl, inr, arith}
-use Rattle.ts_cert.specs.Reading.{certificate_of}
+use Rattle.std.proofs.Common.{◌≡◌, ◌≢◌, ◌∙◌, refl, sym, ap, subst, ℕ, List, None, length, inl, inr, arith}
 use Rattle.trustd.specs.declared.cert_line.CertWords.{CertWords}
 use Rattle.trustd.specs.declared.check_line.CheckWords.{CheckWords}
 use Rattle.trustd.specs.declared.script.LineFault.{LineFault}
 use Rattle.trustd.specs.declared.script.LineFault.TheVariants.{Unknown, Form, Name, Limit, Memory}
 use Rattle.trustd.specs.Known.{Entry, octets_named}
-use Rattle.trustd.specs.CertLine.{cert_line, IsCertLine, IsMade, IsUnreadable, IsCertSaid, RefusesCert}
+use Rattle.trustd.specs.CertLine.{cert_line, IsCertLine, IsMade, IsCertSaid, RefusesCert}
 use Rattle.trustd.specs.CheckLine.{check_line, others_of, names_of, AreKnown, IsCheckSaid, HasExtensions, RefusesCheck}
 use Rattle.trustd.specs.Says.{Kind, skipped, cert_kind, check_kind, unknown_kind, SaysAs, RefusesAs}
-use Rattle.trustd.proofs.Answering.{made_again, same_names}
+use Rattle.trustd.proofs.Answering.{made_again, same_names, long_stands, read_stands}
 use Rattle.trustd.proofs.OneCertificate.{one_made}
 
 same_name : (v w : CertWords) → cert_line v ≡ cert_line w → v.name.now ≡ w.name.now
@@ -26,13 +25,6 @@ same_others v w same = cc
 
 free_again : (known : List Entry) (v w : CertWords) → cert_line v ≡ cert_line w → octets_named known v.name.now ≡ None → octets_named known w.name.now ≡ None
 free_again known v w same free = subst (λ (name : List ℕ). octets_named known name ≡ None) (same_name v w same) free
-
--- what is too long, or can be read, is not unreadable
-long_stands : (octets : List ℕ) → 65536 < length octets → ¬ (IsUnreadable octets)
-long_stands octets long is = let short = is.0 in omega arith
-
-read_stands : (octets : List ℕ) → is_ok (certificate_of octets) ≡ true → ¬ (IsUnreadable octets)
-read_stands octets reads is = cc (sym reads ∙ is.1)
 
 -- the words of a line make one certificate
 one_cert : (known : List Entry) (line : List ℕ) (v w : CertWords) (octets others : List ℕ) → IsCertLine line v → IsCertLine line w → IsMade v octets → IsMade w others → octets ≡ others

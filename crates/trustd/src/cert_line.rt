@@ -92,8 +92,9 @@ impl<'a> CertWords<'a> {
         match made {
             Err(MakeFault::Memory) => Err(LineFault::Memory),
             Err(MakeFault::Unreadable(_)) => Err(LineFault::Form),
-            _ if is_taken => Err(LineFault::Name),
+            Err(MakeFault::TooLong) if is_taken => Err(LineFault::Name),
             Err(MakeFault::TooLong) => Err(LineFault::Limit),
+            Ok(_) if is_taken => Err(LineFault::Name),
             Ok(octets) => Ok(octets),
         }
     }

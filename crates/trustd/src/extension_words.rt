@@ -1,13 +1,13 @@
 //! The words that say extensions, decoded.
 
-ghost use Rattle.std.specs.Prelude.{◌≡◌, ◌++◌, ◌+◌, ℕ, List, [], Some, map, option_map, IfOk, IfErr, IsTrue, ◌↔◌, OnOk};
+ghost use Rattle.std.specs.Prelude.{◌≡◌, ◌++◌, ◌+◌, ℕ, List, [], None, map, option_map, IfOk, IfErr, IsTrue, ◌↔◌, OnOk};
 ghost use Rattle.std.specs.List.{AllByRecursion, flat_map};
 ghost use Rattle.ts_der.specs.Octets.{AreOctets};
 ghost use Rattle.trustd.specs.declared.keyword.Keyword.{Keyword};
 ghost use Rattle.trustd.specs.Pieces.{pieces_behind};
 ghost use Rattle.trustd.specs.Words.{IsNumber, RefusesWord};
 ghost use Rattle.trustd.specs.Parts.{Part, PartName, name_in, part_in, usage_bit};
-ghost use Rattle.trustd.specs.ExtensionWords.{IsText, IsDotted, IsNumbers, IsMapping, IsNameValue, SaysValue, IsWord, AreWords, StandsOnce, AreParts, once};
+ghost use Rattle.trustd.specs.ExtensionWords.{IsText, IsDotted, IsNumbers, IsMapping, IsNameValue, SaysValue, SaysWith, IsWord, AreWords, StandsOnce, AreParts, once};
 ghost use Rattle.trustd.specs.OwnedParts.{name_of, parts_of};
 
 use crate::keyword::{Keyword, NameKind};
@@ -126,10 +126,18 @@ impl<'a> ExtensionWord<'a> {
         let keyword = Keyword::of(name).ok_or(LineFault::Form)?;
         match value {
             Some(value) => ExtensionWord::read_value(alloc, keyword, value),
-            None if keyword == Keyword::BasicConstraints => {
-                Ok(ExtensionWord::BasicConstraints(None))
-            }
-            None => Err(LineFault::Form),
+            None => ExtensionWord::read_alone(keyword),
+        }
+    }
+
+    /// What a keyword says without a value.
+    fn read_alone(keyword: Keyword) -> Result<ExtensionWord<'a>, LineFault>
+        ensures found { IfOk result (λ word. SaysWith keyword None (parts_of word)) }
+        ensures fault { IfErr result (RefusesWord ((parts : List Part) → ¬ (SaysWith keyword None parts))) }
+    {
+        match keyword {
+            Keyword::BasicConstraints => Ok(ExtensionWord::BasicConstraints(None)),
+            _ => Err(LineFault::Form),
         }
     }
 }

@@ -5,7 +5,7 @@ ghost use Rattle.trustd.specs.declared.keyword.Keyword.{Keyword};
 ghost use Rattle.trustd.specs.ExtensionWords.{keyword_text, keyword_named};
 
 /// A form of name (RFC 5280 4.2.1.6).
-#[derive(Clone, Copy, Debug, PartialEq, Eq)]
+#[derive(Clone, Copy)]
 pub enum NameKind {
     /// dNSName.
     Dns,
@@ -16,7 +16,7 @@ pub enum NameKind {
 }
 
 /// What a word says, by what it begins with.
-#[derive(Clone, Copy, Debug, PartialEq, Eq)]
+#[derive(Clone, Copy)]
 pub enum Keyword {
     /// keyUsage, its bits (RFC 5280 4.2.1.3).
     KeyUsage,

@@ -1,5 +1,5 @@
 -- Each name has a certificate, and more is asked than the lab answers.
-use Rattle.std.proofs.Common.{rules, ◌≡◌, ◌≢◌, ◌∙◌, sym, true, inl, inr, arith}
+use Rattle.std.proofs.Common.{rules, ◌≡◌, ◌∙◌, sym, true, inl, inr, arith}
 use Rattle.ts_cert.specs.CertView.{cert_in}
 use Rattle.ts_ext.specs.ExtensionView.{extensions_in}
 use Rattle.trustd.proofs.Answering.{found_some}

@@ -1,5 +1,5 @@
 -- Behind two object identifiers nothing stands.
-use Rattle.std.proofs.Common.{◌≡◌, ◌∷◌, ◌∙◌, [], ℕ, List, Bor, Option, Some, option_map, sym, subst, ap}
+use Rattle.std.proofs.Common.{◌≡◌, ◌∷◌, ◌∙◌, ℕ, List, Bor, Option, option_map, sym, subst, ap}
 use Rattle.trustd.specs.Pieces.{pieces_of, pieces_behind}
 use Rattle.trustd.proofs.Answering.{ok_some}
 use Rattle.trustd.proofs.Cutting.{behind_some, behind_two}

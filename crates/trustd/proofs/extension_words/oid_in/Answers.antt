@@ -1,5 +1,4 @@
 -- The dotted form of an object identifier is text.
-use Rattle.std.proofs.Common.{rules, sym, subst}
 use Rattle.std.proofs.lemmas.Result.{err_from_is_err_and}
 use Rattle.trustd.proofs.Decoding.{refused_more}
 use Rattle.trustd.proofs.DottedText.{IsDotted-IsText}

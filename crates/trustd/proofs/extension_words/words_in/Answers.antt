@@ -1,13 +1,12 @@
 -- Each word is read behind those that were.
-use Rattle.std.proofs.Common.{◌≡◌, ◌∷◌, ◌∙◌, ◌++◌, [], ℕ, List, Bor, None, option_map, subst, sym, ap, refl, rules}
+use Rattle.std.proofs.Common.{◌≡◌, ◌∷◌, ◌∙◌, ◌++◌, [], ℕ, List, Bor, option_map, subst, sym, ap, refl, rules}
 use Rattle.std.specs.List.{flat_map}
 use Rattle.std.proofs.lemmas.Result.{err_from_is_err_and}
 use Rattle.std.proofs.lemmas.List.{append-nil}
 use Rattle.std.proofs.lemmas.List.Concat.{flat_map-append}
 use Rattle.trustd.specs.Pieces.{pieces_behind}
-use Rattle.trustd.specs.Words.{RefusesWord}
 use Rattle.trustd.specs.Parts.{Part}
-use Rattle.trustd.specs.ExtensionWords.{IsWord, AreWords}
+use Rattle.trustd.specs.ExtensionWords.{AreWords}
 use Rattle.trustd.specs.OwnedParts.{parts_of}
 use Rattle.trustd.proofs.Decoding.{ReadsOn, ReadsOn-next, ReadsOn-stops, refused_more}
 use Rattle.trustd.proofs.extension_words.words_in.Goals as goal

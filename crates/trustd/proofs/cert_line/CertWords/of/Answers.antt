@@ -1,5 +1,5 @@
 -- The words are read in their places, or they do not stand there.
-use Rattle.std.proofs.Common.{◌≡◌, ◌∷◌, ◌∙◌, [], List, ℕ, codes, sym, subst, true, arith}
+use Rattle.std.proofs.Common.{◌≡◌, ◌∷◌, List, ℕ, codes, sym, subst, true, arith}
 use Rattle.trustd.specs.declared.cert_line.CertWords.{CertWords}
 use Rattle.trustd.specs.Words.{IsName}
 use Rattle.trustd.specs.CertLine.{cert_line, extension_words}

@@ -1,5 +1,5 @@
 -- A word is cut behind its keyword, and says what its value does.
-use Rattle.std.proofs.Common.{◌≡◌, ◌≢◌, ◌∷◌, [], ℕ, List, Bor, Option, Some, None, option_map, subst, sym, rules, arith}
+use Rattle.std.proofs.Common.{◌≡◌, ◌≢◌, ◌∷◌, ℕ, List, Bor, Option, Some, None, option_map, subst}
 use Rattle.std.proofs.lemmas.Result.{IfOk-weaker, IfErr-weaker, err_from_is_err_and}
 use Rattle.trustd.specs.declared.keyword.Keyword.{Keyword}
 use Rattle.trustd.specs.Pieces.{pieces_of, pieces_behind}
@@ -62,14 +62,15 @@ returns-in-None-clause-found c =
     let k = c.in_ok-keyword.keyword in
     let named = some_of_ok (NoKeyword name) (λ l. name ≡ keyword_text l) c.of.result k c.in_ok-keyword.ensures.value c.of.ensures in
     let cut = cut_none word name c.first_piece.result.1 c.in-None.is c.first_piece.ensures in
-    word_said word name k None _ cut named (?, refl)
+    IfOk-weaker c.read_alone.result (λ said. SaysWith k None (parts_of said)) (λ said. IsWord word (parts_of said))
+    (λ said says. word_said word name k None (parts_of said) cut named says) c.read_alone.ensures.found
 
-pub returns-in-None-2-clause-fault : goal.returns-in-None-2-clause-fault
-returns-in-None-2-clause-fault c = λ parts said.
+pub returns-in-None-clause-fault : goal.returns-in-None-clause-fault
+returns-in-None-clause-fault c =
     let word = c.args.word.now in
     let name = c.first_piece.result.0.now in
     let k = c.in_ok-keyword.keyword in
     let named = some_of_ok (NoKeyword name) (λ l. name ≡ keyword_text l) c.of.result k c.in_ok-keyword.ensures.value c.of.ensures in
-    let cut = cut_none word name c.first_piece.result.1 c.in-None-2.is c.first_piece.ensures in
-    let says = word_says word name k None parts cut named said in
-    ?
+    let cut = cut_none word name c.first_piece.result.1 c.in-None.is c.first_piece.ensures in
+    IfErr-weaker c.read_alone.result (RefusesWord ((parts : List Part) → ¬ (SaysWith k None parts))) (RefusesWord ((parts : List Part) → ¬ (IsWord word parts)))
+    (λ fault refused. refused_more fault (λ none parts said. none parts (word_says word name k None parts cut named said)) refused) c.read_alone.ensures.fault

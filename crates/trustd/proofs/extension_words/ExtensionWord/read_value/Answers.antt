@@ -1,5 +1,4 @@
 -- What a mapping is refused as.
-use Rattle.std.proofs.Common.{rules, subst, sym}
 use Rattle.trustd.proofs.extension_words.ExtensionWord.read_value.Goals as goal
 
 pub returns-in-PolicyMapping-clause-fault : goal.returns-in-PolicyMapping-clause-fault
