@@ -11,7 +11,7 @@ use Rattle.trustd.specs.declared.keyword.Keyword.{Keyword}
 use Rattle.trustd.specs.declared.keyword.Keyword.TheVariants.{KeyUsage, SubjectAltName, BasicConstraints, PermittedSubtree, ExcludedSubtree, DistributionPoint, Policy, PolicyMapping, RequireExplicitPolicy, InhibitPolicyMapping, KeyPurpose, InhibitAnyPolicy, Critical}
 use Rattle.trustd.specs.Words.{IsNumber, IsHex}
 use Rattle.trustd.specs.Parts.{Part, PartName, usage_bit}
-use Rattle.trustd.specs.ExtensionWords.{IsText, IsDotted, IsNumbers, IsNameValue, Says, SaysValue, SaysWith, IsWord, AreWords}
+use Rattle.trustd.specs.ExtensionWords.{IsText, IsDotted, IsNumbers, IsNameValue, Says, SaysValue, SaysWith, IsWord, AreWords, AreParts}
 use Rattle.trustd.proofs.Spelling.{IsHex-decoded, IsHex-one}
 use Rattle.trustd.proofs.Keywords.{cut_of}
 
@@ -44,9 +44,9 @@ one_numbers : (value xs ys : List ℕ) → IsNumbers value xs → IsNumbers valu
 one_numbers value xs ys is other = numbers_same xs ys (sym is.pieces ∙ other.pieces) is.ranges other.ranges
 
 one_name : (kind : NameKind) (value : List ℕ) (m n : PartName) → IsNameValue kind value m → IsNameValue kind value n → m ≡ n
-one_name Dns value m n is other = is.1 ∙ sym other.1
+one_name Dns value m n is other = let same = one_text value is.0 other.0 is.1 other.1 in is.2 ∙ (rw same (sym other.2))
 one_name Ip value m n is other = let same = one_hex value is.0 other.0 is.1 other.1 in is.2 ∙ (rw same (sym other.2))
-one_name Mail value m n is other = is.1 ∙ sym other.1
+one_name Mail value m n is other = let same = one_text value is.0 other.0 is.1 other.1 in is.2 ∙ (rw same (sym other.2))
 
 -- one part is said by a value of a form that has one reading
 one_part : {T : Type 0} (Is : List ℕ → T → Type 0) (part : T → Part) (value : List ℕ) (xs ys : List Part)
@@ -96,3 +96,6 @@ one_words_said (word ∷ words) xs ys is other =
     let first = one_word_said word is.0 other.0 is.2 other.2 in
     let rest = one_words_said words is.1 other.1 is.3 other.3 in
     cc
+
+pub one_parts : (words : List (List ℕ)) (xs ys : List Part) → AreParts words xs → AreParts words ys → xs ≡ ys
+one_parts words xs ys is other = one_words_said words xs ys is.said other.said

@@ -67,9 +67,9 @@ pub record IsMapping (value : List ℕ) (issuer subject : List ℕ) : Type 0 whe
 
 -- a name: the text of a host or a mailbox, or the octets of an address
 abbrev pub IsNameValue : NameKind → List ℕ → PartName → Type 0
-IsNameValue Dns value name = IsText value value × (name ≡ dns_name value)
+IsNameValue Dns value name = (text : List ℕ) × IsText value text × (name ≡ dns_name text)
 IsNameValue Ip value name = (octets : List ℕ) × IsHex value octets × (name ≡ ip_address octets)
-IsNameValue Mail value name = IsText value value × (name ≡ mail_box value)
+IsNameValue Mail value name = (text : List ℕ) × IsText value text × (name ≡ mail_box text)
 
 -- a value is of a form, and the part that it says is this one
 abbrev pub Says : {T : Type 0} → (List ℕ → T → Type 0) → (T → Part) → List ℕ → List Part → Type 0

@@ -16,6 +16,8 @@ mod scanner;
 mod script;
 #[cfg(test)]
 mod tests;
+#[cfg(test)]
+mod word_tests;
 mod words;
 
 use command_line::Task;
