@@ -7,6 +7,8 @@ mod answer;
 mod cert_line;
 mod check_line;
 mod command_line;
+#[cfg(test)]
+mod example_tests;
 mod extension_words;
 mod keyword;
 mod lab;

@@ -117,3 +117,31 @@ fn refuses_words_of_no_form(rt: HostRuntime) {
         assert!(rt; refused == Ok(true), "{words:?}");
     }
 }
+
+/// Whether the second of two such lines, the first without words, is answered so.
+fn answers_again(alloc: Global, words: &[u8], text: &[u8]) -> Result<bool, AllocError> {
+    let mut script = script_of(alloc, b"\n")?;
+    let again = script_of(alloc, words)?;
+    script.extend_from_slice(again.as_slice())?;
+    Ok(answers(alloc, script.as_slice(), 2, text))
+}
+
+/// Words of a line whose name is taken, and what answers it behind the line that took the name.
+const AGAIN: [(&[u8], &[u8]); 5] = [
+    (b"", b"cert A 138\nline 2: name\n"),
+    (b" ca", b"cert A 138\nline 2: name\n"),
+    (
+        b" usage=5,6 dns=a map=1.2.3>1.2.4",
+        b"cert A 138\nline 2: name\n",
+    ),
+    (b" ca ca", b"cert A 138\nline 2: form\n"),
+    (b" map=1.2.3", b"cert A 138\nline 2: form\n"),
+];
+
+#[test]
+fn looks_for_the_form_before_the_name(rt: HostRuntime) {
+    for &(words, text) in &AGAIN {
+        let answered = answers_again(rt.alloc(), words, text);
+        assert!(rt; answered == Ok(true), "{words:?}");
+    }
+}
