@@ -1,16 +1,24 @@
 -- What answers a line, or refuses it.
-use Rattle.std.proofs.Common.{◌≡◌, ◌≢◌, ◌∙◌, refl, sym, subst, ℕ, List, Option, None, Some, is_some, option_map, MatchOption, ok_or, true, Result, Ok, Err, IfOk, IfErr, string_bytes}
+use Rattle.std.proofs.Common.{◌≡◌, ◌≢◌, ◌∙◌, refl, sym, ap, subst, ℕ, List, length, map, Option, None, Some, is_some, option_map, MatchOption, ok_or, true, false, Result, Ok, Err, IfOk, IfErr, string_bytes, is_ok, ◌<◌, arith}
 use Rattle.std.specs.declared.string.String.{String}
 use Rattle.std.specs.declared.alloc.Global.{Global}
+use Rattle.std.specs.declared.vec.Vec.{Vec}
+use Rattle.ts_name.specs.declared.fault.CertFault.{CertFault}
 use Rattle.ts_time.specs.Text.{IsGeneral}
 use Rattle.ts_make.specs.declared.description.CertText.{CertText}
-use Rattle.trustd.specs.declared.answer.CertWords.{CertWords}
-use Rattle.trustd.specs.declared.answer.CheckWords.{CheckWords}
+use Rattle.ts_make.specs.declared.fault.MakeFault.{MakeFault}
+use Rattle.ts_make.specs.declared.fault.MakeFault.TheVariants.{TooLong, Unreadable}
+use Rattle.ts_cert.specs.Reading.{certificate_of}
+use Rattle.ts_make.specs.Making.{AnswersMade}
+use Rattle.trustd.specs.declared.cert_line.CertWords.{CertWords}
+use Rattle.trustd.specs.declared.check_line.CheckWords.{CheckWords}
 use Rattle.trustd.specs.declared.script.LineFault.{LineFault}
 use Rattle.trustd.specs.declared.script.LineFault.TheVariants.{Unknown, Form, Name, Limit, Memory}
 use Rattle.trustd.specs.Words.{IsName, IsNumber, IsHex, IsDn}
+use Rattle.trustd.specs.Parts.{part_in}
+use Rattle.trustd.specs.ExtensionWords.{AreParts}
 use Rattle.trustd.specs.Known.{Entry}
-use Rattle.trustd.specs.CertLine.{cert_line, IsSaid, IsCertLine, RefusesWords, RefusesCert}
+use Rattle.trustd.specs.CertLine.{cert_line, extension_words, IsMade, IsSaid, IsCertLine, IsUnreadable, RefusesWords, RefusesCert}
 use Rattle.trustd.specs.CheckLine.{check_line, IsCheckSaid, RefusesCheck, names_of}
 use Rattle.trustd.specs.Says.{Answers, check_kind, kind_of}
 
@@ -25,6 +33,7 @@ said_again v w text same said =
     let to : v.to.now ≡ w.to.now = cc in
     let key : v.key.now ≡ w.key.now = cc in
     let signer : v.signer.now ≡ w.signer.now = cc in
+    let others : extension_words v ≡ extension_words w = cc in
     record {
       serial = subst (λ x. IsNumber x text.serial) serial said.serial;
       issuer = subst (λ x. IsDn x text.issuer.now) issuer said.issuer;
@@ -33,12 +42,17 @@ said_again v w text same said =
       not_after = subst (λ x. IsGeneral x text.to) to said.not_after;
       key = subst (λ x. IsHex x text.key.now) key said.key;
       signer = subst (λ x. IsHex x text.signer.now) signer said.signer;
+      extensions = subst (λ (words : List (List ℕ)). AreParts words (map part_in text.extensions.now)) others said.extensions;
     }
+
+-- what the one words describe, the others do
+pub made_again : (v w : CertWords) (octets : List ℕ) → cert_line v ≡ cert_line w → IsMade v octets → IsMade w octets
+made_again v w octets same is = (is.0, said_again v w is.0 same is.1, is.2, is.3, is.4, is.5, is.6)
 
 -- a line is refused as its words are
 pub words_refused : (known : List Entry) (line : List ℕ) (c : CertWords) (fault : LineFault) → IsCertLine line c
     → (IsName c.name.now → RefusesWords known c fault) → RefusesCert known line fault
-words_refused known line c Form is refused = λ d stands text said. refused is.1 text (said_again d c text (sym stands.0 ∙ is.0) said)
+words_refused known line c Form is refused = λ d stands octets made. refused is.1 octets (made_again d c octets (sym stands.0 ∙ is.0) made)
 words_refused known line c Name is refused = (c, is, refused is.1)
 words_refused known line c Limit is refused = (c, is, refused is.1)
 words_refused known line c Memory is refused = tt
@@ -70,6 +84,40 @@ some_of_ok P Q None x is h = cc is
 some_of_ok P Q (Some y) x is h = let same : y ≡ x = cc is in subst Q same h
 
 -- what was found is there
-pub found_some : {T : Type 0} (f : T → List ℕ) (o : Option T) (q : Option (List ℕ)) → is_some o ≡ true → option_map f o ≡ q → q ≢ None
+pub found_some : {T U : Type 0} (f : T → U) (o : Option T) (q : Option U) → is_some o ≡ true → option_map f o ≡ q → q ≢ None
 found_some f None q is same = cc is
 found_some f (Some x) q is same = λ none. cc (same ∙ none)
+
+pub found_none : {T U : Type 0} (f : T → U) (o : Option T) (q : Option U) → is_some o ≡ false → option_map f o ≡ q → q ≡ None
+found_none f None q is same = sym same
+found_none f (Some x) q is same = absurd cc
+
+-- so an answer that is taken for one is there
+pub ok_some : {T : Type 0} (o : Option T) (x : T) → Ok x ≡ ok_or o Form → o ≡ Some x
+ok_some None x is = absurd cc
+ok_some (Some y) x is = let same : y ≡ x = cc is in ap Some same
+
+-- what was made is too long, can't be read, or is returned
+pub made_long : (r : Result (Vec ℕ Global) MakeFault) (fault : MakeFault) (octets : List ℕ) → AnswersMade r octets → r ≡ Err fault → fault ≡ TooLong → 65536 < length octets
+made_long r fault octets answers is long =
+    let P : Result (Vec ℕ Global) MakeFault → Type 0 = λ x. AnswersMade x octets in
+    subst P (is ∙ ap Err long) answers
+
+pub made_unreadable : (r : Result (Vec ℕ Global) MakeFault) (fault : MakeFault) (why : CertFault) (octets : List ℕ) → AnswersMade r octets → r ≡ Err fault
+    → fault ≡ Unreadable why → IsUnreadable octets
+made_unreadable r fault why octets answers is unreadable =
+    let P : Result (Vec ℕ Global) MakeFault → Type 0 = λ x. AnswersMade x octets in
+    let found = subst P (is ∙ ap Err unreadable) answers in
+    (found.0, ap is_ok found.1)
+
+pub long_stands : (octets : List ℕ) → 65536 < length octets → ¬ (IsUnreadable octets)
+long_stands octets long is = let short = is.0 in omega arith
+
+pub read_stands : (octets : List ℕ) → is_ok (certificate_of octets) ≡ true → ¬ (IsUnreadable octets)
+read_stands octets reads is = cc (sym reads ∙ is.1)
+
+pub made_stands : (r : Result (Vec ℕ Global) MakeFault) (v : Vec ℕ Global) (octets : List ℕ) → AnswersMade r octets → r ≡ Ok v → ¬ (IsUnreadable octets)
+made_stands r v octets answers is =
+    let P : Result (Vec ℕ Global) MakeFault → Type 0 = λ x. AnswersMade x octets in
+    let found = subst P is answers in
+    read_stands octets found.2

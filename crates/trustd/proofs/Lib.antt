@@ -1,6 +1,10 @@
 pub mod Answering
 pub mod Cutting
+pub mod Decoding
+pub mod DottedText
+pub mod Keywords
 pub mod OneCertificate
+pub mod OneParts
 pub mod OneWord
 pub mod Reading
 pub mod Scanning

@@ -1,6 +1,5 @@
 -- The words of a `cert` line are those of one certificate.
 use Rattle.std.proofs.Common.{◌≡◌, ◌∙◌, refl, sym, ap, subst, ℕ, ◌<◌, List, [], ◌∷◌, ◌++◌, map, get_or, lit<, arith}
-use Rattle.std.proofs.lemmas.Fmt.{decimal_injective}
 use Rattle.ts_time.proofs.TextLemmas.{IsGeneral-one_moment}
 use Rattle.ts_make.specs.declared.description.AttributeType.{AttributeType}
 use Rattle.ts_make.specs.declared.description.AttributeType.TheVariants.{CommonName, OrganizationName}
@@ -10,16 +9,11 @@ use Rattle.ts_make.specs.Description.{kind_octets, rdn_in, rdns_in}
 use Rattle.ts_make.specs.Times.{IsTimeOf}
 use Rattle.ts_make.specs.Made.{made, tbs_octets, tbs_content, name_octets, key_octets}
 use Rattle.ts_make.proofs.OneTime.{one-time}
-use Rattle.trustd.specs.declared.answer.CertWords.{CertWords}
-use Rattle.trustd.specs.Words.{IsNumber, IsHex, IsDn, kind_word, rdn_word}
-use Rattle.trustd.specs.CertLine.{IsMade}
-use Rattle.trustd.proofs.Spelling.{IsHex-decoded, IsHex-one}
-
-one_number : (word : List ℕ) (m n : ℕ) → IsNumber word m → IsNumber word n → m ≡ n
-one_number word m n is other = decimal_injective m n (omega (arith, is.range)) (omega (arith, other.range)) (sym is.written ∙ other.written)
-
-one_hex : (word xs ys : List ℕ) → IsHex word xs → IsHex word ys → xs ≡ ys
-one_hex word xs ys is other = IsHex-one word xs ys is (IsHex-decoded word ys other)
+use Rattle.trustd.specs.declared.cert_line.CertWords.{CertWords}
+use Rattle.trustd.specs.Words.{IsDn, kind_word, rdn_word}
+use Rattle.trustd.specs.Parts.{part_in}
+use Rattle.trustd.specs.CertLine.{IsMade, extension_words}
+use Rattle.trustd.proofs.OneParts.{one_number, one_hex, one_parts}
 
 abbrev first_octet : List ℕ → ℕ
 first_octet xs = get_or xs 0 0
@@ -52,9 +46,9 @@ one_dn word xs ys is other = one_list xs ys (sym is.pieces ∙ other.pieces)
 -- what is made depends on what is described
 made_same : (before after before' after' : List ℕ) (t u : CertText) → before ≡ before' → after ≡ after' → t.serial ≡ u.serial
     → rdns_in t.issuer.now ≡ rdns_in u.issuer.now → rdns_in t.subject.now ≡ rdns_in u.subject.now → t.key.now ≡ u.key.now → t.signer.now ≡ u.signer.now
-    → made before after t ≡ made before' after' u
+    → map part_in t.extensions.now ≡ map part_in u.extensions.now → made before after t ≡ made before' after' u
 unfolding made tbs_octets tbs_content name_octets key_octets
-made_same before after before' after' t u e f serial issuer subject key signer = cc
+made_same before after before' after' t u e f serial issuer subject key signer extensions = cc
 
 -- one list of octets is the certificate that the words describe
 pub one_made : (c : CertWords) (octets others : List ℕ) → IsMade c octets → IsMade c others → octets ≡ others
@@ -69,5 +63,6 @@ one_made c octets others is also =
     let after = one-time is.3 also.3 u.to (subst (IsTimeOf is.3) to is.5) also.5 in
     let same = made_same is.2 is.3 also.2 also.3 t u before after (one_number c.serial.now t.serial u.serial said.serial again.serial)
     (one_dn c.issuer.now t.issuer.now u.issuer.now said.issuer again.issuer) (one_dn c.subject.now t.subject.now u.subject.now said.subject again.subject)
-    (one_hex c.key.now t.key.now u.key.now said.key again.key) (one_hex c.signer.now t.signer.now u.signer.now said.signer again.signer) in
+    (one_hex c.key.now t.key.now u.key.now said.key again.key) (one_hex c.signer.now t.signer.now u.signer.now said.signer again.signer)
+    (one_parts (extension_words c) (map part_in t.extensions.now) (map part_in u.extensions.now) said.extensions again.extensions) in
     is.6 ∙ (same ∙ sym also.6)

@@ -1,37 +1,40 @@
 -- A line is answered, or refused with one word.
 use Rattle.std.proofs.Common.{◌≡◌, ◌≢◌, ◌∙◌, refl, sym, ap, subst, ℕ, List, None, length, inl, inr, arith}
-use Rattle.trustd.specs.declared.answer.CertWords.{CertWords}
-use Rattle.trustd.specs.declared.answer.CheckWords.{CheckWords}
+use Rattle.trustd.specs.declared.cert_line.CertWords.{CertWords}
+use Rattle.trustd.specs.declared.check_line.CheckWords.{CheckWords}
 use Rattle.trustd.specs.declared.script.LineFault.{LineFault}
 use Rattle.trustd.specs.declared.script.LineFault.TheVariants.{Unknown, Form, Name, Limit, Memory}
 use Rattle.trustd.specs.Known.{Entry, octets_named}
-use Rattle.trustd.specs.CertLine.{cert_line, IsMade, IsCertSaid, RefusesCert}
-use Rattle.trustd.specs.CheckLine.{check_line, others_of, names_of, AreKnown, IsCheckSaid, RefusesCheck}
+use Rattle.trustd.specs.CertLine.{cert_line, IsCertLine, IsMade, IsCertSaid, RefusesCert}
+use Rattle.trustd.specs.CheckLine.{check_line, others_of, names_of, AreKnown, IsCheckSaid, HasExtensions, RefusesCheck}
 use Rattle.trustd.specs.Says.{Kind, skipped, cert_kind, check_kind, unknown_kind, SaysAs, RefusesAs}
-use Rattle.trustd.proofs.Answering.{said_again, same_names}
+use Rattle.trustd.proofs.Answering.{made_again, same_names, long_stands, read_stands}
 use Rattle.trustd.proofs.OneCertificate.{one_made}
 
 same_name : (v w : CertWords) → cert_line v ≡ cert_line w → v.name.now ≡ w.name.now
 unfolding cert_line
 same_name v w same = cc
 
+same_target : (v w : CheckWords) → check_line v ≡ check_line w → v.target.now ≡ w.target.now
+unfolding check_line
+same_target v w same = cc
+
 same_others : (v w : CheckWords) → check_line v ≡ check_line w → others_of v ≡ others_of w
 unfolding check_line
 same_others v w same = cc
 
--- what the one words describe, the others do
-made_again : (v w : CertWords) (octets : List ℕ) → cert_line v ≡ cert_line w → IsMade v octets → IsMade w octets
-made_again v w octets same is = (is.0, said_again v w is.0 same is.1, is.2, is.3, is.4, is.5, is.6)
-
 free_again : (known : List Entry) (v w : CertWords) → cert_line v ≡ cert_line w → octets_named known v.name.now ≡ None → octets_named known w.name.now ≡ None
 free_again known v w same free = subst (λ (name : List ℕ). octets_named known name ≡ None) (same_name v w same) free
 
+-- the words of a line make one certificate
+one_cert : (known : List Entry) (line : List ℕ) (v w : CertWords) (octets others : List ℕ) → IsCertLine line v → IsCertLine line w → IsMade v octets → IsMade w others → octets ≡ others
+one_cert known line v w octets others stands also made again = one_made w octets others (made_again v w octets (sym stands.0 ∙ also.0) made) again
+
 cert_answered : (known after : List Entry) (line text : List ℕ) (fault : LineFault) → IsCertSaid known line text after → RefusesCert known line fault → fault ≡ Memory
-cert_answered known after line text Form said refused = absurd (refused said.0 said.1 said.2.1.0 said.2.1.1)
-cert_answered known after line text Name said refused = absurd (refused.2.2 (free_again known said.0 refused.0 (sym said.1.0 ∙ refused.1.0) said.2.3))
+cert_answered known after line text Form said refused = absurd (read_stands said.2.0 said.2.3 (refused said.0 said.1 said.2.0 said.2.1))
+cert_answered known after line text Name said refused = absurd (refused.2.3 (free_again known said.0 refused.0 (sym said.1.0 ∙ refused.1.0) said.2.4))
 cert_answered known after line text Limit said refused =
-    let again = made_again refused.0 said.0 refused.2.0 (sym refused.1.0 ∙ said.1.0) refused.2.1 in
-    let one : length said.2.0 ≡ length refused.2.0 = ap length (one_made said.0 said.2.0 refused.2.0 said.2.1 again) in
+    let one : length said.2.0 ≡ length refused.2.0 = ap length (one_cert known line said.0 refused.0 said.2.0 refused.2.0 said.1 refused.1 said.2.1 refused.2.1) in
     absurd (omega (arith, one, said.2.2, refused.2.3))
 cert_answered known after line text Memory said refused = refl
 cert_answered known after line text Unknown said refused = absurd refused
@@ -41,17 +44,17 @@ cert_refused : (known : List Entry) (line : List ℕ) (fault other : LineFault) 
 cert_refused known line Memory other r s some more = absurd (some refl)
 cert_refused known line Unknown other r s some more = absurd r
 cert_refused known line Form Form r s some more = refl
-cert_refused known line Form Name r s some more = absurd (r s.0 s.1 s.2.0 s.2.1)
-cert_refused known line Form Limit r s some more = absurd (r s.0 s.1 s.2.1.0 s.2.1.1)
+cert_refused known line Form Name r s some more = absurd (s.2.2 (r s.0 s.1 s.2.0 s.2.1))
+cert_refused known line Form Limit r s some more = absurd (long_stands s.2.0 s.2.3 (r s.0 s.1 s.2.0 s.2.1))
 cert_refused known line Form Memory r s some more = absurd (more refl)
 cert_refused known line Form Unknown r s some more = absurd s
-cert_refused known line Name Form r s some more = absurd (s r.0 r.1 r.2.0 r.2.1)
+cert_refused known line Name Form r s some more = absurd (r.2.2 (s r.0 r.1 r.2.0 r.2.1))
 cert_refused known line Name Name r s some more = refl
-cert_refused known line Name Limit r s some more = absurd (r.2.2 (free_again known s.0 r.0 (sym s.1.0 ∙ r.1.0) s.2.2))
+cert_refused known line Name Limit r s some more = absurd (r.2.3 (free_again known s.0 r.0 (sym s.1.0 ∙ r.1.0) s.2.2))
 cert_refused known line Name Memory r s some more = absurd (more refl)
 cert_refused known line Name Unknown r s some more = absurd s
-cert_refused known line Limit Form r s some more = absurd (s r.0 r.1 r.2.1.0 r.2.1.1)
-cert_refused known line Limit Name r s some more = absurd (s.2.2 (free_again known r.0 s.0 (sym r.1.0 ∙ s.1.0) r.2.2))
+cert_refused known line Limit Form r s some more = absurd (long_stands r.2.0 r.2.3 (s r.0 r.1 r.2.0 r.2.1))
+cert_refused known line Limit Name r s some more = absurd (s.2.3 (free_again known r.0 s.0 (sym r.1.0 ∙ s.1.0) r.2.2))
 cert_refused known line Limit Limit r s some more = refl
 cert_refused known line Limit Memory r s some more = absurd (more refl)
 cert_refused known line Limit Unknown r s some more = absurd s
@@ -65,7 +68,13 @@ check_answered known line text Name said refused =
     let others = subst (AreKnown known) (sym said.5) tt in
     let are : AreKnown known (names_of said.0) = (λ none. cc (sym said.6 ∙ none), (λ none. cc (sym said.7 ∙ none), others)) in
     absurd (refused.3 (known_again known said.0 refused.0 (sym said.4.words ∙ refused.2.words) are))
-check_answered known line text Limit said refused = absurd (refused.4 (same_others refused.0 said.0 (sym refused.2.words ∙ said.4.words) ∙ said.5))
+check_answered known line text Limit said refused = absurd (elim refused.4 [
+  | inl more ↦ more (same_others refused.0 said.0 (sym refused.2.words ∙ said.4.words) ∙ said.5)
+  | inr beyond ↦
+      let target : octets_named known refused.0.target.now ≡ octets_named known said.0.target.now = ap (octets_named known) (same_target refused.0 said.0 (sym refused.2.words ∙ said.4.words)) in
+      let one : beyond.0 ≡ said.3 = let e = sym beyond.1 ∙ (target ∙ said.7) in cc in
+      said.8 (subst HasExtensions one beyond.2)
+])
 check_answered known line text Memory said refused = refl
 check_answered known line text Unknown said refused = absurd refused
 

@@ -1,21 +1,30 @@
 -- What a `cert` line says: the certificate that it makes known, or why it is refused.
-use Rattle.std.specs.Prelude.{◌≡◌, ◌≢◌, ℕ, ◌<◌, ◌≤◌, List, [], ◌∷◌, ◌++◌, length, None, codes}
+use Rattle.std.specs.Prelude.{◌≡◌, ◌≢◌, ℕ, ◌<◌, ◌≤◌, List, [], ◌∷◌, ◌++◌, length, map, true, false, is_ok, None, option_map, codes}
 use Rattle.std.specs.Fmt.{decimal}
 use Rattle.ts_time.specs.Text.{IsGeneral}
+use Rattle.ts_cert.specs.Reading.{certificate_of}
 use Rattle.ts_make.specs.declared.description.CertText.{CertText}
 use Rattle.ts_make.specs.Times.{IsTimeOf}
 use Rattle.ts_make.specs.Made.{made}
-use Rattle.trustd.specs.declared.answer.CertWords.{CertWords}
+use Rattle.trustd.specs.declared.cert_line.CertWords.{CertWords}
 use Rattle.trustd.specs.declared.script.LineFault.{LineFault}
 use Rattle.trustd.specs.declared.script.LineFault.TheVariants.{Unknown, Form, Name, Limit, Memory}
+use Rattle.trustd.specs.Pieces.{pieces_behind}
 use Rattle.trustd.specs.Words.{words_of, IsName, IsNumber, IsHex, IsDn}
+use Rattle.trustd.specs.Parts.{part_in}
+use Rattle.trustd.specs.ExtensionWords.{AreParts}
 use Rattle.trustd.specs.Known.{Entry, octets_named}
+
+-- the words behind the signer
+abbrev pub extension_words : CertWords → List (List ℕ)
+extension_words c = pieces_behind 32 (option_map (λ rest. rest.now) c.others)
 
 -- the words of a `cert` line, in their places
 unfoldable pub cert_line : CertWords → List (List ℕ)
 cert_line c =
     codes "cert" ∷ c.name.now ∷ codes "serial" ∷ c.serial.now ∷ codes "issuer" ∷ c.issuer.now ∷ codes "subject" ∷ c.subject.now
-    ∷ codes "from" ∷ c.from.now ∷ codes "to" ∷ c.to.now ∷ codes "key" ∷ c.key.now ∷ codes "signer" ∷ c.signer.now ∷ []
+    ∷ codes "from" ∷ c.from.now ∷ codes "to" ∷ c.to.now ∷ codes "key" ∷ c.key.now ∷ codes "signer" ∷ c.signer.now
+    ∷ extension_words c
 
 -- the words are those of the description
 pub record IsSaid (c : CertWords) (text : CertText) : Type 0 where
@@ -26,6 +35,7 @@ pub record IsSaid (c : CertWords) (text : CertText) : Type 0 where
   pub not_after : IsGeneral c.to.now text.to
   pub key : IsHex c.key.now text.key.now
   pub signer : IsHex c.signer.now text.signer.now
+  pub extensions : AreParts (extension_words c) (map part_in text.extensions.now)
 
 -- the octets are those of the certificate that the words describe
 abbrev pub IsMade : CertWords → List ℕ → Type 0
@@ -37,7 +47,7 @@ IsMade c octets =
 -- by its name from then on; before, nothing was
 abbrev pub IsKept : List Entry → CertWords → List ℕ → List Entry → Type 0
 IsKept known c text after =
-    (octets : List ℕ) × IsMade c octets × (length octets ≤ 65536) × (octets_named known c.name.now ≡ None)
+    (octets : List ℕ) × IsMade c octets × (length octets ≤ 65536) × (is_ok (certificate_of octets) ≡ true) × (octets_named known c.name.now ≡ None)
     × (after ≡ known ++ (c.name.now, octets) ∷ [])
     × (text ≡ codes "cert " ++ (c.name.now ++ (codes " " ++ (decimal (length octets) ++ codes "\n"))))
 
@@ -49,11 +59,15 @@ IsCertLine line c = (words_of line ≡ cert_line c) × IsName c.name.now
 abbrev pub IsCertSaid : List Entry → List ℕ → List ℕ → List Entry → Type 0
 IsCertSaid known line text after = (c : CertWords) × IsCertLine line c × IsKept known c text after
 
--- why the words of a `cert` line are refused: they describe nothing; they do, but the name is taken; it is not, but the
--- certificate would be too long
+-- octets that are not too long, and no certificate
+abbrev pub IsUnreadable : List ℕ → Type 0
+IsUnreadable octets = (length octets ≤ 65536) × (is_ok (certificate_of octets) ≡ false)
+
+-- why the words of a `cert` line are refused: they describe nothing, or what they describe is no certificate; they describe
+-- one, but the name is taken; it is not, but the certificate would be too long
 abbrev pub RefusesWords : List Entry → CertWords → LineFault → Type 0
-RefusesWords known c Form = (text : CertText) → ¬ (IsSaid c text)
-RefusesWords known c Name = (text : CertText) × IsSaid c text × (octets_named known c.name.now ≢ None)
+RefusesWords known c Form = (octets : List ℕ) → IsMade c octets → IsUnreadable octets
+RefusesWords known c Name = (octets : List ℕ) × IsMade c octets × ¬ (IsUnreadable octets) × (octets_named known c.name.now ≢ None)
 RefusesWords known c Limit = (octets : List ℕ) × IsMade c octets × (octets_named known c.name.now ≡ None) × (65536 < length octets)
 RefusesWords known c Memory = Unit {0}
 RefusesWords known c Unknown = ⊥

@@ -1,5 +1,5 @@
 -- What a `check` line says: the verdict that answers it, or why it is refused.
-use Rattle.std.specs.Prelude.{◌≡◌, ◌≢◌, ℕ, List, [], ◌∷◌, ◌++◌, ℤ, Some, None, option_map, Ok, codes}
+use Rattle.std.specs.Prelude.{◌≡◌, ◌≢◌, ◌⊎◌, ℕ, List, [], ◌∷◌, ◌++◌, ℤ, Some, None, option_map, Ok, codes}
 use Rattle.std.specs.List.{AllByRecursion}
 use Rattle.std.specs.Fmt.{decimal}
 use Rattle.ts_time.specs.Text.{IsGeneral}
@@ -11,7 +11,7 @@ use Rattle.ts_path.specs.declared.verdict.Verdict.TheVariants.{Valid, Invalid}
 use Rattle.ts_path.specs.Question.{Question, issuer_of}
 use Rattle.ts_path.specs.Verdict.{IsVerdict}
 use Rattle.ts_path.specs.Printed.{reason_text}
-use Rattle.trustd.specs.declared.answer.CheckWords.{CheckWords}
+use Rattle.trustd.specs.declared.check_line.CheckWords.{CheckWords}
 use Rattle.trustd.specs.declared.script.LineFault.{LineFault}
 use Rattle.trustd.specs.declared.script.LineFault.TheVariants.{Unknown, Form, Name, Limit, Memory}
 use Rattle.trustd.specs.Pieces.{pieces_behind}
@@ -41,6 +41,10 @@ IsJudged anchor target moment text =
     (a : Certificate) × (c : Certificate) × (v : Verdict) × (certificate_of anchor ≡ Ok a) × (certificate_of target ≡ Ok c)
     × IsVerdict (question a c moment) v × (text ≡ verdict_text v)
 
+-- the certificate of these octets has extensions
+abbrev pub HasExtensions : List ℕ → Type 0
+HasExtensions octets = (c : Certificate) × (certificate_of octets ≡ Ok c) × (c.tbsCertificate.extensions ≢ None)
+
 -- the names of a `check` line: the anchor, the certificate, and those behind it
 abbrev pub names_of : CheckWords → List (List ℕ)
 names_of c = c.anchor.now ∷ c.target.now ∷ others_of c
@@ -61,13 +65,17 @@ IsCheckSaid known line text =
     (c : CheckWords) × (moment : ℤ) × (anchor : List ℕ) × (target : List ℕ)
     × IsCheckLine line c moment × (others_of c ≡ [])
     × (octets_named known c.anchor.now ≡ Some anchor) × (octets_named known c.target.now ≡ Some target)
-    × IsJudged anchor target moment text
+    × ¬ (HasExtensions target) × IsJudged anchor target moment text
+
+-- more is asked than the lab answers: there is more than one name behind `chain`, or its certificate has extensions
+abbrev pub IsBeyond : List Entry → CheckWords → Type 0
+IsBeyond known c = (others_of c ≢ []) ⊎ ((target : List ℕ) × (octets_named known c.target.now ≡ Some target) × HasExtensions target)
 
 -- why a `check` line is refused: it has no words in their places; it has, but a name has no certificate; each has one, but
--- there is more than one name behind `chain`
+-- more is asked than the lab answers
 abbrev pub RefusesCheck : List Entry → List ℕ → LineFault → Type 0
 RefusesCheck known line Form = (c : CheckWords) (moment : ℤ) → ¬ (IsCheckLine line c moment)
 RefusesCheck known line Name = (c : CheckWords) × (moment : ℤ) × IsCheckLine line c moment × ¬ (AreKnown known (names_of c))
-RefusesCheck known line Limit = (c : CheckWords) × (moment : ℤ) × IsCheckLine line c moment × AreKnown known (names_of c) × (others_of c ≢ [])
+RefusesCheck known line Limit = (c : CheckWords) × (moment : ℤ) × IsCheckLine line c moment × AreKnown known (names_of c) × IsBeyond known c
 RefusesCheck known line Memory = Unit {0}
 RefusesCheck known line Unknown = ⊥

@@ -1,5 +1,8 @@
 pub mod Pieces
 pub mod Words
+pub mod Parts
+pub mod ExtensionWords
+pub mod OwnedParts
 pub mod Known
 pub mod Wrong
 pub mod CertLine

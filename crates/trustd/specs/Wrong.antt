@@ -3,6 +3,8 @@ use Rattle.std.specs.Prelude.{ℕ, List, [], ◌∷◌, ◌++◌, Option, None, 
 use Rattle.std.specs.Fmt.{decimal}
 use Rattle.hex.specs.declared.error.FromHexError.{FromHexError}
 use Rattle.hex.specs.declared.error.FromHexError.TheVariants.{InvalidHexCharacter, OddLength, InvalidStringLength, OutOfMemory}
+use Rattle.ts_der.specs.declared.oid_text.OidTextError.{OidTextError}
+use Rattle.ts_der.specs.declared.oid_text.OidTextError.TheVariants as text
 use Rattle.trustd.specs.declared.script.LineFault.{LineFault}
 use Rattle.trustd.specs.declared.script.LineFault.TheVariants.{Unknown, Form, Name, Limit, Memory}
 use Rattle.trustd.specs.declared.script.WrongLine.{WrongLine}
@@ -22,6 +24,11 @@ hex_fault OutOfMemory = Memory
 hex_fault OddLength = Form
 hex_fault InvalidStringLength = Form
 hex_fault (InvalidHexCharacter c index) = Form
+
+-- so is a text that is no object identifier
+abbrev pub oid_fault : OidTextError → LineFault
+oid_fault text.Memory = Memory
+oid_fault text.Form = Form
 
 -- what is printed of a wrong line, before the line feed
 abbrev pub wrong_line_text : WrongLine → List ℕ

@@ -3,6 +3,8 @@
 ghost use Rattle.std.specs.Prelude.{◌≡◌, ◌≢◌, ℕ, List};
 ghost use Rattle.trustd.specs.declared.script.LineFault.{LineFault};
 ghost use Rattle.trustd.specs.declared.script.LineFault.TheVariants.{Memory};
+ghost use Rattle.trustd.specs.Parts.{Part};
+ghost use Rattle.trustd.specs.ExtensionWords.{AreParts};
 ghost use Rattle.trustd.specs.Known.{Entry};
 ghost use Rattle.trustd.specs.Says.{Says, Refuses};
 
@@ -12,4 +14,9 @@ pub fn one_word()
         → Says known line text after → Refuses known line fault → fault ≡ Memory }
     ensures refused { (known : List Entry) (line : List ℕ) (fault other : LineFault)
         → Refuses known line fault → Refuses known line other → fault ≢ Memory → other ≢ Memory → fault ≡ other }
+{}
+
+/// Words behind the signer say one list of parts.
+pub fn one_reading()
+    ensures { (words : List (List ℕ)) (parts others : List Part) → AreParts words parts → AreParts words others → parts ≡ others }
 {}

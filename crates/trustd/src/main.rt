@@ -4,7 +4,13 @@
 ghost use Rattle.std.specs.Prelude.{◌≤◌};
 
 mod answer;
+mod cert_line;
+mod check_line;
 mod command_line;
+#[cfg(test)]
+mod example_tests;
+mod extension_words;
+mod keyword;
 mod lab;
 mod laws;
 mod named;
@@ -12,6 +18,8 @@ mod scanner;
 mod script;
 #[cfg(test)]
 mod tests;
+#[cfg(test)]
+mod word_tests;
 mod words;
 
 use command_line::Task;

@@ -1,12 +1,13 @@
 //! The lines of a script that are refused.
 
 ghost use Rattle.std.specs.Prelude.{◌≡◌, Some};
-ghost use Rattle.trustd.specs.Wrong.{fault_word, hex_fault, wrong_line_text};
+ghost use Rattle.trustd.specs.Wrong.{fault_word, hex_fault, oid_fault, wrong_line_text};
 ghost use Rattle.trustd.specs.declared.script.LineFault.TheVariants.{Memory};
 
 use hex::FromHexError;
 use std::alloc::{AllocError, AllocFailed};
 use std::fmt;
+use ts_der::OidTextError;
 
 /// Ends a line.
 pub const LINE_FEED: u8 = b'\n';
@@ -67,6 +68,18 @@ impl From<FromHexError> for LineFault {
         match error {
             FromHexError::OutOfMemory => LineFault::Memory,
             _ => LineFault::Form,
+        }
+    }
+}
+
+/// A text that is no object identifier has the wrong form.
+impl From<OidTextError> for LineFault {
+    ghost from_gives = { λ error fault. fault ≡ oid_fault error };
+
+    fn from(error: OidTextError) -> LineFault {
+        match error {
+            OidTextError::Memory => LineFault::Memory,
+            OidTextError::Form => LineFault::Form,
         }
     }
 }

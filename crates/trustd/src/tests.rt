@@ -99,7 +99,7 @@ impl Write for Full {
 }
 
 /// Whether the lab ends with this status, and has written this text.
-fn answers<R: Read + Drop>(alloc: Global, mut reader: R, status: u8, text: &[u8]) -> bool {
+pub fn answers<R: Read + Drop>(alloc: Global, mut reader: R, status: u8, text: &[u8]) -> bool {
     let mut written = Vec::new(alloc);
     lab(alloc, &mut reader, &mut written) == status && written.as_slice() == text
 }
