@@ -49,7 +49,7 @@ joined f g =
 
 -- ---- one entry
 
--- what is found in extensions by their values and object identifiers, whichever places they have
+-- what is found in extensions, looked at one by one
 abbrev pub found_among : List Standing → Findings
 found_among xs =
     record {

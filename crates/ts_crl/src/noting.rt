@@ -36,7 +36,7 @@ fn next_extension<'a>(rest: &mut Reader<'a>) -> Result<Extension<'a>, Fault>
     Extension::read(rest.next()?)
 }
 
-/// Reads the extensions that a SEQUENCE's content is, of which there is one or more, and counts them.
+/// Reads the extensions that a SEQUENCE's content is, one or more, adds what is found in each, and counts them.
 fn note_extensions<'a>(element: Element<'a>, findings: &mut Findings<'a>) -> Result<usize, Fault>
     ensures { NotesAmong (findings_in findings.old) (findings_in findings.new) result (some_of standing_in (now element.entry)) }
 {
@@ -78,7 +78,7 @@ fn or_repeat(found: Option<CertFault>, placed: Placed<'_>, count: usize) -> Opti
     }
 }
 
-/// Reads the extensions of an entry, which are those that a SEQUENCE is.
+/// Reads the extensions of an entry, which are those that a SEQUENCE is, and adds what is found in them.
 #[tactic(auto, unfolding(crate::specs::Reading::extensions_of))]
 fn note_placed<'a>(element: Element<'a>, findings: &mut Findings<'a>) -> Result<(), Fault>
     ensures { Notes found_in (findings_in findings.old) (findings_in findings.new) result (extensions_of (now element.entry)) }
@@ -93,7 +93,7 @@ fn note_placed<'a>(element: Element<'a>, findings: &mut Findings<'a>) -> Result<
     Ok(())
 }
 
-/// Reads the extensions of an entry, where they stand next.
+/// The same of extensions that may stand next.
 #[tactic(auto, unfolding(ts_name::specs::Fields::optional_of, ts_der::specs::Reading::optional_at))]
 fn note_extensions_if_any<'a>(
     fields: &mut Reader<'a>,
@@ -107,7 +107,7 @@ fn note_extensions_if_any<'a>(
     }
 }
 
-/// Reads the entry that a SEQUENCE is.
+/// Reads the entry that a SEQUENCE is, and adds what is found in its extensions.
 #[tactic(auto, unfolding(crate::specs::Reading::entry_of))]
 fn note_entry<'a>(element: Element<'a>, findings: &mut Findings<'a>) -> Result<(), Fault>
     ensures { Notes (λ x. findings_of (x ∷ [])) (findings_in findings.old) (findings_in findings.new) result (entry_of (now element.entry)) }
