@@ -145,3 +145,119 @@ fn looks_for_the_form_before_the_name(rt: HostRuntime) {
         assert!(rt; answered == Ok(true), "{words:?}");
     }
 }
+
+/// Words that are taken, and what answers the line: the number of octets is that of another encoder.
+const TAKEN: [(&[u8], &[u8]); 40] = [
+    (b"", b"cert A 138\n"),
+    (b" ca", b"cert A 159\n"),
+    (b" ca=0", b"cert A 162\n"),
+    (b" ca=4294967295", b"cert A 166\n"),
+    (b" usage=0", b"cert A 158\n"),
+    (b" usage=5,6", b"cert A 158\n"),
+    (b" usage=6,5", b"cert A 158\n"),
+    (b" usage=8", b"cert A 159\n"),
+    (b" usage=5 usage=6", b"cert A 158\n"),
+    (b" dns=", b"cert A 155\n"),
+    (b" dns=a.example", b"cert A 164\n"),
+    (b" mail=", b"cert A 155\n"),
+    (b" mail=a@b.example", b"cert A 166\n"),
+    (b" ip=7f000001", b"cert A 159\n"),
+    (b" ip=00000000000000000000000000000001", b"cert A 171\n"),
+    (b" dns=a dns=b ip=7f000001 mail=c@d", b"cert A 170\n"),
+    (b" permit-dns=example", b"cert A 169\n"),
+    (b" exclude-dns=", b"cert A 162\n"),
+    (b" permit-ip=0a000000ff000000", b"cert A 170\n"),
+    (
+        b" exclude-ip=00000000000000000000000000000000ffffffffffffffffffffffffffffffff",
+        b"cert A 195\n",
+    ),
+    (b" permit-mail=b.example", b"cert A 171\n"),
+    (b" exclude-mail=c@d", b"cert A 165\n"),
+    (b" permit-dns=a exclude-dns=b permit-dns=c", b"cert A 175\n"),
+    (b" crldp=http://c.example/x?a=b", b"cert A 184\n"),
+    (b" crldp=a crldp=b", b"cert A 171\n"),
+    (b" policy=2.5.29.32.0", b"cert A 161\n"),
+    (b" policy=1.2.3 policy=1.2.4", b"cert A 165\n"),
+    (b" map=1.2.3>1.2.4", b"cert A 166\n"),
+    (b" map=1.2.3>1.2.4 map=1.2.3>1.2.5", b"cert A 177\n"),
+    (b" require=0", b"cert A 159\n"),
+    (b" require=128", b"cert A 160\n"),
+    (b" nomapping=1", b"cert A 159\n"),
+    (b" require=0 nomapping=4294967295", b"cert A 166\n"),
+    (b" eku=1.3.6.1.5.5.7.3.1", b"cert A 163\n"),
+    (b" eku=1.2.3 eku=2.5.29.37.0", b"cert A 163\n"),
+    (b" noany=0", b"cert A 157\n"),
+    (b" critical=1.2.3", b"cert A 155\n"),
+    (b" critical=1.2.3 critical=1.2.4", b"cert A 168\n"),
+    (
+        b" usage=5 dns=a ca permit-dns=a crldp=u policy=1.2.3 map=1.2.3>1.2.4 require=0 eku=1.2.3 noany=1 critical=1.2.5",
+        b"cert A 336\n",
+    ),
+    (b" noany=1 ca=2 usage=5", b"cert A 194\n"),
+];
+
+#[test]
+fn takes_words_of_each_form(rt: HostRuntime) {
+    for &(words, text) in &TAKEN {
+        let taken = answers_words(rt.alloc(), words, 0, text);
+        assert!(rt; taken == Ok(true), "{words:?}");
+    }
+}
+
+/// Words that describe no certificate.
+const UNREADABLE: [&[u8]; 9] = [
+    b" dns=\xc3\xa9",
+    b" mail=\xc3\xa9@a",
+    b" crldp=\xc3\xa9",
+    b" ip=7f0000",
+    b" permit-ip=7f000001",
+    b" exclude-ip=0a0000ff0000",
+    b" policy=1.2.3 policy=1.2.3",
+    b" critical=1.2.3 critical=1.2.3",
+    b" ca critical=2.5.29.19",
+];
+
+#[test]
+fn refuses_words_that_describe_no_certificate(rt: HostRuntime) {
+    for &words in &UNREADABLE {
+        let refused = answers_words(rt.alloc(), words, 2, b"line 1: form\n");
+        assert!(rt; refused == Ok(true), "{words:?}");
+    }
+    for &words in &UNREADABLE {
+        let refused = answers_again(rt.alloc(), words, b"cert A 138\nline 2: form\n");
+        assert!(rt; refused == Ok(true), "{words:?}");
+    }
+}
+
+/// Certificates with and without extensions.
+const WITH_AND_WITHOUT: &str =
+    "cert R serial 1 issuer CN=R subject CN=R from 20260101000000Z to 20270101000000Z key 61 signer 61 ca
+cert L serial 2 issuer CN=R subject CN=L from 20260101000000Z to 20270101000000Z key 62 signer 61 dns=
+cert P serial 2 issuer CN=R subject CN=L from 20260101000000Z to 20270101000000Z key 62 signer 61
+";
+
+/// A line behind them, the status, and what answers it.
+const CHECKS: [(&str, u8, &str); 5] = [
+    ("check R at 20260601000000Z chain P", 0, "check valid -\n"),
+    ("check R at 20260601000000Z chain L", 2, "line 4: limit\n"),
+    ("check P at 20260601000000Z chain R", 2, "line 4: limit\n"),
+    ("check X at 20260601000000Z chain L", 2, "line 4: name\n"),
+    ("check R at 20260601000000Z chain P P", 2, "line 4: limit\n"),
+];
+
+/// Whether a line behind these certificates is answered so.
+fn checks(alloc: Global, line: &str, status: u8, text: &str) -> Result<bool, AllocError> {
+    let script = format!(in alloc; "{WITH_AND_WITHOUT}{line}\n")?;
+    let all = format!(in alloc; "cert R 159\ncert L 155\ncert P 138\n{text}")?;
+    Ok(answers(alloc, script.as_bytes(), status, all.as_bytes()))
+}
+
+#[test]
+fn extensions_of_the_anchor_do_not_count(rt: HostRuntime) {
+    for &(line, status, text) in &CHECKS {
+        assert!(rt;
+            checks(rt.alloc(), line, status, text) == Ok(true),
+            "{line}"
+        );
+    }
+}
