@@ -3,6 +3,7 @@ pub mod Cutting
 pub mod Decoding
 pub mod DottedText
 pub mod Keywords
+pub mod SameParts
 pub mod OneCertificate
 pub mod OneParts
 pub mod OneWord

@@ -13,6 +13,8 @@ use Rattle.trustd.specs.declared.cert_line.CertWords.{CertWords}
 use Rattle.trustd.specs.Words.{IsDn, kind_word, rdn_word}
 use Rattle.trustd.specs.Parts.{part_in}
 use Rattle.trustd.specs.CertLine.{IsMade, extension_words}
+use Rattle.ts_make.specs.Extensions.{described_extensions}
+use Rattle.trustd.proofs.SameParts.{extensions_same}
 use Rattle.trustd.proofs.OneParts.{one_number, one_hex, one_parts}
 
 abbrev first_octet : List ℕ → ℕ
@@ -46,9 +48,9 @@ one_dn word xs ys is other = one_list xs ys (sym is.pieces ∙ other.pieces)
 -- what is made depends on what is described
 made_same : (before after before' after' : List ℕ) (t u : CertText) → before ≡ before' → after ≡ after' → t.serial ≡ u.serial
     → rdns_in t.issuer.now ≡ rdns_in u.issuer.now → rdns_in t.subject.now ≡ rdns_in u.subject.now → t.key.now ≡ u.key.now → t.signer.now ≡ u.signer.now
-    → map part_in t.extensions.now ≡ map part_in u.extensions.now → made before after t ≡ made before' after' u
+    → described_extensions t.extensions.now ≡ described_extensions u.extensions.now → made before after t ≡ made before' after' u
 unfolding made tbs_octets tbs_content name_octets key_octets
-made_same before after before' after' t u e f serial issuer subject key signer extensions = cc
+made_same before after before' after' t u e f serial issuer subject key signer extensions = rw (e, f, serial, issuer, subject, key, signer, extensions) refl
 
 -- one list of octets is the certificate that the words describe
 pub one_made : (c : CertWords) (octets others : List ℕ) → IsMade c octets → IsMade c others → octets ≡ others
@@ -64,5 +66,5 @@ one_made c octets others is also =
     let same = made_same is.2 is.3 also.2 also.3 t u before after (one_number c.serial.now t.serial u.serial said.serial again.serial)
     (one_dn c.issuer.now t.issuer.now u.issuer.now said.issuer again.issuer) (one_dn c.subject.now t.subject.now u.subject.now said.subject again.subject)
     (one_hex c.key.now t.key.now u.key.now said.key again.key) (one_hex c.signer.now t.signer.now u.signer.now said.signer again.signer)
-    (one_parts (extension_words c) (map part_in t.extensions.now) (map part_in u.extensions.now) said.extensions again.extensions) in
+    (extensions_same t.extensions.now u.extensions.now (one_parts (extension_words c) (map part_in t.extensions.now) (map part_in u.extensions.now) said.extensions again.extensions)) in
     is.6 ∙ (same ∙ sym also.6)

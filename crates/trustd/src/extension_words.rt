@@ -1,27 +1,24 @@
 //! The words that say extensions, decoded.
 
-ghost use Rattle.std.specs.Prelude.{◌≡◌, ◌++◌, ◌+◌, ℕ, List, [], None, map, option_map, IfOk, IfErr, IsTrue, ◌↔◌, OnOk};
+ghost use Rattle.std.specs.Prelude.{◌≡◌, ◌++◌, List, None, map, option_map, IfOk, IfErr, IsTrue, ◌↔◌, OnOk};
 ghost use Rattle.std.specs.List.{AllByRecursion, flat_map};
-ghost use Rattle.ts_der.specs.Octets.{AreOctets};
 ghost use Rattle.trustd.specs.declared.keyword.Keyword.{Keyword};
 ghost use Rattle.trustd.specs.Pieces.{pieces_behind};
-ghost use Rattle.trustd.specs.Words.{IsNumber, RefusesWord};
+ghost use Rattle.trustd.specs.Words.{RefusesWord};
 ghost use Rattle.trustd.specs.Parts.{Part, PartName, name_in, part_in, usage_bit};
-ghost use Rattle.trustd.specs.ExtensionWords.{IsText, IsDotted, IsNumbers, IsMapping, IsNameValue, SaysValue, SaysWith, IsWord, AreWords, StandsOnce, AreParts, once};
+ghost use Rattle.trustd.specs.ExtensionWords.{IsNameValue, SaysValue, SaysWith, IsWord, AreWords, StandsOnce, AreParts, once};
 ghost use Rattle.trustd.specs.OwnedParts.{name_of, parts_of};
 
 use crate::keyword::{Keyword, NameKind};
 use crate::script::LineFault;
-use crate::words::{SPACE, first_piece, number_of, octets_of};
-use std::alloc::{AllocError, AllocFailed, Global};
-use ts_der::{Oid, OidRef, OidTextError};
+use crate::values::{number_in, numbers_in, oid_in, text_in};
+use crate::words::{SPACE, first_piece, octets_of};
+use std::alloc::{AllocError, Global};
+use ts_der::Oid;
 use ts_make::{ExtensionText, NameText};
 
 /// Stands between a keyword and its value.
 const EQUALS: u8 = b'=';
-
-/// Stands between two numbers.
-const COMMA: u8 = b',';
 
 /// Stands between the two policies of a mapping.
 const ARROW: u8 = b'>';
@@ -140,9 +137,7 @@ impl<'a> ExtensionWord<'a> {
             _ => Err(LineFault::Form),
         }
     }
-}
 
-impl<'a> ExtensionWord<'a> {
     /// Appends the parts that the word says.
     fn append_to(&'a self, parts: &mut Vec<ExtensionText<'a>>) -> Result<(), AllocError>
         ensures { OnOk result (map part_in parts.new.items ≡ map part_in parts.old.items ++ parts_of self.now) }
@@ -181,55 +176,6 @@ fn append_bits<'a>(bits: &[u32], parts: &mut Vec<ExtensionText<'a>>) -> Result<(
     }
     Ok(())
 }
-
-/// The number that a value writes.
-fn number_in(value: &[u8]) -> Result<u32, LineFault>
-    ensures found { IfOk result (IsNumber value.now) }
-    ensures fault { IfErr result (RefusesWord ((number : ℕ) → ¬ (IsNumber value.now number))) }
-{
-    number_of(value).ok_or(LineFault::Form)
-}
-
-/// The text that a value is.
-fn text_in(value: &[u8]) -> Result<&str, LineFault>
-    ensures found { IfOk result (λ text. IsText value.now text.now) }
-    ensures fault { IfErr result (RefusesWord ((text : List ℕ) → ¬ (IsText value.now text))) }
-{
-    str::from_utf8(value).map_err(|_| LineFault::Form)
-}
-
-/// One or more numbers, joined by commas.
-fn numbers_in(alloc: Global, value: &[u8]) -> Result<Vec<u32>, LineFault>
-    ensures found { IfOk result (λ numbers. IsNumbers value.now numbers.items) }
-    ensures fault { IfErr result (RefusesWord ((numbers : List ℕ) → ¬ (IsNumbers value.now numbers))) }
-{
-    let mut numbers = Vec::new(alloc);
-    let mut rest = Some(value);
-    while let Some(left) = rest {
-        let (piece, behind) = first_piece(left, COMMA);
-        let Some(number) = number_of(piece) else {
-            return Err(LineFault::Form);
-        };
-        numbers.push(number)?;
-        rest = behind;
-    }
-    Ok(numbers)
-}
-
-/// The object identifier of a dotted form.
-fn oid_in(alloc: Global, value: &[u8]) -> Result<Oid, LineFault>
-    ensures found { IfOk result (IsDotted value.now) }
-    ensures fault { IfErr result (RefusesWord ((content : List ℕ) → ¬ (IsDotted value.now content))) }
-{
-    let oid = Oid::from_text(alloc, text_in(value)?)?;
-    are_octets(oid.as_ref().content);
-    Ok(oid)
-}
-
-/// Octets are below 256.
-fn are_octets(octets: &[u8])
-    ensures { AreOctets octets.now }
-{}
 
 /// Two object identifiers, joined by `>`.
 fn mapping_in<'a>(alloc: Global, value: &[u8]) -> Result<ExtensionWord<'a>, LineFault>

@@ -18,6 +18,7 @@ mod scanner;
 mod script;
 #[cfg(test)]
 mod tests;
+mod values;
 #[cfg(test)]
 mod word_tests;
 mod words;

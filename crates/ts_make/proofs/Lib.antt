@@ -1,4 +1,5 @@
 pub mod Pieces
+pub mod SameParts
 pub mod TooLong
 pub mod OneTime
 pub mod Fields

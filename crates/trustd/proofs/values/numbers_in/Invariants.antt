@@ -3,7 +3,7 @@ use Rattle.std.proofs.Common.{◌≡◌, ◌<◌, ◌^◌, ◌++◌, map, length
 use Rattle.std.specs.List.{AllByRecursion}
 use Rattle.std.specs.Fmt.{decimal}
 use Rattle.trustd.specs.Pieces.{pieces_of, pieces_behind}
-use Rattle.trustd.proofs.extension_words.numbers_in.Given as goal
+use Rattle.trustd.proofs.values.numbers_in.Given as goal
 
 abbrev pub invariant-loop-rest : goal.invariant-loop-rest
 invariant-loop-rest l = record {

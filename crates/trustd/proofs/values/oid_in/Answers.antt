@@ -2,7 +2,7 @@
 use Rattle.std.proofs.lemmas.Result.{err_from_is_err_and}
 use Rattle.trustd.proofs.Decoding.{refused_more}
 use Rattle.trustd.proofs.DottedText.{IsDotted-IsText}
-use Rattle.trustd.proofs.extension_words.oid_in.Goals as goal
+use Rattle.trustd.proofs.values.oid_in.Goals as goal
 
 pub returns-in_err-text_in-clause-fault : goal.returns-in_err-text_in-clause-fault
 returns-in_err-text_in-clause-fault c =

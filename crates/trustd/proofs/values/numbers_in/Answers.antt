@@ -3,7 +3,7 @@ use Rattle.std.proofs.Common.{◌≡◌, ◌∷◌, ℕ, List, Bor, map, option_
 use Rattle.std.specs.Fmt.{decimal}
 use Rattle.trustd.specs.Pieces.{pieces_behind}
 use Rattle.trustd.proofs.Decoding.{no_numbers}
-use Rattle.trustd.proofs.extension_words.numbers_in.Goals as goal
+use Rattle.trustd.proofs.values.numbers_in.Goals as goal
 
 abbrev here : Bor (List ℕ) → List ℕ
 here rest = rest.now
