@@ -2,6 +2,7 @@ pub mod Pieces
 pub mod SameParts
 pub mod TooLong
 pub mod OneTime
+pub mod ListPieces
 pub mod Fields
 pub mod StandIns
 pub mod BitFlags

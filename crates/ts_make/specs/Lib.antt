@@ -10,4 +10,7 @@ pub mod Made
 pub mod Writing
 pub mod Making
 pub mod Sayable
+pub mod ListExtensions
+pub mod ListMade
+pub mod ListMaking
 pub mod Printed
