@@ -17,4 +17,5 @@ pub mod Said
 pub mod Spelled
 pub mod Refused
 pub mod SignedRead
+pub mod ListSpelled
 pub mod Answered

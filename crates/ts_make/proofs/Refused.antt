@@ -42,11 +42,11 @@ use Rattle.ts_make.proofs.Spelled.{fields-short, parts-short}
 
 -- ---- times
 
-fits-empty : Fits 0x18 []
+pub fits-empty : Fits 0x18 []
 fits-empty = record { octet = omega arith; low = omega arith; short = omega arith }
 
 -- an empty GeneralizedTime is no time
-empty-time : (here : Place) (rest : List ℕ) → here.rest ≡ spell 0x18 [] ++ rest → time_at here ≡ Err (fault_at here.at TimeRule)
+pub empty-time : (here : Place) (rest : List ℕ) → here.rest ≡ spell 0x18 [] ++ rest → time_at here ≡ Err (fault_at here.at TimeRule)
 unfolding time_at time_of general_in numbers_in
 empty-time here rest e =
     let one = next-only here 0x18 [] rest fits-empty e in
@@ -80,7 +80,7 @@ second-refused e b t is whole =
     let second = empty-time behind [] (sym (append-nil (spell 0x18 []))) in
     (e.start + length b, rw (first, second) refl)
 
-outside-is : (octets : List ℕ) (m : ℤ) → IsTimeOf octets m → (IsInYears 0 9999 m → ⊥) → octets ≡ spell 0x18 []
+pub outside-is : (octets : List ℕ) (m : ℤ) → IsTimeOf octets m → (IsInYears 0 9999 m → ⊥) → octets ≡ spell 0x18 []
 outside-is octets m is outside = is.outside (λ utc. outside (IsInYears-wider 1950 2049 m (omega arith) utc)) outside
 
 -- one of the moments lies outside the years 0 to 9999, and no earlier one does

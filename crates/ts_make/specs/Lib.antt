@@ -13,4 +13,5 @@ pub mod Sayable
 pub mod ListExtensions
 pub mod ListMade
 pub mod ListMaking
+pub mod ListDescription
 pub mod Printed
