@@ -18,4 +18,6 @@ pub mod Spelled
 pub mod Refused
 pub mod SignedRead
 pub mod ListSpelled
+pub mod ListRefused
+pub mod ListAnswered
 pub mod Answered

@@ -1,11 +1,13 @@
 -- What a description says of a list of revoked certificates (RFC 5280 5.1).
-use Rattle.std.specs.Prelude.{◌≡◌, ℕ, true, List, [], ◌∷◌, Some, None, pos}
+use Rattle.std.specs.Prelude.{◌≡◌, ℕ, true, List, [], ◌∷◌, Some, None, Result, Ok, Err, pos}
 use Rattle.ts_der.specs.Integer.{twos_complement}
 use Rattle.ts_cert.specs.declared.time.Time.{Time}
 use Rattle.ts_sig.specs.Key.{Key}
 use Rattle.ts_sig.specs.StandIn.{stand_in_accepts}
 use Rattle.ts_crl.specs.declared.version.ListVersion.TheVariants.{V2}
 use Rattle.ts_crl.specs.Entries.{entries_of}
+use Rattle.ts_crl.specs.Fault.{ListFault}
+use Rattle.ts_crl.specs.Profile.{profile_fault}
 use Rattle.ts_crl.specs.List.{RevokedCertificate, CertificateList}
 use Rattle.ts_make.specs.declared.list_description.EntryText.{EntryText}
 use Rattle.ts_make.specs.declared.list_description.CrlText.{CrlText}
@@ -42,3 +44,8 @@ abbrev pub IsListSignedBy : List ℕ → CertificateList → Type 0
 IsListSignedBy signer c =
     let key : Key = record { algorithm = c.signatureAlgorithm.algorithm; parameters = c.signatureAlgorithm.parameters; octets = signer } in
     stand_in_accepts c.signatureAlgorithm.whole key c.tbs c.signatureValue ≡ true
+
+-- reading gives the list, or refuses it by the first rule of this profile that it breaks
+abbrev pub IsReadAs : Result CertificateList ListFault → CertificateList → Type 0
+IsReadAs (Ok c) list = c ≡ list
+IsReadAs (Err f) list = profile_fault list ≡ Some f
