@@ -20,4 +20,5 @@ pub mod SignedRead
 pub mod ListSpelled
 pub mod ListRefused
 pub mod ListAnswered
+pub mod ListRules
 pub mod Answered

@@ -27,7 +27,7 @@ use Rattle.ts_make.specs.Sayable.{IfWritten}
 use Rattle.ts_make.specs.Times.{IsTimeOf}
 use Rattle.ts_make.specs.ListExtensions.{reason_extension, list_extensions}
 use Rattle.ts_make.specs.ListMade.{list_tbs, made_list}
-use Rattle.ts_make.specs.ListMaking.{IsWhole, AnswersWhole, AreSerials, IsSayableList}
+use Rattle.ts_make.specs.ListMaking.{IsTaken, AnswersMadeList, AreSerials, IsSayableList}
 use Rattle.ts_make.specs.ListDescription.{AreEntriesOf, IsListDescribed, IsListSignedBy, IsReadAs}
 use Rattle.ts_make.proofs.OneTime.{in_years_or_not}
 use Rattle.ts_make.proofs.SerialNumbers.{serial-is}
@@ -36,7 +36,7 @@ use Rattle.ts_make.proofs.ListSpelled.{entry_said, revoked_said, list_said, list
 use Rattle.ts_make.proofs.ListRefused.{IsOutsideList, list-refused}
 
 -- both moments lie in the years 0 to 9999, or one does not
-in_years : (text : CrlText) → (IsInYears 0 9999 text.this_update × IsInYears 0 9999 text.next_update) ⊎ IsOutsideList text
+pub in_years : (text : CrlText) → (IsInYears 0 9999 text.this_update × IsInYears 0 9999 text.next_update) ⊎ IsOutsideList text
 in_years text =
     elim (in_years_or_not 0 9999 text.this_update) [
       | inr outside ↦ inr (inl outside)
@@ -66,26 +66,26 @@ is-list-read t n text sayable from to le from_in to_in =
     let s = shape-again (made_list t n text) (list_said t n issued.time next.time text) le (list-signed-is t n issued.time next.time text sayable issued.is next.is le) in
     record { issued = issued.time; next = next.time; issued_at = issued.says; next_at = next.says; standing = s.0; shape = s.1; same = s.2 }
 
-crl-read : (octets : List ℕ) (l : StandingList) → shape_of octets ≡ Ok l → crl_of octets ≡ unless_broken l (list_fault l)
+pub crl-read : (octets : List ℕ) (l : StandingList) → shape_of octets ≡ Ok l → crl_of octets ≡ unless_broken l (list_fault l)
 unfolding crl_of
 crl-read octets l shape = rw shape refl
 
-none-placed : (o : Option CertFault) (p : Option ListFault) (l : StandingList) → IsWhole (unless_broken l (option_map (λ f. broken f) o or_else p)) → o ≡ None
+none-placed : (o : Option CertFault) (p : Option ListFault) (l : StandingList) → IsTaken (unless_broken l (option_map (λ f. broken f) o or_else p)) → o ≡ None
 none-placed None p l w = refl
 none-placed (Some f) p l w = absurd w
 
 -- where no rule that has a place is broken, those of the profile are left
-profile-left : (l : StandingList) → placed_fault l ≡ None → unless_broken l (list_fault l) ≡ unless_broken l (profile_fault (said_list l))
+pub profile-left : (l : StandingList) → placed_fault l ≡ None → unless_broken l (list_fault l) ≡ unless_broken l (profile_fault (said_list l))
 profile-left l none = ap (λ (o : Option CertFault). unless_broken l (option_map (λ f. broken f) o or_else profile_fault (said_list l))) none
 
 read-as : (l : StandingList) (o : Option ListFault) → profile_fault (said_list l) ≡ o → IsReadAs (unless_broken l o) (said_list l)
 read-as l None e = refl
 read-as l (Some f) e = e
 
-whole-read : (octets : List ℕ) (l : StandingList) → shape_of octets ≡ Ok l → IsWhole (crl_of octets) → IsReadAs (crl_of octets) (said_list l)
+whole-read : (octets : List ℕ) (l : StandingList) → shape_of octets ≡ Ok l → IsTaken (crl_of octets) → IsReadAs (crl_of octets) (said_list l)
 whole-read octets l shape w =
     let read = crl-read octets l shape in
-    let none = none-placed (placed_fault l) (profile_fault (said_list l)) l (subst IsWhole read w) in
+    let none = none-placed (placed_fault l) (profile_fault (said_list l)) l (subst IsTaken read w) in
     subst (λ (r : Result CertificateList ListFault). IsReadAs r (said_list l)) (sym (read ∙ profile-left l none)) (read-as l (profile_fault (said_list l)) refl)
 
 -- ---- what it says
@@ -123,11 +123,11 @@ is-signed t n text issued next =
     let digest = sha256 (text.signer.now ++ list_tbs t n text) in
     rw ((bytes_eq-Decides digest digest).1 refl) refl
 
-not-whole : (r : Result CertificateList ListFault) (f : CertFault) → r ≡ Err (broken f) → IsWhole r → ⊥
-not-whole r f e w = subst IsWhole e w
+not-whole : (r : Result CertificateList ListFault) (f : CertFault) → r ≡ Err (broken f) → IsTaken r → ⊥
+not-whole r f e w = subst IsTaken e w
 
 pub list-years : (t n : List ℕ) (text : CrlText) → IsSayableList text → IsTimeOf t text.this_update → IsTimeOf n text.next_update → length (made_list t n text) ≤ 1048576
-    → IsWhole (crl_of (made_list t n text)) → IsInYears 0 9999 text.this_update × IsInYears 0 9999 text.next_update
+    → IsTaken (crl_of (made_list t n text)) → IsInYears 0 9999 text.this_update × IsInYears 0 9999 text.next_update
 list-years t n text sayable from to le w =
     elim (in_years text) [
       | inl years ↦ years
@@ -137,7 +137,7 @@ list-years t n text sayable from to le w =
 -- ---- the clauses
 
 pub answers-described : (r : Result (Vec ℕ Global) MakeFault) (t n : List ℕ) (text : CrlText) → IfWritten r (IsSayableList text) → IsTimeOf t text.this_update → IsTimeOf n text.next_update
-    → AnswersWhole r (made_list t n text)
+    → AnswersMadeList r (made_list t n text)
     → IfOk r (λ v. (l : StandingList) × (shape_of v.items ≡ Ok l) × IsListDescribed text (said_list l) × IsReadAs (crl_of v.items) (said_list l))
 answers-described (Ok v) t n text sayable from to h =
     let years = list-years t n text sayable from to h.1 h.2 in
@@ -151,7 +151,7 @@ answers-described (Ok v) t n text sayable from to h =
 answers-described (Err e) t n text sayable from to h = tt
 
 pub answers-signed : (r : Result (Vec ℕ Global) MakeFault) (t n : List ℕ) (text : CrlText) → IfWritten r (IsSayableList text) → IsTimeOf t text.this_update → IsTimeOf n text.next_update
-    → AnswersWhole r (made_list t n text) → IfOk r (λ v. (l : StandingList) × (shape_of v.items ≡ Ok l) × IsListSignedBy text.signer.now (said_list l))
+    → AnswersMadeList r (made_list t n text) → IfOk r (λ v. (l : StandingList) × (shape_of v.items ≡ Ok l) × IsListSignedBy text.signer.now (said_list l))
 answers-signed (Ok v) t n text sayable from to h =
     let years = list-years t n text sayable from to h.1 h.2 in
     let is = is-list-read t n text sayable from to h.1 years.0 years.1 in
@@ -159,6 +159,6 @@ answers-signed (Ok v) t n text sayable from to h =
 answers-signed (Err e) t n text sayable from to h = tt
 
 pub answers-years : (r : Result (Vec ℕ Global) MakeFault) (t n : List ℕ) (text : CrlText) → IfWritten r (IsSayableList text) → IsTimeOf t text.this_update → IsTimeOf n text.next_update
-    → AnswersWhole r (made_list t n text) → OnOk r (IsInYears 0 9999 text.this_update × IsInYears 0 9999 text.next_update)
+    → AnswersMadeList r (made_list t n text) → OnOk r (IsInYears 0 9999 text.this_update × IsInYears 0 9999 text.next_update)
 answers-years (Ok v) t n text sayable from to h = list-years t n text sayable from to h.1 h.2
 answers-years (Err e) t n text sayable from to h = tt

@@ -22,17 +22,17 @@ use Rattle.ts_make.specs.Told.{IsSmallIfAny}
 use Rattle.ts_make.specs.ListExtensions.{list_extensions}
 
 -- no rule that has a place is broken
-abbrev pub IsWhole : Result CertificateList ListFault → Type 0
-IsWhole (Ok c) = Unit {0}
-IsWhole (Err (broken fault)) = ⊥
-IsWhole (Err other) = Unit {0}
+abbrev pub IsTaken : Result CertificateList ListFault → Type 0
+IsTaken (Ok c) = Unit {0}
+IsTaken (Err (broken fault)) = ⊥
+IsTaken (Err other) = Unit {0}
 
 -- of the octets of a list: they are returned unless a rule that has a place is broken, and else it is said which
-abbrev pub AnswersWhole : Result (Vec ℕ Global) MakeFault → List ℕ → Type 0
-AnswersWhole (Ok v) octets = (v.items ≡ octets) × (length octets ≤ 1048576) × IsWhole (crl_of octets)
-AnswersWhole (Err TooLong) octets = 1048576 < length octets
-AnswersWhole (Err (Unreadable fault)) octets = (length octets ≤ 1048576) × (crl_of octets ≡ Err (broken fault))
-AnswersWhole (Err Memory) octets = Unit {0}
+abbrev pub AnswersMadeList : Result (Vec ℕ Global) MakeFault → List ℕ → Type 0
+AnswersMadeList (Ok v) octets = (v.items ≡ octets) × (length octets ≤ 1048576) × IsTaken (crl_of octets)
+AnswersMadeList (Err TooLong) octets = 1048576 < length octets
+AnswersMadeList (Err (Unreadable fault)) octets = (length octets ≤ 1048576) × (crl_of octets ≡ Err (broken fault))
+AnswersMadeList (Err Memory) octets = Unit {0}
 
 -- the serial numbers of entries are u32s
 abbrev pub AreSerials : List EntryText → Type 0
