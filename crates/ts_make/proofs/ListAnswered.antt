@@ -1,6 +1,6 @@
 -- What the answer of making a list of revoked certificates says.
-use Rattle.std.proofs.Common.{◌≡◌, ℕ, ◌≤◌, ◌⊎◌, inl, inr, Bool, true, false, cond, List, [], ◌∷◌, ◌++◌, length, Option, Some, None, Result, Ok, Err, refl, sym, ap, subst, ◌∙◌, arith}
-use Rattle.std.specs.Prelude.{IfOk, IfErr, OnOk, option_map, unwrap_or, map, is_none}
+use Rattle.std.proofs.Common.{◌≡◌, ℕ, ◌≤◌, ◌⊎◌, inl, inr, List, [], ◌∷◌, ◌++◌, length, Option, Some, None, Result, Ok, Err, refl, sym, ap, subst, ◌∙◌}
+use Rattle.std.specs.Prelude.{IfOk, OnOk, option_map, unwrap_or, map}
 use Rattle.std.specs.declared.vec.Vec.{Vec}
 use Rattle.std.specs.declared.alloc.Global.{Global}
 use Rattle.std.proofs.lemmas.Slice.Eq.{bytes_eq-Decides}
@@ -9,10 +9,9 @@ use Rattle.ts_name.specs.declared.fault.CertFault.{CertFault}
 use Rattle.ts_name.specs.Shape.{◌or_else◌}
 use Rattle.ts_time.specs.Civil.{IsInYears}
 use Rattle.ts_cert.specs.declared.time.Time.{Time}
-use Rattle.ts_crl.specs.Entries.{entries_of}
-use Rattle.ts_crl.specs.Fault.{ListFault, broken, noNextUpdate, criticalCrlExtension, indirect, relativeName, deltaCrl}
-use Rattle.ts_crl.specs.List.{StandingList, CertificateList, RevokedCertificate, said_list}
-use Rattle.ts_crl.specs.Profile.{profile_fault, unprocessed, is_indirect, is_relative, is_delta}
+use Rattle.ts_crl.specs.Fault.{ListFault, broken}
+use Rattle.ts_crl.specs.List.{StandingList, CertificateList, said_list}
+use Rattle.ts_crl.specs.Profile.{profile_fault}
 use Rattle.ts_crl.specs.Reading.{shape_of}
 use Rattle.ts_crl.specs.Rules.{placed_fault}
 use Rattle.ts_crl.specs.Table.{list_fault, unless_broken, crl_of}
@@ -20,12 +19,9 @@ use Rattle.ts_crl.proofs.ListParts.{shape-again}
 use Rattle.ts_make.specs.declared.list_description.EntryText.{EntryText}
 use Rattle.ts_make.specs.declared.list_description.CrlText.{CrlText}
 use Rattle.ts_make.specs.declared.fault.MakeFault.{MakeFault}
-use Rattle.ts_make.specs.declared.fault.MakeFault.TheVariants.{Memory, TooLong, Unreadable}
 use Rattle.ts_make.specs.Description.{Says}
-use Rattle.ts_make.specs.Extensions.{field_of}
 use Rattle.ts_make.specs.Sayable.{IfWritten}
 use Rattle.ts_make.specs.Times.{IsTimeOf}
-use Rattle.ts_make.specs.ListExtensions.{reason_extension, list_extensions}
 use Rattle.ts_make.specs.ListMade.{list_tbs, made_list}
 use Rattle.ts_make.specs.ListMaking.{IsTaken, AnswersMadeList, AreSerials, IsSayableList}
 use Rattle.ts_make.specs.ListDescription.{AreEntriesOf, IsListDescribed, IsListSignedBy, IsReadAs}
@@ -141,8 +137,7 @@ pub answers-described : (r : Result (Vec ℕ Global) MakeFault) (t n : List ℕ)
     → IfOk r (λ v. (l : StandingList) × (shape_of v.items ≡ Ok l) × IsListDescribed text (said_list l) × IsReadAs (crl_of v.items) (said_list l))
 answers-described (Ok v) t n text sayable from to h =
     let years = list-years t n text sayable from to h.1 h.2 in
-    let is = is-list-read t n text sayable from to h.1 years.0 years.1 in
-    (
+    let is = is-list-read t n text sayable from to h.1 years.0 years.1 in (
       is.standing,
       ap shape_of h.0 ∙ is.shape,
       subst (λ (c : CertificateList). IsListDescribed text c) (sym is.same) (is-described t n text sayable is.issued is.next is.issued_at is.next_at),

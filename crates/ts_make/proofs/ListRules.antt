@@ -1,5 +1,5 @@
 -- The rules of a list of revoked certificates that what is made may break.
-use Rattle.std.proofs.Common.{◌≡◌, ℕ, ◌≤◌, ◌⊎◌, inl, inr, Bool, true, false, cond, List, [], ◌∷◌, ◌++◌, length, Option, Some, None, Result, Ok, Err, refl, sym, ap, subst, ◌∙◌, arith}
+use Rattle.std.proofs.Common.{◌≡◌, ℕ, ◌≤◌, ◌⊎◌, inl, inr, Bool, true, false, cond, List, [], ◌∷◌, length, Option, Some, None, Result, Ok, Err, refl, sym, ap, subst, ◌∙◌, arith}
 use Rattle.std.specs.Prelude.{IfErr, option_map, unwrap_or, map, is_none}
 use Rattle.std.specs.List.{AllByRecursion}
 use Rattle.std.specs.declared.vec.Vec.{Vec}
@@ -14,15 +14,13 @@ use Rattle.ts_time.specs.Civil.{IsInYears}
 use Rattle.ts_cert.specs.declared.time.Time.{Time}
 use Rattle.ts_ext.specs.declared.known.Holder.TheVariants.{List as ListHolder, Entry}
 use Rattle.ts_ext.specs.declared.reason_code.ReasonCode.{ReasonCode}
-use Rattle.ts_ext.specs.declared.reason_code.ReasonCode.TheVariants as reason
 use Rattle.ts_ext.specs.Ext.{reasonCode}
 use Rattle.ts_ext.specs.Extension.{Extension}
 use Rattle.ts_ext.specs.Known.{known_at, entry_extension}
 use Rattle.ts_ext.specs.ValueRules.{IsSound, AreSound}
-use Rattle.ts_crl.specs.declared.version.ListVersion.TheVariants.{V2}
 use Rattle.ts_crl.specs.Entries.{entries_of}
 use Rattle.ts_crl.specs.Fault.{ListFault, broken, noNextUpdate, criticalCrlExtension, indirect, relativeName, deltaCrl}
-use Rattle.ts_crl.specs.List.{StandingList, CertificateList, RevokedCertificate, said_list}
+use Rattle.ts_crl.specs.List.{StandingList, CertificateList, said_list}
 use Rattle.ts_crl.specs.Profile.{profile_fault, unprocessed, is_indirect, is_relative, is_delta}
 use Rattle.ts_crl.specs.Rules.{placed_fault}
 use Rattle.ts_crl.specs.Table.{unless_broken, crl_of}

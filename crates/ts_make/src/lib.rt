@@ -19,6 +19,8 @@ mod list;
 mod list_description;
 mod list_extensions;
 mod list_tbs;
+#[cfg(test)]
+mod list_tests;
 mod names;
 mod serial;
 mod single;
