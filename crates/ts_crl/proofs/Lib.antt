@@ -9,6 +9,7 @@ pub mod Marked
 pub mod ValueParts
 pub mod Readiness
 pub mod Keeping
+pub mod PlacedLaws
 pub mod Crls
 pub mod Judging
 pub mod OneSpelling

@@ -1,5 +1,5 @@
 -- What the answer of making a certificate says.
-use Rattle.std.proofs.Common.{◌≡◌, ℕ, ◌≤◌, ◌⊎◌, inl, inr, true, List, [], ◌∷◌, ◌++◌, length, Option, Some, None, Result, Ok, Err, refl, sym, ap, subst, ◌∙◌}
+use Rattle.std.proofs.Common.{◌≡◌, ℕ, ◌≤◌, ◌⊎◌, inl, inr, true, List, [], ◌∷◌, ◌++◌, length, Option, Some, None, Result, Ok, Err, refl, sym, ap, subst, ◌∙◌, arith}
 use Rattle.std.specs.Prelude.{IfOk, IfErr, OnOk, is_ok, unwrap_or}
 use Rattle.std.specs.declared.vec.Vec.{Vec}
 use Rattle.std.specs.declared.alloc.Global.{Global}
@@ -61,11 +61,11 @@ pub record IsRead (b a : List ℕ) (text : CertText) : Type 0 where
 pub is-read : (b a : List ℕ) (text : CertText) → IsSayable text → IsTimeOf b text.from → IsTimeOf a text.to → length (made b a text) ≤ 65536
     → IsInYears 0 9999 text.from → IsInYears 0 9999 text.to → IsRead b a text
 is-read b a text sayable from to le from_in to_in =
-    let parts = parts-short b a text le in
+    let parts = parts-short b a text (omega arith) in
     let fields = fields-short b a text parts.tbs in
     let before = time-said b text.from from from_in fields.before in
     let after = time-said a text.to to to_in fields.after in
-    let whole = signed-read (made b a text) (said b a before.time after.time text) le (signed-is b a before.time after.time text sayable before.is after.is le) refl in
+    let whole = signed-read (made b a text) (said b a before.time after.time text) le (signed-is b a before.time after.time text sayable before.is after.is (omega arith)) refl in
     record {
       before = before.time;
       after = after.time;

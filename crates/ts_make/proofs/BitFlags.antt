@@ -33,10 +33,13 @@ pub usage-value : (old numbers : List ℕ) → 0 < length numbers → length (sp
 usage-value old [] some = absurd (omega arith)
 usage-value old (n ∷ numbers) some = value-within old (extension (id_ce 15) true (spell 0x03 (usage_content (n ∷ numbers))))
 
--- there is no room for a bit of a great number
-pub usage-far : (old numbers : List ℕ) → 0 < length numbers → 0x80000 ≤ last_set numbers → 65536 < length (old ++ flat_map extension_octets (key_usage numbers))
-usage-far old numbers some far =
+-- nor is its content
+pub usage-within : (old numbers : List ℕ) → 0 < length numbers → length (usage_content numbers) ≤ length (old ++ flat_map extension_octets (key_usage numbers))
+usage-within old numbers some =
     let value = usage-value old numbers some in
-    let content = usage-length numbers in
     let short = content-short 0x03 (usage_content numbers) in
     omega arith
+
+-- there is no room for a bit of a great number
+pub usage-far : (numbers : List ℕ) → 0x800000 ≤ last_set numbers → 1048576 < length (usage_content numbers)
+usage-far numbers far = let content = usage-length numbers in omega arith

@@ -21,7 +21,7 @@ use Rattle.ts_make.proofs.StandIns.{content-short, fits-sequence}
 abbrev pub AreKnown : List Extension → Type 0
 AreKnown xs = AllByRecursion (λ x. is_oid x.extnID ≡ true) xs
 
-known-append : (xs ys : List Extension) → AreKnown xs → AreKnown ys → AreKnown (xs ++ ys)
+pub known-append : (xs ys : List Extension) → AreKnown xs → AreKnown ys → AreKnown (xs ++ ys)
 known-append [] ys first second = second
 known-append (x ∷ xs) ys first second = (first.0, known-append xs ys first.1 second)
 
@@ -29,7 +29,7 @@ known-pieces : {X : Type 0} (f : X → List Extension) (xs : List X) → ((x : X
 known-pieces f [] each = tt
 known-pieces f (x ∷ xs) each = known-append (f x) (flat_map f xs) (each x) (known-pieces f xs each)
 
-sequence-known : (arc : ℕ) (critical : Bool) (content : List ℕ) → is_oid (id_ce arc) ≡ true → AreKnown (sequence arc critical content)
+pub sequence-known : (arc : ℕ) (critical : Bool) (content : List ℕ) → is_oid (id_ce arc) ≡ true → AreKnown (sequence arc critical content)
 sequence-known arc critical [] is = tt
 sequence-known arc critical (octet ∷ content) is = (is, tt)
 
@@ -69,7 +69,7 @@ critical-is : (b : Bool) → IfTrue 0x01 (critical_octets b) b
 critical-is true = refl
 critical-is false = refl
 
-extension-is : (x : Extension) → is_oid x.extnID ≡ true → length (extension_octets x) ≤ 65536 → Within 0x30 IsExtension (extension_octets x) x
+extension-is : (x : Extension) → is_oid x.extnID ≡ true → length (extension_octets x) ≤ 1048576 → Within 0x30 IsExtension (extension_octets x) x
 unfolding extension_content
 extension-is x known le =
     let id = spell 0x06 x.extnID in
@@ -96,14 +96,14 @@ extension-is x known le =
       };
     }
 
-items-are : (xs : List Extension) → AreKnown xs → length (flat_map extension_octets xs) ≤ 65536 → AreItems (Within 0x30 IsExtension) (flat_map extension_octets xs) xs
+pub items-are : (xs : List Extension) → AreKnown xs → length (flat_map extension_octets xs) ≤ 1048576 → AreItems (Within 0x30 IsExtension) (flat_map extension_octets xs) xs
 items-are [] known le = refl
 items-are (x ∷ xs) known le =
     let both = length-append (extension_octets x) (flat_map extension_octets xs) in
     (extension_octets x, flat_map extension_octets xs, extension-is x known.0 (omega arith), refl, items-are xs known.1 (omega arith))
 
 -- the field
-pub field-is : (xs : List Extension) → AreKnown xs → length (field_octets xs) ≤ 65536 → IfAny 0xA3 AreExplicit (field_octets xs) (field_of xs)
+pub field-is : (xs : List Extension) → AreKnown xs → length (field_octets xs) ≤ 1048576 → IfAny 0xA3 AreExplicit (field_octets xs) (field_of xs)
 unfolding field_octets
 field-is [] known le = refl
 field-is (x ∷ xs) known le =

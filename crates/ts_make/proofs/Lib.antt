@@ -2,6 +2,7 @@ pub mod Pieces
 pub mod SameParts
 pub mod TooLong
 pub mod OneTime
+pub mod ListPieces
 pub mod Fields
 pub mod StandIns
 pub mod BitFlags
@@ -16,4 +17,8 @@ pub mod Said
 pub mod Spelled
 pub mod Refused
 pub mod SignedRead
+pub mod ListSpelled
+pub mod ListRefused
+pub mod ListAnswered
+pub mod ListRules
 pub mod Answered

@@ -42,11 +42,11 @@ use Rattle.ts_make.proofs.Spelled.{fields-short, parts-short}
 
 -- ---- times
 
-fits-empty : Fits 0x18 []
+pub fits-empty : Fits 0x18 []
 fits-empty = record { octet = omega arith; low = omega arith; short = omega arith }
 
 -- an empty GeneralizedTime is no time
-empty-time : (here : Place) (rest : List ℕ) → here.rest ≡ spell 0x18 [] ++ rest → time_at here ≡ Err (fault_at here.at TimeRule)
+pub empty-time : (here : Place) (rest : List ℕ) → here.rest ≡ spell 0x18 [] ++ rest → time_at here ≡ Err (fault_at here.at TimeRule)
 unfolding time_at time_of general_in numbers_in
 empty-time here rest e =
     let one = next-only here 0x18 [] rest fits-empty e in
@@ -80,14 +80,14 @@ second-refused e b t is whole =
     let second = empty-time behind [] (sym (append-nil (spell 0x18 []))) in
     (e.start + length b, rw (first, second) refl)
 
-outside-is : (octets : List ℕ) (m : ℤ) → IsTimeOf octets m → (IsInYears 0 9999 m → ⊥) → octets ≡ spell 0x18 []
+pub outside-is : (octets : List ℕ) (m : ℤ) → IsTimeOf octets m → (IsInYears 0 9999 m → ⊥) → octets ≡ spell 0x18 []
 outside-is octets m is outside = is.outside (λ utc. outside (IsInYears-wider 1950 2049 m (omega arith) utc)) outside
 
 -- one of the moments lies outside the years 0 to 9999, and no earlier one does
 abbrev pub IsOutside : CertText → Type 0
 IsOutside text = (IsInYears 0 9999 text.from → ⊥) ⊎ (IsInYears 0 9999 text.from × (IsInYears 0 9999 text.to → ⊥))
 
-validity-refused : (b a : List ℕ) (text : CertText) (e : Tlv) → IsTimeOf b text.from → IsTimeOf a text.to → length b ≤ 65536 → IsOutside text → e.content ≡ b ++ a → BreaksOff (validity_of e)
+validity-refused : (b a : List ℕ) (text : CertText) (e : Tlv) → IsTimeOf b text.from → IsTimeOf a text.to → length b ≤ 1048576 → IsOutside text → e.content ≡ b ++ a → BreaksOff (validity_of e)
 validity-refused b a text e from to le (inl outside) whole = first-refused e a (whole ∙ ap (λ (o : List ℕ). o ++ a) (outside-is b text.from from outside))
 validity-refused b a text e from to le (inr outside) whole =
     let t = time-said b text.from from outside.0 le in
@@ -99,7 +99,7 @@ validity-refused b a text e from to le (inr outside) whole =
 abbrev pub IsRefused : {A : Type 0} → Result A CertFault → Type 0
 IsRefused {A} reading = (at : ℕ) × (reading ≡ Err (breaks at (Der TimeRule)))
 
-tbs-refused : (b a : List ℕ) (text : CertText) (e : Tlv) → IsSayable text → IsTimeOf b text.from → IsTimeOf a text.to → length (tbs_octets b a text) ≤ 65536 → IsOutside text
+tbs-refused : (b a : List ℕ) (text : CertText) (e : Tlv) → IsSayable text → IsTimeOf b text.from → IsTimeOf a text.to → length (tbs_octets b a text) ≤ 1048576 → IsOutside text
     → e.content ≡ tbs_content b a text → IsRefused (tbs_of e)
 unfolding tbs_of tbs_content validity_at within
 tbs-refused b a text e sayable from to le outside whole =
@@ -122,7 +122,7 @@ tbs-refused b a text e sayable from to le outside whole =
     let period = validity-refused b a text (spelled_at p4.at 0x30 (b ++ a)) from to short.before outside refl in
     (period.0, rw (v, s, g, i, outer, period.1) refl)
 
-signed-refused : (b a : List ℕ) (text : CertText) (e : Tlv) (rest : List ℕ) → IsSayable text → IsTimeOf b text.from → IsTimeOf a text.to → length (tbs_octets b a text) ≤ 65536 → IsOutside text
+signed-refused : (b a : List ℕ) (text : CertText) (e : Tlv) (rest : List ℕ) → IsSayable text → IsTimeOf b text.from → IsTimeOf a text.to → length (tbs_octets b a text) ≤ 1048576 → IsOutside text
     → e.content ≡ tbs_octets b a text ++ rest → IsRefused (signed_of e)
 unfolding signed_of tbs_octets
 signed-refused b a text e rest sayable from to le outside whole =
@@ -135,7 +135,7 @@ pub certificate-refused : (b a : List ℕ) (text : CertText) → IsSayable text 
     → IsRefused (certificate_of (made b a text))
 unfolding certificate_of whole_of made
 certificate-refused b a text sayable from to le outside =
-    let short = parts-short b a text le in
+    let short = parts-short b a text (omega arith) in
     let tbs = tbs_octets b a text in
     let rest = algorithm_identifier ++ bit_octets (sha256 (text.signer.now ++ tbs)) in
     let here : Place = record { rest = spell 0x30 (tbs ++ rest); at = 0 } in

@@ -1,6 +1,7 @@
 -- Octets of which a part is already too many.
-use Rattle.std.proofs.Common.{◌≡◌, ap, ℕ, Bool, zero, suc, ◌<◌, ◌≤◌, List, [], ◌∷◌, ◌++◌, length, get_or, take, arith, length-append}
+use Rattle.std.proofs.Common.{◌≡◌, ap, subst, ℕ, Bool, zero, suc, ◌<◌, ◌≤◌, List, [], ◌∷◌, ◌++◌, length, get_or, take, arith, length-append}
 use Rattle.std.specs.List.{flat_map}
+use Rattle.std.proofs.lemmas.List.{append-nil}
 use Rattle.ts_der.specs.Element.{spell, length_octets}
 use Rattle.ts_name.specs.NameSpelling.{spelled_rdn}
 use Rattle.ts_make.specs.declared.description.RdnText.{RdnText}
@@ -60,6 +61,9 @@ value-within old x =
     let value = spell 0x04 x.extnValue in
     let content = spell 0x06 x.extnID ++ (flag ++ value) in
     omega (arith, length-append old (spell 0x30 content ++ []), length-append (spell 0x30 content) [], length-append (length_octets (length content)) content, length-append (spell 0x06 x.extnID) (flag ++ value), length-append flag value, length-append (length_octets (length x.extnValue)) x.extnValue)
+
+pub value-alone : (old : List ℕ) (x : Extension) → length x.extnValue ≤ length (old ++ extension_octets x)
+value-alone old x = subst (λ (o : List ℕ). length x.extnValue ≤ length (old ++ o)) (append-nil (extension_octets x)) (value-within old x)
 
 -- nor is the SEQUENCE that is the value of an extension
 pub sequence-value : (old : List ℕ) (arc : ℕ) (critical : Bool) (content : List ℕ) → 0 < length content

@@ -10,4 +10,8 @@ pub mod Made
 pub mod Writing
 pub mod Making
 pub mod Sayable
+pub mod ListExtensions
+pub mod ListMade
+pub mod ListMaking
+pub mod ListDescription
 pub mod Printed

@@ -1,13 +1,13 @@
--- Writing octets of which a certificate may have 65,536.
+-- Writing octets of which a list may have 1,048,576, and a certificate fewer.
 use Rattle.std.specs.Prelude.{◌≡◌, ℕ, ◌<◌, List, ◌++◌, length, Result, Ok, Err}
 use Rattle.std.specs.declared.vec.Vec.{Vec}
 use Rattle.std.specs.declared.alloc.Global.{Global}
 use Rattle.ts_make.specs.declared.fault.MakeFault.{MakeFault}
 use Rattle.ts_make.specs.declared.fault.MakeFault.TheVariants.{Memory, TooLong, Unreadable}
 
--- octets were not written: there are more than a certificate may have, or memory ran out
+-- octets were not written: there are more than a list may have, or memory ran out
 abbrev pub IsTooLong : MakeFault → List ℕ → Type 0
-IsTooLong TooLong octets = 65536 < length octets
+IsTooLong TooLong octets = 1048576 < length octets
 IsTooLong Memory octets = Unit {0}
 IsTooLong (Unreadable f) octets = ⊥
 

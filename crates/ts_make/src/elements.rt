@@ -1,4 +1,4 @@
-//! Octets that grow by one element after another, up to what a certificate may have.
+//! Octets that grow by one element after another, up to what a list may have.
 
 ghost use Rattle.std.specs.Prelude.{◌≢◌, ◌%◌, ◌∷◌, ◌++◌};
 ghost use Rattle.ts_der.specs.Element.{spell};
@@ -6,7 +6,7 @@ ghost use Rattle.ts_make.specs.Writing.{Appends, Writes};
 
 use crate::fault::MakeFault;
 use std::alloc::Global;
-use ts_cert::MAX_CERTIFICATE;
+use ts_crl::MAX_CRL;
 use ts_der::Writer;
 
 pub(crate) const BOOLEAN: u8 = 0x01;
@@ -19,6 +19,8 @@ pub(crate) const OCTET_STRING: u8 = 0x04;
 
 pub(crate) const OBJECT_IDENTIFIER: u8 = 0x06;
 
+pub(crate) const ENUMERATED: u8 = 0x0a;
+
 pub(crate) const SEQUENCE: u8 = 0x30;
 
 pub(crate) const SET: u8 = 0x31;
@@ -30,7 +32,7 @@ pub(crate) const EXTENSIONS: u8 = 0xa3;
 pub(crate) fn append(octets: &mut Vec<u8>, part: &[u8]) -> Result<(), MakeFault>
     ensures { Appends result part.now octets.old.items octets.new.items }
 {
-    if part.len() > MAX_CERTIFICATE || octets.len() > MAX_CERTIFICATE {
+    if part.len() > MAX_CRL || octets.len() > MAX_CRL {
         return Err(MakeFault::TooLong);
     }
     octets.extend_from_slice(part)?;
@@ -42,7 +44,7 @@ pub(crate) fn element(alloc: Global, tag: u8, content: &[u8]) -> Result<Vec<u8>,
     requires { tag % 32 ≢ 31 }
     ensures { Writes result (spell tag content.now) }
 {
-    if content.len() > MAX_CERTIFICATE {
+    if content.len() > MAX_CRL {
         return Err(MakeFault::TooLong);
     }
     let mut writer = Writer::new(alloc);

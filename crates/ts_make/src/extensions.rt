@@ -16,7 +16,7 @@ use crate::single::{append_alone, append_extension};
 use std::alloc::Global;
 
 /// Appends the extension of an arc of id-ce whose value is a SEQUENCE, unless that would be empty.
-fn append_sequence(
+pub(crate) fn append_sequence(
     alloc: Global,
     octets: &mut Vec<u8>,
     arc: u8,

@@ -42,7 +42,7 @@ const MAIL: u8 = 0x81;
 const DNS: u8 = 0x82;
 
 /// [6] IA5String of a GeneralName.
-const URI: u8 = 0x86;
+pub(crate) const URI: u8 = 0x86;
 
 /// [7] OCTET STRING of a GeneralName.
 const IP: u8 = 0x87;
@@ -71,8 +71,8 @@ fn append_subtree(alloc: Global, octets: &mut Vec<u8>, name: &NameText<'_>) -> R
     append_element(alloc, octets, SEQUENCE, &base)
 }
 
-/// [0] of a DistributionPoint, and [0] of a DistributionPointName.
-const FIRST: u8 = 0xa0;
+/// [0] of a DistributionPoint and of an IssuingDistributionPoint, and [0] of a DistributionPointName.
+pub(crate) const FIRST: u8 = 0xa0;
 
 /// Appends a distribution point (RFC 5280 4.2.1.13).
 fn append_point(alloc: Global, octets: &mut Vec<u8>, uri: &str) -> Result<(), MakeFault>

@@ -1,4 +1,4 @@
-//! The bits of keyUsage.
+//! Named bits.
 
 ghost use Rattle.std.specs.Prelude.{◌≡◌, ℕ, ◌+◌, ◌*◌, ◌/◌, ◌<◌, ◌≤◌, Bool, List, [], ◌∷◌, ◌++◌, length, map, slice_index_or, false};
 ghost use Rattle.std.specs.List.{flat_map, range_with_len, All};
@@ -80,7 +80,7 @@ fn octet(flags: &[bool], at: usize) -> u8
 fn content(alloc: Global, numbers: &[u32], last: usize) -> Result<Vec<u8>, MakeFault>
     requires exact { last ≡ last_set numbers.now }
     requires within { (k : ℕ) → k < length numbers.now → slice_index_or numbers.now k 0 ≤ last }
-    requires low { last < 0x80000 }
+    requires low { last < 0x800000 }
     ensures { Collects result (usage_content numbers.now) }
 {
     let count = last / 8 + 1;
@@ -93,8 +93,19 @@ fn content(alloc: Global, numbers: &[u32], last: usize) -> Result<Vec<u8>, MakeF
     Ok(content)
 }
 
-/// No certificate has room for the bit of this number.
-const TOO_FAR: u32 = 0x80000;
+/// No list has room for the bit of this number.
+const TOO_FAR: u32 = 0x800000;
+
+/// The content of the BIT STRING of the bits of these numbers (X.690 8.6.2, 11.2.2).
+pub(crate) fn bits_content(alloc: Global, numbers: &[u32]) -> Result<Vec<u8>, MakeFault>
+    ensures { Writes result (usage_content numbers.now) }
+{
+    let last = last_of(numbers);
+    if last >= TOO_FAR {
+        return Err(MakeFault::TooLong);
+    }
+    content(alloc, numbers, last as usize)
+}
 
 /// Appends keyUsage, if the parts set a bit (RFC 5280 4.2.1.3).
 pub(crate) fn append_key_usage(
@@ -108,11 +119,7 @@ pub(crate) fn append_key_usage(
     if numbers.is_empty() {
         return Ok(());
     }
-    let last = last_of(&numbers);
-    if last >= TOO_FAR {
-        return Err(MakeFault::TooLong);
-    }
-    let content = content(alloc, &numbers, last as usize)?;
+    let content = bits_content(alloc, &numbers)?;
     let value = element(alloc, BIT_STRING, &content)?;
     append_extension(alloc, octets, &[0x55, 0x1d, 15], true, &value)
 }

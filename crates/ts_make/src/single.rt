@@ -18,7 +18,7 @@ use std::alloc::Global;
 const TRUE: u8 = 0xff;
 
 /// NULL (X.690 8.8).
-const NULL: [u8; 2] = [0x05, 0x00];
+pub(crate) const NULL: [u8; 2] = [0x05, 0x00];
 
 /// Appends critical BOOLEAN DEFAULT FALSE.
 fn append_critical(alloc: Global, octets: &mut Vec<u8>, critical: bool) -> Result<(), MakeFault>

@@ -41,7 +41,7 @@ impl TimeText {
     }
 
     /// Appends the time as an element.
-    fn append(&self, alloc: Global, octets: &mut Vec<u8>) -> Result<(), MakeFault>
+    pub(crate) fn append(&self, alloc: Global, octets: &mut Vec<u8>) -> Result<(), MakeFault>
         ensures { Appends result (time_octets self.now) octets.old.items octets.new.items }
     {
         match self {

@@ -1,0 +1,159 @@
+-- What the answer of making a list of revoked certificates says.
+use Rattle.std.proofs.Common.{◌≡◌, ℕ, ◌≤◌, ◌⊎◌, inl, inr, List, [], ◌∷◌, ◌++◌, length, Option, Some, None, Result, Ok, Err, refl, sym, ap, subst, ◌∙◌}
+use Rattle.std.specs.Prelude.{IfOk, OnOk, option_map, unwrap_or, map}
+use Rattle.std.specs.declared.vec.Vec.{Vec}
+use Rattle.std.specs.declared.alloc.Global.{Global}
+use Rattle.std.proofs.lemmas.Slice.Eq.{bytes_eq-Decides}
+use Rattle.sha2.specs.Sha256.{sha256}
+use Rattle.ts_name.specs.declared.fault.CertFault.{CertFault}
+use Rattle.ts_name.specs.Shape.{◌or_else◌}
+use Rattle.ts_time.specs.Civil.{IsInYears}
+use Rattle.ts_cert.specs.declared.time.Time.{Time}
+use Rattle.ts_crl.specs.Fault.{ListFault, broken}
+use Rattle.ts_crl.specs.List.{StandingList, CertificateList, said_list}
+use Rattle.ts_crl.specs.Profile.{profile_fault}
+use Rattle.ts_crl.specs.Reading.{shape_of}
+use Rattle.ts_crl.specs.Rules.{placed_fault}
+use Rattle.ts_crl.specs.Table.{list_fault, unless_broken, crl_of}
+use Rattle.ts_crl.proofs.ListParts.{shape-again}
+use Rattle.ts_make.specs.declared.list_description.EntryText.{EntryText}
+use Rattle.ts_make.specs.declared.list_description.CrlText.{CrlText}
+use Rattle.ts_make.specs.declared.fault.MakeFault.{MakeFault}
+use Rattle.ts_make.specs.Description.{Says}
+use Rattle.ts_make.specs.Sayable.{IfWritten}
+use Rattle.ts_make.specs.Times.{IsTimeOf}
+use Rattle.ts_make.specs.ListMade.{list_tbs, made_list}
+use Rattle.ts_make.specs.ListMaking.{IsTaken, AnswersMadeList, AreSerials, IsSayableList}
+use Rattle.ts_make.specs.ListDescription.{AreEntriesOf, IsListDescribed, IsListSignedBy, IsReadAs}
+use Rattle.ts_make.proofs.OneTime.{in_years_or_not}
+use Rattle.ts_make.proofs.SerialNumbers.{serial-is}
+use Rattle.ts_make.proofs.Said.{time-said}
+use Rattle.ts_make.proofs.ListSpelled.{entry_said, revoked_said, list_said, list-fields-short, list-parts-short, list-signed-is}
+use Rattle.ts_make.proofs.ListRefused.{IsOutsideList, list-refused}
+
+-- both moments lie in the years 0 to 9999, or one does not
+pub in_years : (text : CrlText) → (IsInYears 0 9999 text.this_update × IsInYears 0 9999 text.next_update) ⊎ IsOutsideList text
+in_years text =
+    elim (in_years_or_not 0 9999 text.this_update) [
+      | inr outside ↦ inr (inl outside)
+      | inl from ↦ elim (in_years_or_not 0 9999 text.next_update) [
+        | inr outside ↦ inr (inr (from, outside))
+        | inl to ↦ inl (from, to)
+      ]
+    ]
+
+-- what is made has the shape of the list that the description says
+pub record IsListRead (t n : List ℕ) (text : CrlText) : Type 0 where
+  pub issued : Time
+  pub next : Time
+  pub issued_at : Says issued text.this_update
+  pub next_at : Says next text.next_update
+  pub standing : StandingList
+  pub shape : shape_of (made_list t n text) ≡ Ok standing
+  pub same : said_list standing ≡ list_said t n issued next text
+
+pub is-list-read : (t n : List ℕ) (text : CrlText) → IsSayableList text → IsTimeOf t text.this_update → IsTimeOf n text.next_update → length (made_list t n text) ≤ 1048576
+    → IsInYears 0 9999 text.this_update → IsInYears 0 9999 text.next_update → IsListRead t n text
+is-list-read t n text sayable from to le from_in to_in =
+    let parts = list-parts-short t n text le in
+    let fields = list-fields-short t n text parts.tbs in
+    let issued = time-said t text.this_update from from_in fields.issued in
+    let next = time-said n text.next_update to to_in fields.next in
+    let s = shape-again (made_list t n text) (list_said t n issued.time next.time text) le (list-signed-is t n issued.time next.time text sayable issued.is next.is le) in
+    record { issued = issued.time; next = next.time; issued_at = issued.says; next_at = next.says; standing = s.0; shape = s.1; same = s.2 }
+
+pub crl-read : (octets : List ℕ) (l : StandingList) → shape_of octets ≡ Ok l → crl_of octets ≡ unless_broken l (list_fault l)
+unfolding crl_of
+crl-read octets l shape = rw shape refl
+
+none-placed : (o : Option CertFault) (p : Option ListFault) (l : StandingList) → IsTaken (unless_broken l (option_map (λ f. broken f) o or_else p)) → o ≡ None
+none-placed None p l w = refl
+none-placed (Some f) p l w = absurd w
+
+-- where no rule that has a place is broken, those of the profile are left
+pub profile-left : (l : StandingList) → placed_fault l ≡ None → unless_broken l (list_fault l) ≡ unless_broken l (profile_fault (said_list l))
+profile-left l none = ap (λ (o : Option CertFault). unless_broken l (option_map (λ f. broken f) o or_else profile_fault (said_list l))) none
+
+read-as : (l : StandingList) (o : Option ListFault) → profile_fault (said_list l) ≡ o → IsReadAs (unless_broken l o) (said_list l)
+read-as l None e = refl
+read-as l (Some f) e = e
+
+whole-read : (octets : List ℕ) (l : StandingList) → shape_of octets ≡ Ok l → IsTaken (crl_of octets) → IsReadAs (crl_of octets) (said_list l)
+whole-read octets l shape w =
+    let read = crl-read octets l shape in
+    let none = none-placed (placed_fault l) (profile_fault (said_list l)) l (subst IsTaken read w) in
+    subst (λ (r : Result CertificateList ListFault). IsReadAs r (said_list l)) (sym (read ∙ profile-left l none)) (read-as l (profile_fault (said_list l)) refl)
+
+-- ---- what it says
+
+each-entry : (date : Time) (es : List EntryText) → AreSerials es → AreEntriesOf date es (map (entry_said date) es)
+each-entry date [] small = tt
+each-entry date (e ∷ es) small =
+    let serial = serial-is e.serial small.0 in
+    (record { userCertificate = serial.value; revocationDate = refl; crlEntryExtensions = refl }, each-entry date es small.1)
+
+entries-said : (date : Time) (es : List EntryText) → AreSerials es → AreEntriesOf date es (unwrap_or (revoked_said date es) [])
+entries-said date [] small = tt
+entries-said date (e ∷ es) small = each-entry date (e ∷ es) small
+
+no-entries : (date : Time) (es : List EntryText) → es ≡ [] → revoked_said date es ≡ None
+no-entries date [] e = refl
+no-entries date (x ∷ es) e = absurd cc
+
+is-described : (t n : List ℕ) (text : CrlText) → IsSayableList text → (issued next : Time) → Says issued text.this_update → Says next text.next_update → IsListDescribed text (list_said t n issued next text)
+is-described t n text sayable issued next from to =
+    record {
+      version = refl;
+      signature = refl;
+      issuer = refl;
+      thisUpdate = from;
+      nextUpdate = (next, refl, to);
+      revokedCertificates = entries-said issued text.entries.now sayable.entries;
+      no_entries = no-entries issued text.entries.now;
+      crlExtensions = refl;
+      signatureAlgorithm = refl;
+    }
+
+is-signed : (t n : List ℕ) (text : CrlText) (issued next : Time) → IsListSignedBy text.signer.now (list_said t n issued next text)
+is-signed t n text issued next =
+    let digest = sha256 (text.signer.now ++ list_tbs t n text) in
+    rw ((bytes_eq-Decides digest digest).1 refl) refl
+
+not-whole : (r : Result CertificateList ListFault) (f : CertFault) → r ≡ Err (broken f) → IsTaken r → ⊥
+not-whole r f e w = subst IsTaken e w
+
+pub list-years : (t n : List ℕ) (text : CrlText) → IsSayableList text → IsTimeOf t text.this_update → IsTimeOf n text.next_update → length (made_list t n text) ≤ 1048576
+    → IsTaken (crl_of (made_list t n text)) → IsInYears 0 9999 text.this_update × IsInYears 0 9999 text.next_update
+list-years t n text sayable from to le w =
+    elim (in_years text) [
+      | inl years ↦ years
+      | inr outside ↦ let refused = list-refused t n text sayable from to le outside in absurd (not-whole (crl_of (made_list t n text)) _ refused.1 w)
+    ]
+
+-- ---- the clauses
+
+pub answers-described : (r : Result (Vec ℕ Global) MakeFault) (t n : List ℕ) (text : CrlText) → IfWritten r (IsSayableList text) → IsTimeOf t text.this_update → IsTimeOf n text.next_update
+    → AnswersMadeList r (made_list t n text)
+    → IfOk r (λ v. (l : StandingList) × (shape_of v.items ≡ Ok l) × IsListDescribed text (said_list l) × IsReadAs (crl_of v.items) (said_list l))
+answers-described (Ok v) t n text sayable from to h =
+    let years = list-years t n text sayable from to h.1 h.2 in
+    let is = is-list-read t n text sayable from to h.1 years.0 years.1 in (
+      is.standing,
+      ap shape_of h.0 ∙ is.shape,
+      subst (λ (c : CertificateList). IsListDescribed text c) (sym is.same) (is-described t n text sayable is.issued is.next is.issued_at is.next_at),
+      subst (λ (o : List ℕ). IsReadAs (crl_of o) (said_list is.standing)) (sym h.0) (whole-read (made_list t n text) is.standing is.shape h.2),
+    )
+answers-described (Err e) t n text sayable from to h = tt
+
+pub answers-signed : (r : Result (Vec ℕ Global) MakeFault) (t n : List ℕ) (text : CrlText) → IfWritten r (IsSayableList text) → IsTimeOf t text.this_update → IsTimeOf n text.next_update
+    → AnswersMadeList r (made_list t n text) → IfOk r (λ v. (l : StandingList) × (shape_of v.items ≡ Ok l) × IsListSignedBy text.signer.now (said_list l))
+answers-signed (Ok v) t n text sayable from to h =
+    let years = list-years t n text sayable from to h.1 h.2 in
+    let is = is-list-read t n text sayable from to h.1 years.0 years.1 in
+    (is.standing, ap shape_of h.0 ∙ is.shape, subst (λ (c : CertificateList). IsListSignedBy text.signer.now c) (sym is.same) (is-signed t n text is.issued is.next))
+answers-signed (Err e) t n text sayable from to h = tt
+
+pub answers-years : (r : Result (Vec ℕ Global) MakeFault) (t n : List ℕ) (text : CrlText) → IfWritten r (IsSayableList text) → IsTimeOf t text.this_update → IsTimeOf n text.next_update
+    → AnswersMadeList r (made_list t n text) → OnOk r (IsInYears 0 9999 text.this_update × IsInYears 0 9999 text.next_update)
+answers-years (Ok v) t n text sayable from to h = list-years t n text sayable from to h.1 h.2
+answers-years (Err e) t n text sayable from to h = tt

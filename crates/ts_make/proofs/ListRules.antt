@@ -1,0 +1,114 @@
+-- The rules of a list of revoked certificates that what is made may break.
+use Rattle.std.proofs.Common.{◌≡◌, ℕ, ◌≤◌, ◌⊎◌, inl, inr, Bool, true, false, cond, List, [], ◌∷◌, length, Option, Some, None, Result, Ok, Err, refl, sym, ap, subst, ◌∙◌, arith}
+use Rattle.std.specs.Prelude.{IfErr, option_map, unwrap_or, map, is_none}
+use Rattle.std.specs.List.{AllByRecursion}
+use Rattle.std.specs.declared.vec.Vec.{Vec}
+use Rattle.std.specs.declared.alloc.Global.{Global}
+use Rattle.ts_der.specs.declared.fault.DerFault.TheVariants.{TimeForm}
+use Rattle.ts_name.specs.declared.fault.CertRule.TheVariants.{Der}
+use Rattle.ts_name.specs.declared.fault.CertFault.{CertFault}
+use Rattle.ts_name.specs.Fault.{breaks}
+use Rattle.ts_name.specs.Repeats.{first_repeated}
+use Rattle.ts_name.specs.Shape.{◌or_else◌}
+use Rattle.ts_time.specs.Civil.{IsInYears}
+use Rattle.ts_cert.specs.declared.time.Time.{Time}
+use Rattle.ts_ext.specs.declared.known.Holder.TheVariants.{List as ListHolder, Entry}
+use Rattle.ts_ext.specs.declared.reason_code.ReasonCode.{ReasonCode}
+use Rattle.ts_ext.specs.Ext.{reasonCode}
+use Rattle.ts_ext.specs.Extension.{Extension}
+use Rattle.ts_ext.specs.Known.{known_at, entry_extension}
+use Rattle.ts_ext.specs.ValueRules.{IsSound, AreSound}
+use Rattle.ts_crl.specs.Entries.{entries_of}
+use Rattle.ts_crl.specs.Fault.{ListFault, broken, noNextUpdate, criticalCrlExtension, indirect, relativeName, deltaCrl}
+use Rattle.ts_crl.specs.List.{StandingList, CertificateList, said_list}
+use Rattle.ts_crl.specs.Profile.{profile_fault, unprocessed, is_indirect, is_relative, is_delta}
+use Rattle.ts_crl.specs.Rules.{placed_fault}
+use Rattle.ts_crl.specs.Table.{unless_broken, crl_of}
+use Rattle.ts_crl.proofs.PlacedLaws.{HasOneSound, none-placed}
+use Rattle.ts_make.specs.declared.list_description.EntryText.{EntryText}
+use Rattle.ts_make.specs.declared.list_description.CrlText.{CrlText}
+use Rattle.ts_make.specs.declared.fault.MakeFault.{MakeFault}
+use Rattle.ts_make.specs.declared.fault.MakeFault.TheVariants.{Memory, TooLong, Unreadable}
+use Rattle.ts_make.specs.Extensions.{field_of}
+use Rattle.ts_make.specs.Sayable.{IfWritten}
+use Rattle.ts_make.specs.Times.{IsTimeOf}
+use Rattle.ts_make.specs.ListExtensions.{reason_extension, list_extensions}
+use Rattle.ts_make.specs.ListMade.{made_list}
+use Rattle.ts_make.specs.ListMaking.{AnswersMadeList, IsSayableList, AreAllowedInList, IsListRefusal}
+use Rattle.ts_make.proofs.ListSpelled.{entry_said, revoked_said}
+use Rattle.ts_make.proofs.ListRefused.{IsOutsideList, list-refused}
+use Rattle.ts_make.proofs.ListAnswered.{in_years, IsListRead, is-list-read, crl-read, profile-left}
+
+-- the extension of an entry has the value of its reason
+reason-sound : (r : ReasonCode) → IsSound Entry (reason_extension r)
+unfolding known_at entry_extension
+reason-sound r = (
+  reasonCode r,
+  record { content = _; fits = record { octet = omega arith; low = omega arith; short = omega arith }; spelled = refl; value = (r, refl, refl) },
+  refl,
+)
+
+each-sound : (date : Time) (es : List EntryText) → AllByRecursion HasOneSound (map (entry_said date) es)
+each-sound date [] = tt
+each-sound date (e ∷ es) = (record { extension = reason_extension e.reason; alone = refl; sound = reason-sound e.reason }, each-sound date es)
+
+entries-sound : (date : Time) (es : List EntryText) → AllByRecursion HasOneSound (unwrap_or (revoked_said date es) [])
+entries-sound date [] = tt
+entries-sound date (e ∷ es) = each-sound date (e ∷ es)
+
+field-list : (xs : List Extension) → unwrap_or (field_of xs) [] ≡ xs
+field-list [] = refl
+field-list (x ∷ xs) = refl
+
+none-broken : (t n : List ℕ) (text : CrlText) (is : IsListRead t n text) → AreAllowedInList (list_extensions text) → placed_fault is.standing ≡ None
+none-broken t n text is allowed =
+    let l = is.standing in
+    let xs : unwrap_or (said_list l).tbsCertList.crlExtensions [] ≡ list_extensions text = ap (λ (c : CertificateList). unwrap_or c.tbsCertList.crlExtensions []) is.same ∙ field-list (list_extensions text) in
+    none-placed l
+    (ap (λ (c : CertificateList). c.tbsCertList.version) is.same)
+    (ap (λ (c : CertificateList). c.tbsCertList.signature.whole) is.same ∙ sym (ap (λ (c : CertificateList). c.signatureAlgorithm.whole) is.same))
+    (subst (λ (c : CertificateList). AllByRecursion HasOneSound (entries_of c)) (sym is.same) (entries-sound is.issued text.entries.now))
+    (ap (λ (ys : List Extension). first_repeated (λ x. x.extnID) [] ys) xs ∙ allowed.distinct)
+    (subst (AreSound ListHolder) (sym xs) allowed.sound)
+
+-- no rule of the profile has a place
+chain : (a b c d : Bool) (o : Option (List ℕ)) (f : CertFault)
+    → ((cond a (Some noNextUpdate) None) or_else option_map (λ oid. criticalCrlExtension oid) o or_else (cond b (Some indirect) None) or_else (cond c (Some relativeName) None) or_else (cond d (Some deltaCrl) None)) ≡ Some (broken f) → ⊥
+chain true b c d o f e = absurd cc
+chain false b c d (Some oid) f e = absurd cc
+chain false true c d None f e = absurd cc
+chain false false true d None f e = absurd cc
+chain false false false true None f e = absurd cc
+chain false false false false None f e = absurd cc
+
+not-broken : (l : StandingList) (o : Option ListFault) (f : CertFault) → (o ≡ Some (broken f) → ⊥) → unless_broken l o ≡ Err (broken f) → ⊥
+not-broken l None f other e = absurd cc
+not-broken l (Some g) f other e = other cc
+
+one-fault : (r : Result CertificateList ListFault) (f g : CertFault) → r ≡ Err (broken f) → r ≡ Err (broken g) → f.kind ≡ g.kind
+one-fault r f g e h = let same : f ≡ g = cc in ap (λ (x : CertFault). x.kind) same
+
+either : (text : CrlText) → IsOutsideList text → (IsInYears 0 9999 text.this_update → ⊥) ⊎ (IsInYears 0 9999 text.next_update → ⊥)
+either text (inl outside) = inl outside
+either text (inr outside) = inr outside.1
+
+refusal : (t n : List ℕ) (text : CrlText) (fault : CertFault) → IsSayableList text → IsTimeOf t text.this_update → IsTimeOf n text.next_update
+    → length (made_list t n text) ≤ 1048576 → crl_of (made_list t n text) ≡ Err (broken fault) → IsListRefusal text (Unreadable fault)
+refusal t n text fault sayable from to le e =
+    elim (in_years text) [
+      | inl years ↦
+          let is = is-list-read t n text sayable from to le years.0 years.1 in
+          let l = is.standing in
+          let c = said_list l in
+          inr (λ allowed. not-broken l (profile_fault c) fault (chain (is_none c.tbsCertList.nextUpdate) (is_indirect c) (is_relative c) (is_delta c) (unprocessed c) fault) (sym (crl-read (made_list t n text) l is.shape ∙ profile-left l (none-broken t n text is allowed)) ∙ e))
+      | inr outside ↦
+          let refused = list-refused t n text sayable from to le outside in
+          inl (one-fault (crl_of (made_list t n text)) fault (breaks refused.0 (Der TimeForm)) e refused.1, either text outside)
+    ]
+
+pub answers-refused : (r : Result (Vec ℕ Global) MakeFault) (t n : List ℕ) (text : CrlText) → IfWritten r (IsSayableList text) → IsTimeOf t text.this_update → IsTimeOf n text.next_update
+    → AnswersMadeList r (made_list t n text) → IfErr r (IsListRefusal text)
+answers-refused (Ok v) t n text sayable from to h = tt
+answers-refused (Err Memory) t n text sayable from to h = tt
+answers-refused (Err TooLong) t n text sayable from to h = tt
+answers-refused (Err (Unreadable fault)) t n text sayable from to h = refusal t n text fault sayable from to h.0 h.1

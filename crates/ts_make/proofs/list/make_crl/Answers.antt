@@ -1,0 +1,15 @@
+use Rattle.ts_make.proofs.ListAnswered.{answers-described, answers-signed, answers-years}
+use Rattle.ts_make.proofs.ListRules.{answers-refused}
+use Rattle.ts_make.proofs.list.make_crl.Goals as goal
+
+pub returns-clause-described : goal.returns-clause-described
+returns-clause-described c = answers-described c.write_whole_list.result _ _ c.args.text.now c.write_whole_list.ensures.sayable c.of.ensures c.of-2.ensures c.write_whole_list.ensures.exact
+
+pub returns-clause-signed : goal.returns-clause-signed
+returns-clause-signed c = answers-signed c.write_whole_list.result _ _ c.args.text.now c.write_whole_list.ensures.sayable c.of.ensures c.of-2.ensures c.write_whole_list.ensures.exact
+
+pub returns-clause-years : goal.returns-clause-years
+returns-clause-years c = answers-years c.write_whole_list.result _ _ c.args.text.now c.write_whole_list.ensures.sayable c.of.ensures c.of-2.ensures c.write_whole_list.ensures.exact
+
+pub returns-clause-refused : goal.returns-clause-refused
+returns-clause-refused c = answers-refused c.write_whole_list.result _ _ c.args.text.now c.write_whole_list.ensures.sayable c.of.ensures c.of-2.ensures c.write_whole_list.ensures.exact

@@ -1,0 +1,59 @@
+-- What making a list of revoked certificates answers.
+use Rattle.std.specs.Prelude.{◌≡◌, ℕ, ◌<◌, ◌≤◌, ◌⊎◌, ◌^◌, List, [], length, None, Result, Ok, Err}
+use Rattle.std.specs.List.{AllByRecursion}
+use Rattle.std.specs.declared.vec.Vec.{Vec}
+use Rattle.std.specs.declared.alloc.Global.{Global}
+use Rattle.ts_der.specs.declared.fault.DerFault.TheVariants.{TimeForm}
+use Rattle.ts_name.specs.declared.fault.CertRule.TheVariants.{Der}
+use Rattle.ts_name.specs.Repeats.{first_repeated}
+use Rattle.ts_time.specs.Civil.{IsInYears}
+use Rattle.ts_ext.specs.declared.known.Holder.TheVariants.{List as ListHolder}
+use Rattle.ts_ext.specs.Extension.{Extension}
+use Rattle.ts_ext.specs.ValueRules.{AreSound}
+use Rattle.ts_crl.specs.Fault.{ListFault, broken}
+use Rattle.ts_crl.specs.List.{CertificateList}
+use Rattle.ts_crl.specs.Table.{crl_of}
+use Rattle.ts_make.specs.declared.list_description.EntryText.{EntryText}
+use Rattle.ts_make.specs.declared.list_description.CrlText.{CrlText}
+use Rattle.ts_make.specs.declared.fault.MakeFault.{MakeFault}
+use Rattle.ts_make.specs.declared.fault.MakeFault.TheVariants.{Memory, TooLong, Unreadable}
+use Rattle.ts_make.specs.Sayable.{AreTexts}
+use Rattle.ts_make.specs.Told.{IsSmallIfAny}
+use Rattle.ts_make.specs.ListExtensions.{list_extensions}
+
+-- no rule that has a place is broken
+abbrev pub IsTaken : Result CertificateList ListFault → Type 0
+IsTaken (Ok c) = Unit {0}
+IsTaken (Err (broken fault)) = ⊥
+IsTaken (Err other) = Unit {0}
+
+-- of the octets of a list: they are returned unless a rule that has a place is broken, and else it is said which
+abbrev pub AnswersMadeList : Result (Vec ℕ Global) MakeFault → List ℕ → Type 0
+AnswersMadeList (Ok v) octets = (v.items ≡ octets) × (length octets ≤ 1048576) × IsTaken (crl_of octets)
+AnswersMadeList (Err TooLong) octets = 1048576 < length octets
+AnswersMadeList (Err (Unreadable fault)) octets = (length octets ≤ 1048576) × (crl_of octets ≡ Err (broken fault))
+AnswersMadeList (Err Memory) octets = Unit {0}
+
+-- the serial numbers of entries are u32s
+abbrev pub AreSerials : List EntryText → Type 0
+AreSerials es = AllByRecursion (λ e. e.serial < 2 ^ 32) es
+
+-- what the types of a description say of it, wherever the code reads them: the texts of the name are UTF-8, and the numbers u32s
+pub record IsSayableList (text : CrlText) : Type 0 where
+  pub issuer : AreTexts text.issuer.now
+  pub entries : AreSerials text.entries.now
+  pub number : IsSmallIfAny text.number
+
+-- extensions that a list may have: none stands twice (4.2), and the value of each is one that it has (5.2)
+pub record AreAllowedInList (extensions : List Extension) : Type 0 where
+  pub distinct : first_repeated (λ x. x.extnID) [] extensions ≡ None
+  pub sound : AreSound ListHolder extensions
+
+-- what was written is refused only for a time, where a moment lies outside the years 0 to 9999, or for extensions that a
+-- list may not have
+abbrev pub IsListRefusal : CrlText → MakeFault → Type 0
+IsListRefusal text Memory = Unit {0}
+IsListRefusal text TooLong = Unit {0}
+IsListRefusal text (Unreadable fault) =
+    (fault.kind ≡ Der TimeForm) × (¬ (IsInYears 0 9999 text.this_update) ⊎ ¬ (IsInYears 0 9999 text.next_update))
+    ⊎ ¬ (AreAllowedInList (list_extensions text))

@@ -1,0 +1,90 @@
+//! Lists of revoked certificates.
+
+ghost use Rattle.std.specs.Prelude.{◌≡◌, ℕ, List, Ok, IfOk, IfErr, OnOk};
+ghost use Rattle.ts_time.specs.Civil.{IsInYears};
+ghost use Rattle.ts_crl.specs.List.{StandingList, said_list};
+ghost use Rattle.ts_crl.specs.Reading.{shape_of};
+ghost use Rattle.ts_crl.specs.Table.{crl_of};
+ghost use Rattle.ts_make.specs.Times.{IsTimeOf};
+ghost use Rattle.ts_make.specs.TimeView.{time_octets};
+ghost use Rattle.ts_make.specs.Sayable.{IfWritten};
+ghost use Rattle.ts_make.specs.Writing.{Writes};
+ghost use Rattle.ts_make.specs.ListMade.{made_list};
+ghost use Rattle.ts_make.specs.ListMaking.{AnswersMadeList, IsSayableList, IsListRefusal};
+ghost use Rattle.ts_make.specs.ListDescription.{IsListDescribed, IsListSignedBy, IsReadAs};
+
+use crate::elements::{SEQUENCE, append, append_bits, element};
+use crate::fault::MakeFault;
+use crate::list_description::CrlText;
+use crate::list_tbs::write_list_tbs;
+use crate::times::TimeText;
+use std::alloc::Global;
+use ts_crl::{Crl, CrlFault, MAX_CRL};
+use ts_sig::{STAND_IN_ALGORITHM, digest_signature};
+
+/// What is signed, the algorithm and the signature, as one element (RFC 5280 5.1.1).
+#[tactic(auto, unfolding(crate::specs::ListMade::made_list))]
+fn write_list(
+    alloc: Global,
+    text: &CrlText<'_>,
+    this: &TimeText,
+    next: &TimeText,
+) -> Result<Vec<u8>, MakeFault>
+    ensures exact { Writes result (made_list (time_octets this.now) (time_octets next.now) text.now) }
+    ensures sayable { OnOk result (IsSayableList text.now) }
+{
+    let mut fields = write_list_tbs(alloc, text, this, next)?;
+    let signature = digest_signature(text.signer, &fields);
+    append(&mut fields, STAND_IN_ALGORITHM.as_slice())?;
+    append_bits(alloc, &mut fields, signature.as_slice())?;
+    element(alloc, SEQUENCE, &fields)
+}
+
+/// The same, unless it breaks a rule that has a place.
+fn write_whole_list(
+    alloc: Global,
+    text: &CrlText<'_>,
+    this: &TimeText,
+    next: &TimeText,
+) -> Result<Vec<u8>, MakeFault>
+    ensures exact { AnswersMadeList result (made_list (time_octets this.now) (time_octets next.now) text.now) }
+    ensures sayable { IfWritten result (IsSayableList text.now) }
+{
+    let octets = write_list(alloc, text, this, next)?;
+    if octets.len() > MAX_CRL {
+        return Err(MakeFault::TooLong);
+    }
+    match Crl::read(&octets) {
+        Err(CrlFault::Broken(fault)) => Err(MakeFault::Unreadable(fault)),
+        _ => Ok(octets),
+    }
+}
+
+/// The DER of the list that a description says, signed by the stand-in under the signer's key.
+///
+/// # Errors
+///
+/// `TooLong` exactly where the octets would be more than 1,048,576; `Unreadable` exactly where a rule that has a place is
+/// broken: a moment lies outside the years 0 to 9999, which no list can say, or the extensions are not those that a list
+/// may have; `Memory` only where memory ran out. A critical extension that is not processed is no error: what is made is
+/// the list that says it, which reading refuses.
+pub fn make_crl(alloc: Global, text: &CrlText<'_>) -> Result<Vec<u8>, MakeFault>
+    // It is the one list that says the description, where a list may be so long.
+    ensures made { (this next : List ℕ) × IsTimeOf this text.now.this_update × IsTimeOf next text.now.next_update
+        × AnswersMadeList result (made_list this next text.now) }
+    // It has the shape of the list that the description says, and reading gives that list, unless the profile refuses it.
+    ensures described { IfOk result (λ v. (l : StandingList) × (shape_of v.items ≡ Ok l) × IsListDescribed text.now (said_list l) × IsReadAs (crl_of v.items) (said_list l)) }
+    // It is signed by the stand-in under the signer's key.
+    ensures signed { IfOk result (λ v. (l : StandingList) × (shape_of v.items ≡ Ok l) × IsListSignedBy text.now.signer.now (said_list l)) }
+    // What can't be said is not: both moments lie in the years 0 to 9999.
+    ensures years { OnOk result (IsInYears 0 9999 text.now.this_update × IsInYears 0 9999 text.now.next_update) }
+    // For no other reason is refused what was written.
+    ensures refused { IfErr result (IsListRefusal text.now) }
+{
+    write_whole_list(
+        alloc,
+        text,
+        &TimeText::of(text.this_update),
+        &TimeText::of(text.next_update),
+    )
+}
