@@ -3,8 +3,10 @@ pub mod Cutting
 pub mod Decoding
 pub mod DottedText
 pub mod Keywords
+pub mod ListReading
 pub mod SameParts
 pub mod OneCertificate
+pub mod OneList
 pub mod OneParts
 pub mod OneWord
 pub mod Reading

@@ -42,7 +42,7 @@ one_list (x ∷ xs) (y ∷ ys) e =
     let rest = one_list xs ys (cc) in
     cc
 
-one_dn : (word : List ℕ) (xs ys : List RdnText) → IsDn word xs → IsDn word ys → rdns_in xs ≡ rdns_in ys
+pub one_dn : (word : List ℕ) (xs ys : List RdnText) → IsDn word xs → IsDn word ys → rdns_in xs ≡ rdns_in ys
 one_dn word xs ys is other = one_list xs ys (sym is.pieces ∙ other.pieces)
 
 -- what is made depends on what is described

@@ -21,10 +21,10 @@ one_number word m n is other = decimal_injective m n (omega (arith, is.range)) (
 pub one_hex : (word xs ys : List ℕ) → IsHex word xs → IsHex word ys → xs ≡ ys
 one_hex word xs ys is other = IsHex-one word xs ys is (IsHex-decoded word ys other)
 
-one_text : (value xs ys : List ℕ) → IsText value xs → IsText value ys → xs ≡ ys
+pub one_text : (value xs ys : List ℕ) → IsText value xs → IsText value ys → xs ≡ ys
 one_text value xs ys is other = sym is.written ∙ other.written
 
-one_oid : (value xs ys : List ℕ) → IsDotted value xs → IsDotted value ys → xs ≡ ys
+pub one_oid : (value xs ys : List ℕ) → IsDotted value xs → IsDotted value ys → xs ≡ ys
 one_oid value xs ys is other =
     let read = content_read xs is.octets is.form in
     let again = content_read ys other.octets other.form in
@@ -40,7 +40,7 @@ numbers_same (x ∷ xs) (y ∷ ys) e is also =
     let rest = numbers_same xs ys (cc) is.1 also.1 in
     cc
 
-one_numbers : (value xs ys : List ℕ) → IsNumbers value xs → IsNumbers value ys → xs ≡ ys
+pub one_numbers : (value xs ys : List ℕ) → IsNumbers value xs → IsNumbers value ys → xs ≡ ys
 one_numbers value xs ys is other = numbers_same xs ys (sym is.pieces ∙ other.pieces) is.ranges other.ranges
 
 one_name : (kind : NameKind) (value : List ℕ) (m n : PartName) → IsNameValue kind value m → IsNameValue kind value n → m ≡ n

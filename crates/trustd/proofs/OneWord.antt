@@ -4,12 +4,13 @@ use Rattle.trustd.specs.declared.cert_line.CertWords.{CertWords}
 use Rattle.trustd.specs.declared.check_line.CheckWords.{CheckWords}
 use Rattle.trustd.specs.declared.script.LineFault.{LineFault}
 use Rattle.trustd.specs.declared.script.LineFault.TheVariants.{Unknown, Form, Name, Limit, Memory}
-use Rattle.trustd.specs.Known.{Entry, octets_named}
+use Rattle.trustd.specs.Known.{Entry, named, certificate_named}
 use Rattle.trustd.specs.CertLine.{cert_line, IsCertLine, IsMade, IsCertSaid, RefusesCert}
 use Rattle.trustd.specs.CheckLine.{check_line, others_of, names_of, AreKnown, IsCheckSaid, HasExtensions, RefusesCheck}
-use Rattle.trustd.specs.Says.{Kind, skipped, cert_kind, check_kind, unknown_kind, SaysAs, RefusesAs}
+use Rattle.trustd.specs.Says.{Kind, skipped, cert_kind, crl_kind, check_kind, unknown_kind, SaysAs, RefusesAs}
 use Rattle.trustd.proofs.Answering.{made_again, same_names, long_stands, read_stands}
 use Rattle.trustd.proofs.OneCertificate.{one_made}
+use Rattle.trustd.proofs.OneList.{crl_answered, crl_refused}
 
 same_name : (v w : CertWords) → cert_line v ≡ cert_line w → v.name.now ≡ w.name.now
 unfolding cert_line
@@ -23,8 +24,8 @@ same_others : (v w : CheckWords) → check_line v ≡ check_line w → others_of
 unfolding check_line
 same_others v w same = cc
 
-free_again : (known : List Entry) (v w : CertWords) → cert_line v ≡ cert_line w → octets_named known v.name.now ≡ None → octets_named known w.name.now ≡ None
-free_again known v w same free = subst (λ (name : List ℕ). octets_named known name ≡ None) (same_name v w same) free
+free_again : (known : List Entry) (v w : CertWords) → cert_line v ≡ cert_line w → named known v.name.now ≡ None → named known w.name.now ≡ None
+free_again known v w same free = subst (λ (name : List ℕ). named known name ≡ None) (same_name v w same) free
 
 -- the words of a line make one certificate
 one_cert : (known : List Entry) (line : List ℕ) (v w : CertWords) (octets others : List ℕ) → IsCertLine line v → IsCertLine line w → IsMade v octets → IsMade w others → octets ≡ others
@@ -71,7 +72,7 @@ check_answered known line text Name said refused =
 check_answered known line text Limit said refused = absurd (elim refused.4 [
   | inl more ↦ more (same_others refused.0 said.0 (sym refused.2.words ∙ said.4.words) ∙ said.5)
   | inr beyond ↦
-      let target : octets_named known refused.0.target.now ≡ octets_named known said.0.target.now = ap (octets_named known) (same_target refused.0 said.0 (sym refused.2.words ∙ said.4.words)) in
+      let target : certificate_named known refused.0.target.now ≡ certificate_named known said.0.target.now = ap (certificate_named known) (same_target refused.0 said.0 (sym refused.2.words ∙ said.4.words)) in
       let one : beyond.0 ≡ said.3 = let e = sym beyond.1 ∙ (target ∙ said.7) in cc in
       said.8 (subst HasExtensions one beyond.2)
 ])
@@ -103,6 +104,7 @@ pub answered_as : (kind : Kind) (known after : List Entry) (line text : List ℕ
     → RefusesAs kind known line fault → fault ≡ Memory
 answered_as skipped known after line text fault says refuses = refuses
 answered_as cert_kind known after line text fault says refuses = cert_answered known after line text fault says refuses
+answered_as crl_kind known after line text fault says refuses = crl_answered known after line text fault says refuses
 answered_as check_kind known after line text fault says refuses = check_answered known line text fault says.0 refuses
 answered_as unknown_kind known after line text fault says refuses = absurd says
 
@@ -110,6 +112,7 @@ pub refused_as : (kind : Kind) (known : List Entry) (line : List ℕ) (fault oth
     → RefusesAs kind known line other → fault ≢ Memory → other ≢ Memory → fault ≡ other
 refused_as skipped known line fault other refuses again some more = absurd (some refuses)
 refused_as cert_kind known line fault other refuses again some more = cert_refused known line fault other refuses again some more
+refused_as crl_kind known line fault other refuses again some more = crl_refused known line fault other refuses again some more
 refused_as check_kind known line fault other refuses again some more = check_refused known line fault other refuses again some more
 refused_as unknown_kind known line fault other (inl is) (inl also) some more = is ∙ sym also
 refused_as unknown_kind known line fault other (inl is) (inr also) some more = absurd (more also)

@@ -9,7 +9,8 @@ use Rattle.trustd.specs.Pieces.{onto_first, all_onto_first}
 use Rattle.trustd.specs.Known.{Entry}
 use Rattle.trustd.specs.CertLine.{RefusesCert}
 use Rattle.trustd.specs.CheckLine.{RefusesCheck}
-use Rattle.trustd.specs.Says.{Says, Refuses, RefusesAs, Kind, skipped, cert_kind, check_kind, unknown_kind, kind_of}
+use Rattle.trustd.specs.CrlLine.{RefusesCrl}
+use Rattle.trustd.specs.Says.{Says, Refuses, RefusesAs, Kind, skipped, cert_kind, crl_kind, check_kind, unknown_kind, kind_of}
 use Rattle.trustd.specs.declared.script.LineFault.{LineFault}
 use Rattle.trustd.specs.Script.{lines_of, Run}
 use Rattle.trustd.specs.declared.scanner.Stop.{Stop}
@@ -88,6 +89,7 @@ scans_begun n known line x other before rest whole wrong e =
 forgotten : (kind : Kind) (known : List Entry) (line : List ℕ) (fault : LineFault) → fault ≡ Memory → RefusesAs kind known line fault
 forgotten skipped known line fault is = is
 forgotten cert_kind known line fault is = subst (RefusesCert known line) (sym is) tt
+forgotten crl_kind known line fault is = subst (RefusesCrl known line) (sym is) tt
 forgotten check_kind known line fault is = subst (RefusesCheck known line) (sym is) tt
 forgotten unknown_kind known line fault is = inr is
 

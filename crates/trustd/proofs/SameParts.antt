@@ -1,6 +1,5 @@
 -- Parts of a description that are one as plain data describe the same extensions.
 use Rattle.std.proofs.Common.{◌≡◌, List, [], ◌∷◌, map}
-use Rattle.ts_ext.specs.Extension.{Extension}
 use Rattle.ts_make.specs.declared.description.NameText.{NameText}
 use Rattle.ts_make.specs.declared.description.NameText.TheVariants as name
 use Rattle.ts_make.specs.declared.description.ExtensionText.{ExtensionText}

@@ -13,7 +13,7 @@ use Rattle.trustd.specs.Pieces.{pieces_behind}
 use Rattle.trustd.specs.Words.{words_of, IsName, IsNumber, IsHex, IsDn}
 use Rattle.trustd.specs.Parts.{part_in}
 use Rattle.trustd.specs.ExtensionWords.{AreParts}
-use Rattle.trustd.specs.Known.{Entry, octets_named}
+use Rattle.trustd.specs.Known.{Entry, certificate, named}
 
 -- the words behind the signer
 abbrev pub extension_words : CertWords → List (List ℕ)
@@ -47,8 +47,8 @@ IsMade c octets =
 -- by its name from then on; before, nothing was
 abbrev pub IsKept : List Entry → CertWords → List ℕ → List Entry → Type 0
 IsKept known c text after =
-    (octets : List ℕ) × IsMade c octets × (length octets ≤ 65536) × (is_ok (certificate_of octets) ≡ true) × (octets_named known c.name.now ≡ None)
-    × (after ≡ known ++ (c.name.now, octets) ∷ [])
+    (octets : List ℕ) × IsMade c octets × (length octets ≤ 65536) × (is_ok (certificate_of octets) ≡ true) × (named known c.name.now ≡ None)
+    × (after ≡ known ++ (c.name.now, certificate octets) ∷ [])
     × (text ≡ codes "cert " ++ (c.name.now ++ (codes " " ++ (decimal (length octets) ++ codes "\n"))))
 
 -- the words stand in their places, and the name is one
@@ -67,8 +67,8 @@ IsUnreadable octets = (length octets ≤ 65536) × (is_ok (certificate_of octets
 -- one, but the name is taken; it is not, but the certificate would be too long
 abbrev pub RefusesWords : List Entry → CertWords → LineFault → Type 0
 RefusesWords known c Form = (octets : List ℕ) → IsMade c octets → IsUnreadable octets
-RefusesWords known c Name = (octets : List ℕ) × IsMade c octets × ¬ (IsUnreadable octets) × (octets_named known c.name.now ≢ None)
-RefusesWords known c Limit = (octets : List ℕ) × IsMade c octets × (octets_named known c.name.now ≡ None) × (65536 < length octets)
+RefusesWords known c Name = (octets : List ℕ) × IsMade c octets × ¬ (IsUnreadable octets) × (named known c.name.now ≢ None)
+RefusesWords known c Limit = (octets : List ℕ) × IsMade c octets × (named known c.name.now ≡ None) × (65536 < length octets)
 RefusesWords known c Memory = Unit {0}
 RefusesWords known c Unknown = ⊥
 

@@ -16,7 +16,7 @@ use Rattle.trustd.specs.declared.script.LineFault.{LineFault}
 use Rattle.trustd.specs.declared.script.LineFault.TheVariants.{Unknown, Form, Name, Limit, Memory}
 use Rattle.trustd.specs.Pieces.{pieces_behind}
 use Rattle.trustd.specs.Words.{words_of, IsName}
-use Rattle.trustd.specs.Known.{Entry, octets_named}
+use Rattle.trustd.specs.Known.{Entry, certificate_named}
 
 -- the names behind the first one of a chain
 abbrev pub others_of : CheckWords → List (List ℕ)
@@ -57,19 +57,19 @@ pub record IsCheckLine (line : List ℕ) (c : CheckWords) (moment : ℤ) : Type 
 
 -- each name has a certificate
 abbrev pub AreKnown : List Entry → List (List ℕ) → Type 0
-AreKnown known names = AllByRecursion (λ name. octets_named known name ≢ None) names
+AreKnown known names = AllByRecursion (λ name. certificate_named known name ≢ None) names
 
 -- a `check` line prints the verdict on the certificate that it names, under the one that it names as the anchor
 abbrev pub IsCheckSaid : List Entry → List ℕ → List ℕ → Type 0
 IsCheckSaid known line text =
     (c : CheckWords) × (moment : ℤ) × (anchor : List ℕ) × (target : List ℕ)
     × IsCheckLine line c moment × (others_of c ≡ [])
-    × (octets_named known c.anchor.now ≡ Some anchor) × (octets_named known c.target.now ≡ Some target)
+    × (certificate_named known c.anchor.now ≡ Some anchor) × (certificate_named known c.target.now ≡ Some target)
     × ¬ (HasExtensions target) × IsJudged anchor target moment text
 
 -- more is asked than the lab answers: there is more than one name behind `chain`, or its certificate has extensions
 abbrev pub IsBeyond : List Entry → CheckWords → Type 0
-IsBeyond known c = (others_of c ≢ []) ⊎ ((target : List ℕ) × (octets_named known c.target.now ≡ Some target) × HasExtensions target)
+IsBeyond known c = (others_of c ≢ []) ⊎ ((target : List ℕ) × (certificate_named known c.target.now ≡ Some target) × HasExtensions target)
 
 -- why a `check` line is refused: it has no words in their places; it has, but a name has no certificate; each has one, but
 -- more is asked than the lab answers

@@ -10,27 +10,33 @@ use Rattle.trustd.specs.Words.{words_of, first_of}
 use Rattle.trustd.specs.Known.{Entry}
 use Rattle.trustd.specs.CertLine.{IsCertSaid, RefusesCert}
 use Rattle.trustd.specs.CheckLine.{IsCheckSaid, RefusesCheck}
+use Rattle.trustd.specs.CrlLine.{IsCrlSaid, RefusesCrl}
 
 -- what a line is by its first word
 pub data Kind : Type 0 where
   skipped : Kind
   cert_kind : Kind
+  crl_kind : Kind
   check_kind : Kind
   unknown_kind : Kind
 
 abbrev pub kind_of_word : List ℕ → Kind
 kind_of_word word =
-    if bytes_eq word (codes "cert") then cert_kind else (if bytes_eq word (codes "check") then check_kind else unknown_kind)
+    if bytes_eq word (codes "cert") then cert_kind
+    else (if bytes_eq word (codes "crl") then crl_kind
+    else (if bytes_eq word (codes "check") then check_kind
+    else unknown_kind))
 
 -- empty lines and comments are skipped
 abbrev pub kind_of : List ℕ → Kind
 kind_of [] = skipped
 kind_of (x ∷ xs) = if x == COMMENT then skipped else kind_of_word (first_of (words_of (x ∷ xs)))
 
--- a line of a kind is answered with the text, and the certificates that are known after it are these
+-- a line of a kind is answered with the text, and what is known after it is this
 abbrev pub SaysAs : Kind → List Entry → List ℕ → List ℕ → List Entry → Type 0
 SaysAs skipped known line text after = (text ≡ []) × (after ≡ known)
 SaysAs cert_kind known line text after = IsCertSaid known line text after
+SaysAs crl_kind known line text after = IsCrlSaid known line text after
 SaysAs check_kind known line text after = IsCheckSaid known line text × (after ≡ known)
 SaysAs unknown_kind known line text after = ⊥
 
@@ -38,6 +44,7 @@ SaysAs unknown_kind known line text after = ⊥
 abbrev pub RefusesAs : Kind → List Entry → List ℕ → LineFault → Type 0
 RefusesAs skipped known line fault = fault ≡ Memory
 RefusesAs cert_kind known line fault = RefusesCert known line fault
+RefusesAs crl_kind known line fault = RefusesCrl known line fault
 RefusesAs check_kind known line fault = RefusesCheck known line fault
 RefusesAs unknown_kind known line fault = (fault ≡ Unknown) ⊎ (fault ≡ Memory)
 

@@ -5,6 +5,7 @@ ghost use Rattle.trustd.specs.Says.{Answers};
 
 use crate::cert_line::answer_cert;
 use crate::check_line::answer_check;
+use crate::crl_line::answer_crl;
 use crate::named::Named;
 use crate::script::{COMMENT, LineFault};
 use crate::words::{SPACE, first_piece};
@@ -27,6 +28,8 @@ pub fn answer_line(alloc: Global, known: &mut Vec<Named>, line: &[u8]) -> Result
     let (word, _rest) = first_piece(line, SPACE);
     if word == b"cert".as_slice() {
         answer_cert(alloc, known, line)
+    } else if word == b"crl".as_slice() {
+        answer_crl(alloc, known, line)
     } else if word == b"check".as_slice() {
         answer_check(alloc, known, line)
     } else {

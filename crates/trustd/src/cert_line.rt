@@ -5,11 +5,12 @@ ghost use Rattle.std.specs.Fmt.{decimal};
 ghost use Rattle.ts_cert.specs.Reading.{certificate_of};
 ghost use Rattle.trustd.specs.declared.script.LineFault.TheVariants.{Memory};
 ghost use Rattle.trustd.specs.Words.{IsName};
-ghost use Rattle.trustd.specs.Known.{known_in, octets_named};
+ghost use Rattle.trustd.specs.Known.{known_in, named};
 ghost use Rattle.trustd.specs.CertLine.{IsCertLine, IsMade, IsKept, RefusesWords, IsCertSaid, RefusesCert};
 
+use crate::cert_octets::CertOctets;
 use crate::extension_words::{extension_words, parts_in};
-use crate::named::Named;
+use crate::named::{Kept, Named};
 use crate::script::LineFault;
 use crate::words::{is_name, moment_of, number_of, octets_of, rdns_of, word_behind};
 use std::alloc::Global;
@@ -65,7 +66,7 @@ impl<'a> CertWords<'a> {
         ensures made { IfOk result (λ octets. IsMade self.now octets.items) }
         ensures short { IfOk result (λ octets. length octets.items ≤ 65536) }
         ensures reads { IfOk result (λ octets. is_ok (certificate_of octets.items) ≡ true) }
-        ensures free { OnOk result (octets_named (known_in known.now) self.now.name.now ≡ None) }
+        ensures free { OnOk result (named (known_in known.now) self.now.name.now ≡ None) }
         ensures fault { IfErr result (RefusesWords (known_in known.now) self.now) }
     {
         let serial = number_of(self.serial).ok_or(LineFault::Form)?;
@@ -121,7 +122,10 @@ fn keep(alloc: Global, known: &mut Vec<Named>, words: &CertWords<'_>) -> Result<
     let octets = words.make(alloc, known)?;
     let name = Vec::from_slice(alloc, words.name)?;
     let text = cert_text(alloc, words.name, octets.len())?;
-    known.push(Named { name, octets })?;
+    known.push(Named {
+        name,
+        kept: Kept::Certificate(CertOctets { octets }),
+    })?;
     Ok(text)
 }
 

@@ -7,6 +7,7 @@ ghost use Rattle.trustd.specs.Words.{IsName, words_of};
 ghost use Rattle.trustd.specs.Known.{known_in};
 ghost use Rattle.trustd.specs.CheckLine.{check_line, verdict_text, IsJudged, names_of, IsCheckLine, AreKnown, IsCheckSaid, RefusesCheck};
 
+use crate::cert_octets::CertOctets;
 use crate::named::Named;
 use crate::script::LineFault;
 use crate::words::{SPACE, are_names, first_piece, is_name, moment_of, word_behind};
@@ -30,8 +31,8 @@ fn print_verdict(alloc: Global, verdict: &Verdict<'_>) -> Result<String, AllocEr
 /// Judges a certificate under another as the anchor.
 fn judge(
     alloc: Global,
-    anchor: &Named,
-    target: &Named,
+    anchor: &CertOctets,
+    target: &CertOctets,
     moment: Moment,
 ) -> Result<String, AllocError>
     ensures { IfOk result (λ text. IsJudged anchor.now.octets.items target.now.octets.items moment (string_bytes text)) }
@@ -99,7 +100,7 @@ fn are_known(known: &[Named], names: Option<&[u8]>) -> bool
     let mut rest = names;
     while let Some(left) = rest {
         let (name, behind) = first_piece(left, SPACE);
-        if Named::find(known, name).is_none() {
+        if Named::find_cert(known, name).is_none() {
             return false;
         }
         rest = behind;
@@ -116,8 +117,8 @@ pub fn answer_check(alloc: Global, known: &[Named], line: &[u8]) -> Result<Strin
         return Err(LineFault::Form);
     };
     let (Some(anchor), Some(target)) = (
-        Named::find(known, words.anchor),
-        Named::find(known, words.target),
+        Named::find_cert(known, words.anchor),
+        Named::find_cert(known, words.target),
     ) else {
         return Err(LineFault::Name);
     };

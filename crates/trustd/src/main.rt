@@ -5,14 +5,22 @@ ghost use Rattle.std.specs.Prelude.{◌≤◌};
 
 mod answer;
 mod cert_line;
+mod cert_octets;
 mod check_line;
 mod command_line;
+mod crl_line;
 #[cfg(test)]
 mod example_tests;
 mod extension_words;
 mod keyword;
 mod lab;
 mod laws;
+#[cfg(test)]
+mod list_count_tests;
+mod list_fields;
+#[cfg(test)]
+mod list_tests;
+mod list_words;
 mod named;
 mod scanner;
 mod script;

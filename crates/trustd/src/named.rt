@@ -1,26 +1,30 @@
-//! The certificates that a script has named so far.
+//! What a script has named so far.
 
-ghost use Rattle.std.specs.Prelude.{◌≡◌, true, is_ok};
-ghost use Rattle.ts_cert.specs.Reading.{certificate_of};
+ghost use Rattle.std.specs.Prelude.{◌≡◌, option_map};
+ghost use Rattle.trustd.specs.Known.{known_in, thing_in, named, certificate_named};
 
-use ts_cert::Cert;
+use crate::cert_octets::CertOctets;
 
-/// A certificate by its name in the script, as its octets.
+/// What a name stands for, as its octets.
+#[derive(Drop)]
+pub enum Kept {
+    /// A certificate.
+    Certificate(CertOctets),
+    /// A list of revoked certificates.
+    List(Vec<u8>),
+}
+
+/// What is known by a name.
 #[derive(Drop)]
 pub struct Named {
     pub name: Vec<u8>,
-    pub octets: Vec<u8>,
-    ghost reads: { is_ok (certificate_of octets.items) ≡ true },
+    pub kept: Kept,
 }
 
 impl Named {
-    ghost use Rattle.std.specs.Prelude.{Ok, option_map};
-    ghost use Rattle.ts_cert.specs.CertView.{cert_in};
-    ghost use Rattle.trustd.specs.Known.{known_in, octets_named};
-
-    /// The certificate of this name.
+    /// What is known by this name.
     pub fn find<'a>(known: &'a [Named], name: &[u8]) -> Option<&'a Named>
-        ensures { option_map (λ one. one.now.octets.items) result ≡ octets_named (known_in known.now) name.now }
+        ensures { option_map (λ one. thing_in one.now.kept) result ≡ named (known_in known.now) name.now }
     {
         for one in known {
             if one.name.as_slice() == name {
@@ -30,10 +34,13 @@ impl Named {
         None
     }
 
-    /// The certificate.
-    pub fn cert(&self) -> Cert<'_>
-        ensures { certificate_of self.now.octets.items ≡ Ok (cert_in result) }
+    /// The certificate of this name.
+    pub fn find_cert<'a>(known: &'a [Named], name: &[u8]) -> Option<&'a CertOctets>
+        ensures { option_map (λ one. one.now.octets.items) result ≡ certificate_named (known_in known.now) name.now }
     {
-        Cert::read(&self.octets).unwrap()
+        match &Named::find(known, name)?.kept {
+            Kept::Certificate(cert) => Some(cert),
+            Kept::List(_) => None,
+        }
     }
 }

@@ -18,7 +18,7 @@ pub struct Scanner {
     number: u64,
     /// What has come of that line.
     line: Vec<u8>,
-    /// The certificates that the lines before it have named.
+    /// What the lines before it have named.
     known: Vec<Named>,
 }
 

@@ -5,7 +5,7 @@ use Rattle.ts_time.specs.Text.{IsGeneral}
 use Rattle.ts_make.specs.declared.description.CertText.{CertText}
 use Rattle.ts_make.specs.Made.{made as made_octets}
 use Rattle.trustd.specs.Words.{IsNumber}
-use Rattle.trustd.specs.Known.{known_in, octets_named}
+use Rattle.trustd.specs.Known.{known_in, thing_in, named}
 use Rattle.trustd.specs.CertLine.{IsSaid, IsUnreadable}
 use Rattle.trustd.proofs.Answering.{form_of_none, some_of_ok, found_some, found_none, made_long, made_unreadable, made_stands, long_stands}
 use Rattle.trustd.proofs.OneCertificate.{one_made}
@@ -63,7 +63,7 @@ returns-in-Err-TooLong-clause-fault c =
       octets,
       (text, said, made.0, made.1, made.2, made.3, refl),
       long_stands octets long,
-      found_some (λ one. one.now.octets.items) c.find.result (octets_named (known_in c.args.known.now) words.name.now) (sym c.is_some-is_taken.ensures ∙ c.if-is_taken.true) c.find.ensures,
+      found_some (λ one. thing_in one.now.kept) c.find.result (named (known_in c.args.known.now) words.name.now) (sym c.is_some-is_taken.ensures ∙ c.if-is_taken.true) c.find.ensures,
     )
 
 pub returns-in-Err-TooLong-2-clause-fault : goal.returns-in-Err-TooLong-2-clause-fault
@@ -97,7 +97,7 @@ returns-in-Err-TooLong-2-clause-fault c =
     let long = made_long c.make_cert-made.result c.in-Err-TooLong-2.field-0 octets made.4 c.in-Err-TooLong-2.is (rw c.in-Err-TooLong-2.is at c.in-Err-TooLong-2.field-0-is) in (
       octets,
       (text, said, made.0, made.1, made.2, made.3, refl),
-      found_none (λ one. one.now.octets.items) c.find.result (octets_named (known_in c.args.known.now) words.name.now) (sym c.is_some-is_taken.ensures ∙ c.if-is_taken.false) c.find.ensures,
+      found_none (λ one. thing_in one.now.kept) c.find.result (named (known_in c.args.known.now) words.name.now) (sym c.is_some-is_taken.ensures ∙ c.if-is_taken.false) c.find.ensures,
       long,
     )
 
@@ -132,7 +132,7 @@ returns-in-Ok-clause-fault c =
       octets,
       (text, said, made.0, made.1, made.2, made.3, refl),
       made_stands c.make_cert-made.result c.in-Ok.field-0 octets made.4 c.in-Ok.is,
-      found_some (λ one. one.now.octets.items) c.find.result (octets_named (known_in c.args.known.now) words.name.now) (sym c.is_some-is_taken.ensures ∙ c.if-is_taken-2.true) c.find.ensures,
+      found_some (λ one. thing_in one.now.kept) c.find.result (named (known_in c.args.known.now) words.name.now) (sym c.is_some-is_taken.ensures ∙ c.if-is_taken-2.true) c.find.ensures,
     )
 
 pub returns-in-Err-Unreadable-clause-fault : goal.returns-in-Err-Unreadable-clause-fault

@@ -1,0 +1,14 @@
+-- A line is refused as its words are.
+use Rattle.std.proofs.lemmas.Result.{IfErr-weaker}
+use Rattle.trustd.specs.Known.{known_in}
+use Rattle.trustd.specs.Words.{IsName}
+use Rattle.trustd.specs.CrlLine.{RefusesListWords, RefusesCrl}
+use Rattle.trustd.proofs.OneList.{list_words_refused}
+use Rattle.trustd.proofs.crl_line.answer_crl.Goals as goal
+
+pub returns-clause-fault : goal.returns-clause-fault
+returns-clause-fault c =
+    let known = known_in c.args.known.now.items in
+    let words = c.in-Some.words in
+    IfErr-weaker c.keep.result (λ fault. IsName words.name.now → RefusesListWords known words fault) (RefusesCrl known c.args.line.now)
+    (λ fault h. list_words_refused known c.args.line.now words fault c.in-Some.ensures h) c.keep.ensures.fault
