@@ -22,3 +22,4 @@ pub mod ListRefused
 pub mod ListAnswered
 pub mod ListRules
 pub mod Answered
+pub mod SameList
