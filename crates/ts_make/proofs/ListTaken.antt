@@ -1,5 +1,5 @@
 -- What is made and breaks no rule that has a place is read, or refused for a critical extension.
-use Rattle.std.proofs.Common.{◌≡◌, ℕ, ◌+◌, get_or, ◌≤◌, ◌||◌, Bool, true, false, cond, List, [], ◌∷◌, ◌++◌, length, Option, Some, None, Result, Ok, Err, refl, sym, ap, subst, ◌∙◌, arith, length-append}
+use Rattle.std.proofs.Common.{◌≡◌, ℕ, ◌+◌, get_or, ◌≤◌, Bool, true, false, cond, List, [], ◌∷◌, ◌++◌, length, Option, Some, None, Result, Ok, Err, refl, sym, ap, subst, ◌∙◌, arith}
 use Rattle.std.specs.Prelude.{map, unwrap_or, option_map, is_none}
 use Rattle.std.specs.List.{AllByRecursion, find, list_any}
 use Rattle.std.specs.Str.{bytes_eq}
@@ -21,8 +21,8 @@ use Rattle.ts_ext.specs.Extension.{Extension}
 use Rattle.ts_ext.specs.Known.{known_at, list_extension, identifier_of}
 use Rattle.ts_ext.specs.Points.{ListScope, issuing_point_of}
 use Rattle.ts_crl.specs.Entries.{entries_of}
-use Rattle.ts_crl.specs.Fault.{ListFault, noNextUpdate, criticalCrlExtension, indirect, relativeName, deltaCrl}
-use Rattle.ts_crl.specs.List.{StandingList, CertificateList, said_list}
+use Rattle.ts_crl.specs.Fault.{noNextUpdate, criticalCrlExtension, indirect, relativeName, deltaCrl}
+use Rattle.ts_crl.specs.List.{CertificateList, said_list}
 use Rattle.ts_crl.specs.Profile.{profile_fault, unprocessed, is_indirect, is_relative, is_delta, is_relative_name, as_scope, scope_of, scope_meets, names_issuer}
 use Rattle.ts_crl.specs.Rules.{placed_fault}
 use Rattle.ts_crl.specs.Values.{is_known, extensions_of, ok_of, value_in_octets, value_if_any, value_among}
@@ -30,7 +30,7 @@ use Rattle.ts_make.specs.declared.list_description.EntryText.{EntryText}
 use Rattle.ts_make.specs.declared.list_description.CrlText.{CrlText}
 use Rattle.ts_make.specs.Extensions.{id_ce, field_of, sequence}
 use Rattle.ts_make.specs.ListExtensions.{number_extensions, full_name, some_reasons, scope_content, null_extension, list_extensions}
-use Rattle.ts_make.proofs.ListSpelled.{entry_said, revoked_said, list_said}
+use Rattle.ts_make.proofs.ListSpelled.{entry_said, revoked_said}
 use Rattle.ts_make.proofs.ListAnswered.{IsListRead}
 use Rattle.ts_make.proofs.ListProfile.{NullIfDelta, not-delta, IsPlain, scope-read}
 
