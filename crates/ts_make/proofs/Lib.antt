@@ -20,6 +20,8 @@ pub mod SignedRead
 pub mod ListSpelled
 pub mod ListRefused
 pub mod ListAnswered
+pub mod ListProfile
+pub mod ListTaken
 pub mod ListRules
 pub mod Answered
 pub mod SameList

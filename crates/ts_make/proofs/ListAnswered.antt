@@ -23,8 +23,8 @@ use Rattle.ts_make.specs.Description.{Says}
 use Rattle.ts_make.specs.Sayable.{IfWritten}
 use Rattle.ts_make.specs.Times.{IsTimeOf}
 use Rattle.ts_make.specs.ListMade.{list_tbs, made_list}
-use Rattle.ts_make.specs.ListMaking.{IsTaken, AnswersMadeList, AreSerials, IsSayableList}
-use Rattle.ts_make.specs.ListDescription.{AreEntriesOf, IsListDescribed, IsListSignedBy, IsReadAs}
+use Rattle.ts_make.specs.ListMaking.{IsWhole, AnswersWhole, AreSerials, IsSayableList}
+use Rattle.ts_make.specs.ListDescription.{AreEntriesOf, IsListDescribed, IsListSignedBy}
 use Rattle.ts_make.proofs.OneTime.{in_years_or_not}
 use Rattle.ts_make.proofs.SerialNumbers.{serial-is}
 use Rattle.ts_make.proofs.Said.{time-said}
@@ -66,23 +66,13 @@ pub crl-read : (octets : List ℕ) (l : StandingList) → shape_of octets ≡ Ok
 unfolding crl_of
 crl-read octets l shape = rw shape refl
 
-none-placed : (o : Option CertFault) (p : Option ListFault) (l : StandingList) → IsTaken (unless_broken l (option_map (λ f. broken f) o or_else p)) → o ≡ None
-none-placed None p l w = refl
-none-placed (Some f) p l w = absurd w
+pub placed-none : (o : Option CertFault) (p : Option ListFault) (l : StandingList) → IsWhole (unless_broken l (option_map (λ f. broken f) o or_else p)) → o ≡ None
+placed-none None p l w = refl
+placed-none (Some f) p l w = absurd w
 
 -- where no rule that has a place is broken, those of the profile are left
 pub profile-left : (l : StandingList) → placed_fault l ≡ None → unless_broken l (list_fault l) ≡ unless_broken l (profile_fault (said_list l))
 profile-left l none = ap (λ (o : Option CertFault). unless_broken l (option_map (λ f. broken f) o or_else profile_fault (said_list l))) none
-
-read-as : (l : StandingList) (o : Option ListFault) → profile_fault (said_list l) ≡ o → IsReadAs (unless_broken l o) (said_list l)
-read-as l None e = refl
-read-as l (Some f) e = e
-
-whole-read : (octets : List ℕ) (l : StandingList) → shape_of octets ≡ Ok l → IsTaken (crl_of octets) → IsReadAs (crl_of octets) (said_list l)
-whole-read octets l shape w =
-    let read = crl-read octets l shape in
-    let none = none-placed (placed_fault l) (profile_fault (said_list l)) l (subst IsTaken read w) in
-    subst (λ (r : Result CertificateList ListFault). IsReadAs r (said_list l)) (sym (read ∙ profile-left l none)) (read-as l (profile_fault (said_list l)) refl)
 
 -- ---- what it says
 
@@ -100,7 +90,7 @@ no-entries : (date : Time) (es : List EntryText) → es ≡ [] → revoked_said 
 no-entries date [] e = refl
 no-entries date (x ∷ es) e = absurd cc
 
-is-described : (t n : List ℕ) (text : CrlText) → IsSayableList text → (issued next : Time) → Says issued text.this_update → Says next text.next_update → IsListDescribed text (list_said t n issued next text)
+pub is-described : (t n : List ℕ) (text : CrlText) → IsSayableList text → (issued next : Time) → Says issued text.this_update → Says next text.next_update → IsListDescribed text (list_said t n issued next text)
 is-described t n text sayable issued next from to =
     record {
       version = refl;
@@ -119,11 +109,11 @@ is-signed t n text issued next =
     let digest = sha256 (text.signer.now ++ list_tbs t n text) in
     rw ((bytes_eq-Decides digest digest).1 refl) refl
 
-not-whole : (r : Result CertificateList ListFault) (f : CertFault) → r ≡ Err (broken f) → IsTaken r → ⊥
-not-whole r f e w = subst IsTaken e w
+not-whole : (r : Result CertificateList ListFault) (f : CertFault) → r ≡ Err (broken f) → IsWhole r → ⊥
+not-whole r f e w = subst IsWhole e w
 
 pub list-years : (t n : List ℕ) (text : CrlText) → IsSayableList text → IsTimeOf t text.this_update → IsTimeOf n text.next_update → length (made_list t n text) ≤ 1048576
-    → IsTaken (crl_of (made_list t n text)) → IsInYears 0 9999 text.this_update × IsInYears 0 9999 text.next_update
+    → IsWhole (crl_of (made_list t n text)) → IsInYears 0 9999 text.this_update × IsInYears 0 9999 text.next_update
 list-years t n text sayable from to le w =
     elim (in_years text) [
       | inl years ↦ years
@@ -132,21 +122,8 @@ list-years t n text sayable from to le w =
 
 -- ---- the clauses
 
-pub answers-described : (r : Result (Vec ℕ Global) MakeFault) (t n : List ℕ) (text : CrlText) → IfWritten r (IsSayableList text) → IsTimeOf t text.this_update → IsTimeOf n text.next_update
-    → AnswersMadeList r (made_list t n text)
-    → IfOk r (λ v. (l : StandingList) × (shape_of v.items ≡ Ok l) × IsListDescribed text (said_list l) × IsReadAs (crl_of v.items) (said_list l))
-answers-described (Ok v) t n text sayable from to h =
-    let years = list-years t n text sayable from to h.1 h.2 in
-    let is = is-list-read t n text sayable from to h.1 years.0 years.1 in (
-      is.standing,
-      ap shape_of h.0 ∙ is.shape,
-      subst (λ (c : CertificateList). IsListDescribed text c) (sym is.same) (is-described t n text sayable is.issued is.next is.issued_at is.next_at),
-      subst (λ (o : List ℕ). IsReadAs (crl_of o) (said_list is.standing)) (sym h.0) (whole-read (made_list t n text) is.standing is.shape h.2),
-    )
-answers-described (Err e) t n text sayable from to h = tt
-
 pub answers-signed : (r : Result (Vec ℕ Global) MakeFault) (t n : List ℕ) (text : CrlText) → IfWritten r (IsSayableList text) → IsTimeOf t text.this_update → IsTimeOf n text.next_update
-    → AnswersMadeList r (made_list t n text) → IfOk r (λ v. (l : StandingList) × (shape_of v.items ≡ Ok l) × IsListSignedBy text.signer.now (said_list l))
+    → AnswersWhole r (made_list t n text) → IfOk r (λ v. (l : StandingList) × (shape_of v.items ≡ Ok l) × IsListSignedBy text.signer.now (said_list l))
 answers-signed (Ok v) t n text sayable from to h =
     let years = list-years t n text sayable from to h.1 h.2 in
     let is = is-list-read t n text sayable from to h.1 years.0 years.1 in
@@ -154,6 +131,6 @@ answers-signed (Ok v) t n text sayable from to h =
 answers-signed (Err e) t n text sayable from to h = tt
 
 pub answers-years : (r : Result (Vec ℕ Global) MakeFault) (t n : List ℕ) (text : CrlText) → IfWritten r (IsSayableList text) → IsTimeOf t text.this_update → IsTimeOf n text.next_update
-    → AnswersMadeList r (made_list t n text) → OnOk r (IsInYears 0 9999 text.this_update × IsInYears 0 9999 text.next_update)
+    → AnswersWhole r (made_list t n text) → OnOk r (IsInYears 0 9999 text.this_update × IsInYears 0 9999 text.next_update)
 answers-years (Ok v) t n text sayable from to h = list-years t n text sayable from to h.1 h.2
 answers-years (Err e) t n text sayable from to h = tt

@@ -1,9 +1,11 @@
 -- The rules of a list of revoked certificates that what is made may break.
-use Rattle.std.proofs.Common.{◌≡◌, ℕ, ◌≤◌, ◌⊎◌, inl, inr, Bool, true, false, cond, List, [], ◌∷◌, length, Option, Some, None, Result, Ok, Err, refl, sym, ap, subst, ◌∙◌, arith}
-use Rattle.std.specs.Prelude.{IfErr, option_map, unwrap_or, map, is_none}
-use Rattle.std.specs.List.{AllByRecursion}
+use Rattle.std.proofs.Common.{◌++◌, ◌≡◌, ℕ, ◌≤◌, ◌⊎◌, inl, inr, Bool, true, false, cond, List, [], ◌∷◌, length, Option, Some, None, Result, Ok, Err, refl, sym, ap, subst, ◌∙◌, arith, length-append}
+use Rattle.std.specs.Prelude.{IfOk, IfErr, option_map, unwrap_or, map, is_none}
+use Rattle.std.specs.List.{AllByRecursion, flat_map}
+use Rattle.std.proofs.lemmas.List.Concat.{flat_map-append}
 use Rattle.std.specs.declared.vec.Vec.{Vec}
 use Rattle.std.specs.declared.alloc.Global.{Global}
+use Rattle.ts_der.specs.Element.{spell}
 use Rattle.ts_der.specs.declared.fault.DerFault.TheVariants.{TimeForm}
 use Rattle.ts_name.specs.declared.fault.CertRule.TheVariants.{Der}
 use Rattle.ts_name.specs.declared.fault.CertFault.{CertFault}
@@ -22,6 +24,7 @@ use Rattle.ts_crl.specs.Entries.{entries_of}
 use Rattle.ts_crl.specs.Fault.{ListFault, broken, noNextUpdate, criticalCrlExtension, indirect, relativeName, deltaCrl}
 use Rattle.ts_crl.specs.List.{StandingList, CertificateList, said_list}
 use Rattle.ts_crl.specs.Profile.{profile_fault, unprocessed, is_indirect, is_relative, is_delta}
+use Rattle.ts_crl.specs.Reading.{shape_of}
 use Rattle.ts_crl.specs.Rules.{placed_fault}
 use Rattle.ts_crl.specs.Table.{unless_broken, crl_of}
 use Rattle.ts_crl.proofs.PlacedLaws.{HasOneSound, none-placed}
@@ -29,15 +32,19 @@ use Rattle.ts_make.specs.declared.list_description.EntryText.{EntryText}
 use Rattle.ts_make.specs.declared.list_description.CrlText.{CrlText}
 use Rattle.ts_make.specs.declared.fault.MakeFault.{MakeFault}
 use Rattle.ts_make.specs.declared.fault.MakeFault.TheVariants.{Memory, TooLong, Unreadable}
-use Rattle.ts_make.specs.Extensions.{field_of}
+use Rattle.ts_make.specs.Extensions.{extension_octets, sequence, field_of}
 use Rattle.ts_make.specs.Sayable.{IfWritten}
 use Rattle.ts_make.specs.Times.{IsTimeOf}
-use Rattle.ts_make.specs.ListExtensions.{reason_extension, list_extensions}
+use Rattle.ts_make.specs.ListExtensions.{reason_extension, number_extensions, scope_content, null_extension, list_extensions, list_field}
+use Rattle.ts_make.specs.ListDescription.{IsListDescribed, IsReadAs}
 use Rattle.ts_make.specs.ListMade.{made_list}
-use Rattle.ts_make.specs.ListMaking.{AnswersMadeList, IsSayableList, AreAllowedInList, IsListRefusal}
-use Rattle.ts_make.proofs.ListSpelled.{entry_said, revoked_said}
+use Rattle.ts_make.specs.ListMaking.{IsWhole, IsTaken, AnswersWhole, AnswersMadeList, IsSayableList, AreAllowedInList, IsListRefusal}
+use Rattle.ts_make.proofs.ListSpelled.{entry_said, revoked_said, list-fields-short, list-parts-short}
 use Rattle.ts_make.proofs.ListRefused.{IsOutsideList, list-refused}
-use Rattle.ts_make.proofs.ListAnswered.{in_years, IsListRead, is-list-read, crl-read, profile-left}
+use Rattle.ts_make.proofs.ListAnswered.{in_years, IsListRead, is-list-read, crl-read, placed-none, profile-left, is-described, list-years}
+use Rattle.ts_make.proofs.ListTaken.{profile-is}
+use Rattle.ts_make.proofs.StandIns.{content-short}
+use Rattle.ts_make.proofs.TooLong.{sequence-within}
 
 -- the extension of an entry has the value of its reason
 reason-sound : (r : ReasonCode) → IsSound Entry (reason_extension r)
@@ -107,8 +114,79 @@ refusal t n text fault sayable from to le e =
     ]
 
 pub answers-refused : (r : Result (Vec ℕ Global) MakeFault) (t n : List ℕ) (text : CrlText) → IfWritten r (IsSayableList text) → IsTimeOf t text.this_update → IsTimeOf n text.next_update
-    → AnswersMadeList r (made_list t n text) → IfErr r (IsListRefusal text)
+    → AnswersWhole r (made_list t n text) → IfErr r (IsListRefusal text)
 answers-refused (Ok v) t n text sayable from to h = tt
 answers-refused (Err Memory) t n text sayable from to h = tt
 answers-refused (Err TooLong) t n text sayable from to h = tt
 answers-refused (Err (Unreadable fault)) t n text sayable from to h = refusal t n text fault sayable from to h.0 h.1
+
+-- ---- what is taken
+
+field-within : (xs : List Extension) → length (flat_map extension_octets xs) ≤ length (list_field xs)
+unfolding list_field
+field-within [] = omega arith
+field-within (x ∷ xs) =
+    let items = flat_map extension_octets (x ∷ xs) in
+    let inner = content-short 0x30 items in
+    let outer = content-short 0xA0 (spell 0x30 items) in
+    omega arith
+
+scope-within : (text : CrlText) → length (scope_content text.uris.now text.reasons.now) ≤ length (list_field (list_extensions text))
+unfolding list_extensions
+scope-within text =
+    let content = scope_content text.uris.now text.reasons.now in
+    let numbers = number_extensions text.number in
+    let scope = sequence 28 true content in
+    let nulls = map null_extension text.critical.now in
+    let within = sequence-within [] 28 true content in
+    let first = ap (λ (o : List ℕ). length o) (flat_map-append extension_octets numbers (scope ++ nulls)) in
+    let second = ap (λ (o : List ℕ). length o) (flat_map-append extension_octets scope nulls) in
+    let one = length-append (flat_map extension_octets numbers) (flat_map extension_octets (scope ++ nulls)) in
+    let two = length-append (flat_map extension_octets scope) (flat_map extension_octets nulls) in
+    let field = field-within (numbers ++ (scope ++ nulls)) in
+    omega arith
+
+critical-read : (l : StandingList) (o : Option (List ℕ)) → unprocessed (said_list l) ≡ o → IsReadAs (unless_broken l (option_map (λ oid. criticalCrlExtension oid) o)) (said_list l)
+critical-read l None e = refl
+critical-read l (Some oid) e = (oid, e, refl)
+
+critical-taken : (l : StandingList) (o : Option (List ℕ)) → IsTaken (unless_broken l (option_map (λ oid. criticalCrlExtension oid) o))
+critical-taken l None = tt
+critical-taken l (Some oid) = (oid, refl)
+
+-- what breaks no rule that has a place is read as the list, or refused for a critical extension
+whole-read : (t n : List ℕ) (text : CrlText) (is : IsListRead t n text) → length (made_list t n text) ≤ 1048576 → IsWhole (crl_of (made_list t n text))
+    → crl_of (made_list t n text) ≡ unless_broken is.standing (option_map (λ oid. criticalCrlExtension oid) (unprocessed (said_list is.standing)))
+whole-read t n text is le w =
+    let l = is.standing in
+    let read = crl-read (made_list t n text) l is.shape in
+    let none = placed-none (placed_fault l) (profile_fault (said_list l)) l (subst IsWhole read w) in
+    let parts = list-parts-short t n text le in
+    let fields = list-fields-short t n text parts.tbs in
+    let scope = scope-within text in
+    let small : length (scope_content text.uris.now text.reasons.now) ≤ 1048576 = omega (arith, fields.extensions) in
+    read ∙ (profile-left l none ∙ ap (λ (o : Option ListFault). unless_broken l o) (profile-is t n text is small none))
+
+pub answers-made : (r : Result (Vec ℕ Global) MakeFault) (t n : List ℕ) (text : CrlText) → IfWritten r (IsSayableList text) → IsTimeOf t text.this_update → IsTimeOf n text.next_update
+    → AnswersWhole r (made_list t n text) → AnswersMadeList r (made_list t n text)
+answers-made (Ok v) t n text sayable from to h =
+    let years = list-years t n text sayable from to h.1 h.2 in
+    let is = is-list-read t n text sayable from to h.1 years.0 years.1 in
+    (h.0, h.1, subst IsTaken (sym (whole-read t n text is h.1 h.2)) (critical-taken is.standing (unprocessed (said_list is.standing))))
+answers-made (Err Memory) t n text sayable from to h = tt
+answers-made (Err TooLong) t n text sayable from to h = h
+answers-made (Err (Unreadable fault)) t n text sayable from to h = h
+
+pub answers-described : (r : Result (Vec ℕ Global) MakeFault) (t n : List ℕ) (text : CrlText) → IfWritten r (IsSayableList text) → IsTimeOf t text.this_update → IsTimeOf n text.next_update
+    → AnswersWhole r (made_list t n text)
+    → IfOk r (λ v. (l : StandingList) × (shape_of v.items ≡ Ok l) × IsListDescribed text (said_list l) × IsReadAs (crl_of v.items) (said_list l))
+answers-described (Ok v) t n text sayable from to h =
+    let years = list-years t n text sayable from to h.1 h.2 in
+    let is = is-list-read t n text sayable from to h.1 years.0 years.1 in
+    let l = is.standing in (
+      l,
+      ap shape_of h.0 ∙ is.shape,
+      subst (λ (c : CertificateList). IsListDescribed text c) (sym is.same) (is-described t n text sayable is.issued is.next is.issued_at is.next_at),
+      subst (λ (r : Result CertificateList ListFault). IsReadAs r (said_list l)) (sym (ap crl_of h.0 ∙ whole-read t n text is h.1 h.2)) (critical-read l (unprocessed (said_list l)) refl),
+    )
+answers-described (Err e) t n text sayable from to h = tt

@@ -6,8 +6,8 @@ use Rattle.ts_sig.specs.Key.{Key}
 use Rattle.ts_sig.specs.StandIn.{stand_in_accepts}
 use Rattle.ts_crl.specs.declared.version.ListVersion.TheVariants.{V2}
 use Rattle.ts_crl.specs.Entries.{entries_of}
-use Rattle.ts_crl.specs.Fault.{ListFault}
-use Rattle.ts_crl.specs.Profile.{profile_fault}
+use Rattle.ts_crl.specs.Fault.{ListFault, criticalCrlExtension}
+use Rattle.ts_crl.specs.Profile.{unprocessed}
 use Rattle.ts_crl.specs.List.{RevokedCertificate, CertificateList}
 use Rattle.ts_make.specs.declared.list_description.EntryText.{EntryText}
 use Rattle.ts_make.specs.declared.list_description.CrlText.{CrlText}
@@ -45,7 +45,7 @@ IsListSignedBy signer c =
     let key : Key = record { algorithm = c.signatureAlgorithm.algorithm; parameters = c.signatureAlgorithm.parameters; octets = signer } in
     stand_in_accepts c.signatureAlgorithm.whole key c.tbs c.signatureValue ≡ true
 
--- reading gives the list, or refuses it by the first rule of this profile that it breaks
+-- reading gives the list, or refuses it for its first critical extension that is not processed (5.2)
 abbrev pub IsReadAs : Result CertificateList ListFault → CertificateList → Type 0
 IsReadAs (Ok c) list = c ≡ list
-IsReadAs (Err f) list = profile_fault list ≡ Some f
+IsReadAs (Err f) list = (oid : List ℕ) × (unprocessed list ≡ Some oid) × (f ≡ criticalCrlExtension oid)

@@ -10,7 +10,7 @@ use Rattle.ts_time.specs.Civil.{IsInYears}
 use Rattle.ts_ext.specs.declared.known.Holder.TheVariants.{List as ListHolder}
 use Rattle.ts_ext.specs.Extension.{Extension}
 use Rattle.ts_ext.specs.ValueRules.{AreSound}
-use Rattle.ts_crl.specs.Fault.{ListFault, broken}
+use Rattle.ts_crl.specs.Fault.{ListFault, broken, criticalCrlExtension}
 use Rattle.ts_crl.specs.List.{CertificateList}
 use Rattle.ts_crl.specs.Table.{crl_of}
 use Rattle.ts_make.specs.declared.list_description.EntryText.{EntryText}
@@ -22,12 +22,24 @@ use Rattle.ts_make.specs.Told.{IsSmallIfAny}
 use Rattle.ts_make.specs.ListExtensions.{list_extensions}
 
 -- no rule that has a place is broken
-abbrev pub IsTaken : Result CertificateList ListFault → Type 0
-IsTaken (Ok c) = Unit {0}
-IsTaken (Err (broken fault)) = ⊥
-IsTaken (Err other) = Unit {0}
+abbrev pub IsWhole : Result CertificateList ListFault → Type 0
+IsWhole (Ok c) = Unit {0}
+IsWhole (Err (broken fault)) = ⊥
+IsWhole (Err other) = Unit {0}
 
 -- of the octets of a list: they are returned unless a rule that has a place is broken, and else it is said which
+abbrev pub AnswersWhole : Result (Vec ℕ Global) MakeFault → List ℕ → Type 0
+AnswersWhole (Ok v) octets = (v.items ≡ octets) × (length octets ≤ 1048576) × IsWhole (crl_of octets)
+AnswersWhole (Err TooLong) octets = 1048576 < length octets
+AnswersWhole (Err (Unreadable fault)) octets = (length octets ≤ 1048576) × (crl_of octets ≡ Err (broken fault))
+AnswersWhole (Err Memory) octets = Unit {0}
+
+-- reading takes the octets, or refuses them for a critical extension that it does not process, and for nothing else
+abbrev pub IsTaken : Result CertificateList ListFault → Type 0
+IsTaken (Ok c) = Unit {0}
+IsTaken (Err f) = (oid : List ℕ) × (f ≡ criticalCrlExtension oid)
+
+-- of the octets of a list: they are returned where they are taken so, and else it is said why not
 abbrev pub AnswersMadeList : Result (Vec ℕ Global) MakeFault → List ℕ → Type 0
 AnswersMadeList (Ok v) octets = (v.items ≡ octets) × (length octets ≤ 1048576) × IsTaken (crl_of octets)
 AnswersMadeList (Err TooLong) octets = 1048576 < length octets

@@ -1,6 +1,9 @@
-use Rattle.ts_make.proofs.ListAnswered.{answers-described, answers-signed, answers-years}
-use Rattle.ts_make.proofs.ListRules.{answers-refused}
+use Rattle.ts_make.proofs.ListAnswered.{answers-signed, answers-years}
+use Rattle.ts_make.proofs.ListRules.{answers-made, answers-described, answers-refused}
 use Rattle.ts_make.proofs.list.make_crl.Goals as goal
+
+pub returns-clause-made : goal.returns-clause-made
+returns-clause-made c = (_, _, c.of.ensures, c.of-2.ensures, answers-made c.write_whole_list.result _ _ c.args.text.now c.write_whole_list.ensures.sayable c.of.ensures c.of-2.ensures c.write_whole_list.ensures.exact)
 
 pub returns-clause-described : goal.returns-clause-described
 returns-clause-described c = answers-described c.write_whole_list.result _ _ c.args.text.now c.write_whole_list.ensures.sayable c.of.ensures c.of-2.ensures c.write_whole_list.ensures.exact
