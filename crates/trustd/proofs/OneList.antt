@@ -83,7 +83,7 @@ pub long_list : (octets : List ℕ) → 1048576 < length octets → ¬ (IsNoList
 long_list octets long is = let short = is.0 in omega arith
 
 taken_list : (octets : List ℕ) → IsTaken (crl_of octets) → ¬ (IsNoList octets)
-taken_list octets taken is = subst (λ (r : Result CertificateList ListFault). IsTaken r) is.2 taken
+taken_list octets taken is = let critical = subst (λ (r : Result CertificateList ListFault). IsTaken r) is.2 taken in absurd (cc (critical.1))
 
 pub list_stands : (r : Result (Vec ℕ Global) MakeFault) (v : Vec ℕ Global) (octets : List ℕ) → AnswersMadeList r octets → r ≡ Ok v → ¬ (IsNoList octets)
 list_stands r v octets answers is =
