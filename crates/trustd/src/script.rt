@@ -20,7 +20,7 @@ pub const COMMENT: u8 = b'#';
 pub enum LineFault {
     /// The line's first word is not one of the script language.
     Unknown,
-    /// The words are not those of such a line, or what they describe is no certificate.
+    /// The words are not those of such a line, or what they describe is no certificate and no list.
     Form,
     /// A name is not defined, or is defined a second time.
     Name,
