@@ -1,93 +1,27 @@
--- The first item that repeats an earlier one: what counts of the keys seen, items behind others, and passes.
-use Rattle.std.proofs.Common.{◌≡◌, ◌-◌, subst, map, inl, inr, ℕ, zero, suc, ◌+◌, ◌≤◌, Bool, true, false, cond, ◌||◌, List, [], ◌∷◌, ◌++◌, length, take, Option, Some, None, Result, Ok, Err, option_map, bytes_eq, refl, sym, ap, ◌∙◌, arith}
-use Rattle.std.specs.Option.{option_or}
-use Rattle.std.specs.List.{AllByRecursion}
-use Rattle.std.proofs.lemmas.List.{append-nil, length-map}
+-- The first item that repeats an earlier one: what counts of the keys seen, and what it has with suspects to do.
+use Rattle.std.proofs.Common.{◌≡◌, ◌<◌, ◌≤◌, ◌+◌, ◌-◌, subst, ℕ, zero, suc, length, Bool, true, false, cond, ◌||◌, List, [], ◌∷◌, ◌++◌, take, drop, Option, Some, None, option_map, Result, Ok, Err, bytes_eq, refl, sym, ap, ◌∙◌, arith}
+use Rattle.std.specs.Option.{is_some}
+use Rattle.std.proofs.lemmas.Bool.{false≢true}
+use Rattle.std.proofs.lemmas.List.{length-append, take-append-drop}
 use Rattle.std.proofs.lemmas.List.Folds.{list_any-append}
-use Rattle.std.proofs.Math.Bool.{or-true, or-false}
-use Rattle.std.proofs.Math.Seq.{take-append-add, take-append_seam, take-nil}
+use Rattle.std.proofs.Math.Bool.{or-true}
 use Rattle.ts_der.specs.declared.fault.Fault.{Fault}
 use Rattle.ts_der.specs.Element.{Place, Tlv}
 use Rattle.ts_der.specs.Reading.{is_end}
 use Rattle.ts_name.specs.Items.{each, first_then, upto_from, items_at}
-use Rattle.std.proofs.lemmas.List.{take_all}
-use Rattle.std.proofs.lemmas.Slice.Eq.{bytes_eq-Decides}
-use Rattle.ts_name.specs.Repeats.{is_among, Fills, first_repeated}
-use Rattle.ts_name.proofs.KeyTables.{count, count-length, among-counts, none-counts, itself}
-
-pub or-none : {A : Type 0} (o : Option A) → option_or o None ≡ o
-or-none None = refl
-or-none (Some x) = refl
-
-unless : {A : Type 0} (b : Bool) (z x : A) (r q : Option A) → r ≡ option_or q (Some x) → cond b (Some z) r ≡ option_or (cond b (Some z) q) (Some x)
-unless true z x r q e = refl
-unless false z x r q e = e
-
-some-none : {A : Type 0} (x : A) → Some x ≡ None → ⊥
-some-none {A = A} x e = subst is_some_type e tt
-  where
-    is_some_type : Option A → Type 0
-    is_some_type (Some y) = Unit {0}
-    is_some_type None = ⊥
+use Rattle.ts_name.specs.Repeats.{is_among, first_repeated}
+use Rattle.ts_name.specs.Suspects.{AreSuspects}
+use Rattle.ts_name.proofs.KeyTables.{itself, some-none}
 
 if-some : {A : Type 0} (b : Bool) (x : A) (r q : Option A) → ((q ≡ None → ⊥) → r ≡ q) → (cond b (Some x) q ≡ None → ⊥) → cond b (Some x) r ≡ cond b (Some x) q
 if-some true x r q h some = refl
 if-some false x r q h some = h some
 
-moved-one : (b : Bool) (n m : ℕ) → cond b (suc n) n + m ≤ 1 → n + cond b (suc m) m ≤ 1
-moved-one true n m le = omega arith
-moved-one false n m le = omega arith
-
-moved-back : (b : Bool) (n m : ℕ) → n + cond b (suc m) m ≤ 1 → cond b (suc n) n + m ≤ 1
-moved-back true n m le = omega arith
-moved-back false n m le = omega arith
-
-between : (a b c : Bool) → a || (b || c) ≡ b || (a || c)
-between true true c = refl
-between true false c = refl
-between false b c = refl
-
--- a key that is not among those seen stands once with them
-with-new : (q x : List ℕ) (s : List (List ℕ)) → count q s ≤ 1 → is_among x s ≡ false → count q (x ∷ s) ≤ 1
-with-new q x s once new = by_test (bytes_eq q x) refl
-  where
-    by_test : (b : Bool) → bytes_eq q x ≡ b → count q (x ∷ s) ≤ 1
-    by_test true same =
-        let none : count q s ≡ 0 = ap (λ (k : List ℕ). count k s) ((bytes_eq-Decides q x).0 same) ∙ none-counts x s new in
-        rw (same, none) (omega arith)
-    by_test false other = rw other once
+pub not-seen : (b c : Bool) → (b ≡ true → c ≡ true) → c ≡ false → b ≡ false
+not-seen false c h e = refl
+not-seen true c h e = absurd (false≢true (sym e ∙ h refl))
 
 module _ {A : Type 0} (key : A → List ℕ) where
-  -- only which keys are among those seen counts
-  pub same-seen : (s t : List (List ℕ)) → ((k : List ℕ) → is_among k s ≡ is_among k t) → (xs : List A) → first_repeated key s xs ≡ first_repeated key t xs
-  unfolding first_repeated
-  same-seen s t h [] = refl
-  same-seen s t h (x ∷ xs) =
-      ap (λ b. cond b (Some x) (first_repeated key (key x ∷ s) xs)) (h (key x))
-      ∙ ap (λ r. cond (is_among (key x) t) (Some x) r) (same-seen (key x ∷ s) (key x ∷ t) (λ k. ap (λ b. bytes_eq k (key x) || b) (h k)) xs)
-
-  -- ---- items whose keys a table took
-
-  -- where no key stands twice, all of them are seen
-  pub passed : (s : List (List ℕ)) (front ys : List A) → ((k : List ℕ) → count k (map key front) + count k s ≤ 1) → first_repeated key s (front ++ ys) ≡ first_repeated key (map key front ++ s) ys
-  unfolding first_repeated
-  passed s [] ys once = refl
-  passed s (x ∷ front) ys once =
-      ap (λ b. cond b (Some x) (first_repeated key (key x ∷ s) (front ++ ys))) new
-      ∙ passed (key x ∷ s) front ys (λ k. moved-one (bytes_eq k (key x)) (count k (map key front)) (count k s) (once k))
-      ∙ same-seen (map key front ++ key x ∷ s) (key x ∷ (map key front ++ s)) (λ k. list_any-append (bytes_eq k) (map key front) (key x ∷ s) ∙ between (is_among k (map key front)) (bytes_eq k (key x)) (is_among k s)
-      ∙ ap (λ b. bytes_eq k (key x) || b) (sym (list_any-append (bytes_eq k) (map key front) s))) ys
-    where
-      new : is_among (key x) s ≡ false
-      new = by_test (is_among (key x) s) refl
-        where
-          by_test : (b : Bool) → is_among (key x) s ≡ b → b ≡ false
-          by_test false e = refl
-          by_test true e =
-              let one = among-counts (key x) s e in
-              let all = subst (λ b. cond b (suc (count (key x) (map key front))) (count (key x) (map key front)) + count (key x) s ≤ 1) (itself (key x)) (once (key x)) in
-              absurd (omega arith)
-
   -- the next item has a new key, which is then seen
   pub seen-next : (s : List (List ℕ)) (xs : List A) (x : A) (ys : List A) → xs ≡ x ∷ ys → is_among (key x) s ≡ false → first_repeated key s xs ≡ first_repeated key (key x ∷ s) ys
   unfolding first_repeated
@@ -98,19 +32,31 @@ module _ {A : Type 0} (key : A → List ℕ) where
   unfolding first_repeated
   seen-end s xs e = rw e refl
 
-  -- where there is no repeat, no key stands twice
-  pub no-repeat : (s : List (List ℕ)) (front : List A) → ((k : List ℕ) → count k s ≤ 1) → first_repeated key s front ≡ None → (k : List ℕ) → count k (map key front) + count k s ≤ 1
+  pub taken : (xs : List A) (x : A) (ys : List A) (n m : ℕ) → xs ≡ x ∷ ys → n ≡ suc m → take n xs ≡ x ∷ take m ys
+  taken xs x ys n m e some = rw (some, e) refl
+
+  -- the same of the first of the items
+  pub next-new : (s : List (List ℕ)) (xs : List A) (x : A) (ys : List A) (n m : ℕ) → xs ≡ x ∷ ys → n ≡ suc m → is_among (key x) s ≡ false → first_repeated key s (take n xs) ≡ first_repeated key (key x ∷ s) (take m ys)
+  next-new s xs x ys n m e some new = seen-next s (take n xs) x (take m ys) (taken xs x ys n m e some) new
+
+  -- the next item has a key that was seen
+  pub next-met : (s : List (List ℕ)) (xs : List A) (x : A) (ys : List A) (n m : ℕ) → xs ≡ x ∷ ys → n ≡ suc m → is_among (key x) s ≡ true → first_repeated key s (take n xs) ≡ Some x
   unfolding first_repeated
-  no-repeat s [] once e k = let le = once k in omega arith
-  no-repeat s (x ∷ front) once e k = by_test (is_among (key x) s) refl (no-repeat (key x ∷ s) front)
+  next-met s xs x ys n m e some met = rw (some, e) (ap (λ b. cond b (Some x) (first_repeated key (key x ∷ s) (take m ys))) met)
+
+  -- no item is left of the first of them
+  pub next-none : (s : List (List ℕ)) (xs : List A) (n : ℕ) → xs ≡ [] → first_repeated key s (take n xs) ≡ None
+  next-none s xs zero e = seen-end s (take zero xs) refl
+  next-none s xs (suc n) e = seen-end s (take (suc n) xs) (rw e refl)
+
+  -- among items of which none repeats another the next is new
+  pub next-distinct : (s : List (List ℕ)) (x : A) (ys : List A) → first_repeated key s (x ∷ ys) ≡ None → (is_among (key x) s ≡ false) × (first_repeated key (key x ∷ s) ys ≡ None)
+  unfolding first_repeated
+  next-distinct s x ys e = by_test (is_among (key x) s) e
     where
-      by_test : (b : Bool) → is_among (key x) s ≡ b
-          → (((q : List ℕ) → count q (key x ∷ s) ≤ 1) → first_repeated key (key x ∷ s) front ≡ None → (q : List ℕ) → count q (map key front) + count q (key x ∷ s) ≤ 1)
-          → count k (key x ∷ map key front) + count k s ≤ 1
-      by_test true seen others = absurd (some-none x (subst (λ b. cond b (Some x) (first_repeated key (key x ∷ s) front) ≡ None) seen e))
-      by_test false new others =
-          moved-back (bytes_eq k (key x)) (count k (map key front)) (count k s)
-          (others (λ q. with-new q (key x) s (once q) new) (subst (λ b. cond b (Some x) (first_repeated key (key x ∷ s) front) ≡ None) new e) k)
+      by_test : (b : Bool) → cond b (Some x) (first_repeated key (key x ∷ s) ys) ≡ None → (b ≡ false) × (first_repeated key (key x ∷ s) ys ≡ None)
+      by_test true none = absurd (some-none x none)
+      by_test false none = (refl, none)
 
   -- the first repeat is that of the items before, if there is one
   pub repeat-ahead : (s : List (List ℕ)) (front ys : List A) → (first_repeated key s front ≡ None → ⊥) → first_repeated key s (front ++ ys) ≡ first_repeated key s front
@@ -118,97 +64,85 @@ module _ {A : Type 0} (key : A → List ℕ) where
   repeat-ahead s [] ys some = absurd (some refl)
   repeat-ahead s (x ∷ front) ys some = if-some (is_among (key x) s) x _ _ (repeat-ahead (key x ∷ s) front ys) some
 
-  -- the items that fill a table
-  front-taken : (room m : ℕ) (front ys : List A) → Fills room front ys → take (room + m) (front ++ ys) ≡ front ++ take m ys
-  front-taken room m front ys (le, inl full) = rw (sym full) (take-append-add front ys m)
-  front-taken room m front ys (le, inr end) =
-      rw end (ap (λ (r : List A). take (room + m) r) (append-nil front) ∙ take_all (room + m) front (omega arith) ∙ sym (ap (λ (r : List A). front ++ r) (take-nil m) ∙ append-nil front))
+  -- what repeats an earlier one among the first items does so among all
+  pub answered : (n : ℕ) (xs : List A) (x : A) → first_repeated key [] (take n xs) ≡ Some x → first_repeated key [] xs ≡ Some x
+  answered n xs x e =
+      ap (first_repeated key []) (sym (take-append-drop n xs)) ∙ repeat-ahead [] (take n xs) (drop n xs) (λ none. some-none x (sym e ∙ none)) ∙ e
 
-  pub two-items : (front : List A) (k : List ℕ) → 2 ≤ count k (map key front) → 2 ≤ length front
-  two-items front k twice = let le = count-length k (map key front) in let same = length-map front key in omega arith
+  pub answered-all : {B : Type 0} (f : B → A) (o : Option B) (n : ℕ) (xs : List A) → is_some o ≡ true → option_map f o ≡ first_repeated key [] (take n xs) → option_map f o ≡ first_repeated key [] xs
+  answered-all f None n xs some e = absurd (false≢true some)
+  answered-all f (Some y) n xs some e = sym (answered n xs (f y) (sym e))
 
-  -- a key stands twice among these items: none behind them counts
-  pub table-repeats : (room end : ℕ) (xs front ys : List A) (k : List ℕ) → xs ≡ front ++ ys → Fills room front ys → room ≤ end → 2 ≤ count k (map key front)
-      → first_repeated key [] (take end xs) ≡ first_repeated key [] (take room xs)
-  table-repeats room end xs front ys k e fills le twice =
-      let more : end ≡ room + (end - room) = omega arith in
-      let all : room ≡ room + 0 = omega arith in
-      rw e (ap (λ (n : ℕ). first_repeated key [] (take n (front ++ ys))) more ∙ ap (first_repeated key []) (front-taken room (end - room) front ys fills) ∙ repeat-ahead [] front (take (end - room) ys) repeats
-      ∙ sym (ap (λ (n : ℕ). first_repeated key [] (take n (front ++ ys))) all ∙ ap (first_repeated key []) (front-taken room 0 front ys fills ∙ append-nil front)))
+  -- ---- suspects
+
+  -- the keys seen behind these items
+  abbrev pub seen_after : List (List ℕ) → List A → List (List ℕ)
+  seen_after s [] = s
+  seen_after s (x ∷ xs) = seen_after (key x ∷ s) xs
+
+  pub after-more : (s : List (List ℕ)) (front : List A) (x : A) → seen_after s (front ++ x ∷ []) ≡ key x ∷ seen_after s front
+  after-more s [] x = refl
+  after-more s (y ∷ front) x = after-more (key y ∷ s) front x
+
+  -- no item is one
+  pub no-suspects : (t s : List (List ℕ)) → AreSuspects key t s []
+  unfolding AreSuspects
+  no-suspects t s = tt
+
+  -- one more item, whose key is in the table if it was seen
+  pub suspects-more : (t s : List (List ℕ)) (front : List A) (x : A) → AreSuspects key t s front → (is_among (key x) (seen_after s front) ≡ true → is_among (key x) t ≡ true) → AreSuspects key t s (front ++ x ∷ [])
+  unfolding AreSuspects
+  suspects-more t s [] x a h = (h, tt)
+  suspects-more t s (y ∷ front) x a h = (a.0, suspects-more t (key y ∷ s) front x a.1 h)
+
+  -- in a table that has the same keys and may have more
+  pub suspects-in : (t u s : List (List ℕ)) (xs : List A) → ((k : List ℕ) → is_among k t ≡ true → is_among k u ≡ true) → AreSuspects key t s xs → AreSuspects key u s xs
+  unfolding AreSuspects
+  suspects-in t u s [] h a = tt
+  suspects-in t u s (x ∷ xs) h a = ((λ e. h (key x) (a.0 e)), suspects-in t u (key x ∷ s) xs h a.1)
+
+  -- the next of them
+  pub suspects-next : (t s : List (List ℕ)) (xs : List A) (x : A) (ys : List A) (n m : ℕ) → xs ≡ x ∷ ys → n ≡ suc m → AreSuspects key t s (take n xs)
+      → (is_among (key x) s ≡ true → is_among (key x) t ≡ true) × AreSuspects key t (key x ∷ s) (take m ys)
+  unfolding AreSuspects
+  suspects-next t s xs x ys n m e some a = subst (λ (zs : List A). AreSuspects key t s zs) (taken xs x ys n m e some) a
+
+  -- where the table is empty, none repeats another
+  pub none-suspected : (s : List (List ℕ)) (xs : List A) → AreSuspects key [] s xs → first_repeated key s xs ≡ None
+  unfolding AreSuspects first_repeated
+  none-suspected s [] a = refl
+  none-suspected s (x ∷ xs) a =
+      ap (λ b. cond b (Some x) (first_repeated key (key x ∷ s) xs)) (not-seen (is_among (key x) s) false a.0 refl) ∙ none-suspected (key x ∷ s) xs a.1
+
+  -- of items that are known to be distinct up to a place, and others
+  pub distinct-next : (s : List (List ℕ)) (xs : List A) (x : A) (ys : List A) (known passed : ℕ) → xs ≡ x ∷ ys → first_repeated key s (take (known - passed) xs) ≡ None
+      → (passed < known → is_among (key x) s ≡ false) × (first_repeated key (key x ∷ s) (take (known - (passed + 1)) ys) ≡ None)
+  distinct-next s xs x ys known passed e none = by_left (known - passed) refl
     where
-      repeats : first_repeated key [] front ≡ None → ⊥
-      repeats none = let one = no-repeat [] front (λ q. omega arith) none k in omega arith
+      by_left : (n : ℕ) → known - passed ≡ n → (passed < known → is_among (key x) s ≡ false) × (first_repeated key (key x ∷ s) (take (known - (passed + 1)) ys) ≡ None)
+      by_left zero left =
+          let no : known - (passed + 1) ≡ 0 = omega arith in (
+            (λ lt. absurd (omega arith)),
+            ap (λ (n : ℕ). first_repeated key (key x ∷ s) (take n ys)) no ∙ seen-end (key x ∷ s) (take 0 ys) refl,
+          )
+      by_left (suc m) left =
+          let less : known - (passed + 1) ≡ m = omega arith in
+          let next = next-distinct s x (take m ys) (subst (λ (zs : List A). first_repeated key s zs ≡ None) (taken xs x ys (known - passed) m e left) none) in
+          ((λ lt. next.0), ap (λ (n : ℕ). first_repeated key (key x ∷ s) (take n ys)) less ∙ next.1)
 
-  -- no key does: all of them are seen
-  pub table-passed : (room end : ℕ) (xs front ys : List A) (table : List (List ℕ)) → xs ≡ front ++ ys → Fills room front ys → room ≤ end
-      → ((k : List ℕ) → count k (map key front) ≤ 1) → ((k : List ℕ) → is_among k (map key front) ≡ is_among k table)
-      → first_repeated key [] (take end xs) ≡ first_repeated key table (take (end - room) ys)
-  table-passed room end xs front ys table e fills le once same =
-      let more : end ≡ room + (end - room) = omega arith in
-      rw e (ap (λ (n : ℕ). first_repeated key [] (take n (front ++ ys))) more ∙ ap (first_repeated key []) (front-taken room (end - room) front ys fills)
-      ∙ passed [] front (take (end - room) ys) (λ k. let one = once k in omega arith)
-      ∙ same-seen (map key front ++ []) table (λ k. ap (is_among k) (append-nil (map key front)) ∙ same k) (take (end - room) ys))
+-- a key is among those before it and itself
+pub among-last : (keys : List (List ℕ)) (k : List ℕ) → is_among k (keys ++ k ∷ []) ≡ true
+among-last keys k = list_any-append (bytes_eq k) keys (k ∷ []) ∙ ap (λ b. is_among k keys || (b || false)) (itself k) ∙ or-true (is_among k keys)
 
-  -- no item is taken
-  pub none-taken : (s : List (List ℕ)) (xs : List A) → first_repeated key s (take 0 xs) ≡ None
-  unfolding first_repeated
-  none-taken s xs = refl
+-- and what is among these is among more
+pub among-more : (keys : List (List ℕ)) (l k : List ℕ) → is_among k keys ≡ true → is_among k (keys ++ l ∷ []) ≡ true
+among-more keys l k e = list_any-append (bytes_eq k) keys (l ∷ []) ∙ ap (λ b. b || (bytes_eq k l || false)) e
 
-  -- ---- behind a table that is full
+-- ---- how many items there are
 
-  -- the key of no item is among these
-  abbrev pub AreApart : List (List ℕ) → List A → Type 0
-  AreApart t xs = AllByRecursion (λ x. is_among (key x) t ≡ false) xs
-
-  pub apart-more : (t : List (List ℕ)) (xs : List A) (x : A) → AreApart t xs → is_among (key x) t ≡ false → AreApart t (xs ++ x ∷ [])
-  apart-more t [] x a h = (h, tt)
-  apart-more t (y ∷ xs) x a h = (a.0, apart-more t xs x a.1 h)
-
-  -- keys that no item has don't count
-  apart-seen : (s t : List (List ℕ)) (xs : List A) → AreApart t xs → first_repeated key (s ++ t) xs ≡ first_repeated key s xs
-  unfolding first_repeated
-  apart-seen s t [] a = refl
-  apart-seen s t (x ∷ xs) a =
-      ap (λ b. cond b (Some x) (first_repeated key (key x ∷ (s ++ t)) xs)) (list_any-append (bytes_eq (key x)) s t ∙ ap (λ b. is_among (key x) s || b) a.0 ∙ or-false (is_among (key x) s))
-      ∙ ap (λ r. cond (is_among (key x) s) (Some x) r) (apart-seen (key x ∷ s) t xs a.1)
-
-  -- an item that repeats a key seen is the first that does, or one before it is
-  behind : (s : List (List ℕ)) (front : List A) (x : A) (ys : List A) → is_among (key x) s ≡ true → first_repeated key s (front ++ x ∷ ys) ≡ option_or (first_repeated key s front) (Some x)
-  unfolding first_repeated
-  behind s [] x ys h = ap (λ b. cond b (Some x) (first_repeated key (key x ∷ s) ys)) h
-  behind s (z ∷ front) x ys h =
-      unless (is_among (key z) s) z x (first_repeated key (key z ∷ s) (front ++ x ∷ ys)) (first_repeated key (key z ∷ s) front)
-      (behind (key z ∷ s) front x ys (ap (λ b. bytes_eq (key x) (key z) || b) h ∙ or-true (bytes_eq (key x) (key z))))
-
-  -- the first of the items whose key is in a table, with the items before it
-  pub scan-met : (t : List (List ℕ)) (xs front : List A) (x : A) (ys : List A) (n before m : ℕ) → xs ≡ front ++ x ∷ ys → length front ≡ before → n ≡ before + suc m → AreApart t front → is_among (key x) t ≡ true
-      → first_repeated key t (take n xs) ≡ option_or (first_repeated key [] (take before xs)) (Some x)
-  scan-met t xs front x ys n before m e len some a h =
-      rw (some, e, sym len, take-append-add front (x ∷ ys) (suc m), take-append_seam front (x ∷ ys))
-      (behind t front x (take m ys) h ∙ ap (λ (r : Option A). option_or r (Some x)) (apart-seen [] t front a))
-
-  -- there is none
-  pub scan-unmet : (t : List (List ℕ)) (xs front ys : List A) (n before : ℕ) → xs ≡ front ++ ys → length front ≡ before → n ≡ before → AreApart t front
-      → first_repeated key t (take n xs) ≡ option_or (first_repeated key [] (take before xs)) None
-  scan-unmet t xs front ys n before e len all a =
-      rw (all, e, sym len, take-append_seam front ys) (apart-seen [] t front a ∙ sym (or-none (first_repeated key [] front)))
-
-  -- there is none, and no item is left
-  pub scan-end : (t : List (List ℕ)) (xs front ys : List A) (n before m : ℕ) → xs ≡ front ++ ys → ys ≡ [] → length front ≡ before → n ≡ before + m → AreApart t front
-      → first_repeated key t (take n xs) ≡ option_or (first_repeated key [] (take before xs)) None
-  scan-end t xs front ys n before m e end len all a =
-      rw (all, e, end, sym len, take-append-add front [] m, take-append_seam front [])
-      (ap (λ (r : List A). first_repeated key t (front ++ r)) (take-nil m) ∙ ap (λ (r : List A). first_repeated key t r) (append-nil front) ∙ apart-seen [] t front a ∙ sym (or-none (first_repeated key [] front)))
-
--- ---- one pass after another
-
-pub or-again : {A : Type 0} (a b c : Option A) → option_or (option_or a b) c ≡ option_or a (option_or b c)
-or-again None b c = refl
-or-again (Some x) b c = refl
-
-pub map-or : {A B : Type 0} (f : A → B) (a b : Option A) → option_map f (option_or a b) ≡ option_or (option_map f a) (option_map f b)
-map-or f None b = refl
-map-or f (Some x) b = refl
+-- those in front of another one are fewer than all
+pub front-fewer : {A : Type 0} (xs front : List A) (x : A) (ys zs : List A) → xs ≡ front ++ ys → ys ≡ x ∷ zs → length front < length xs
+front-fewer xs front x ys zs e next = rw (e, next) (let all = length-append front (x ∷ zs) in omega arith)
 
 first-length : {A : Type 0} (b : Bool) (r : Result (A × Place) Fault) (others : Place → List A) (n : ℕ) → ((here : Place) → length (others here) ≤ n) → length (cond b [] (first_then r others)) ≤ suc n
 first-length true r others n h = omega arith

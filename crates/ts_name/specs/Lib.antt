@@ -21,3 +21,4 @@ pub mod SubtreeView
 pub mod Sameness
 pub mod Printed
 pub mod Repeats
+pub mod Suspects

@@ -1,5 +1,5 @@
 -- What a list states twice: the first item, by its place, that is known by the key of an earlier one.
-use Rattle.std.specs.Prelude.{◌≡◌, ℕ, ◌-◌, ◌≤◌, ◌⊎◌, Bool, false, ◌||◌, List, [], ◌∷◌, length, map, Option, Some, None, if◌then◌else◌}
+use Rattle.std.specs.Prelude.{ℕ, ◌-◌, Bool, List, [], ◌∷◌, length, map, Option, Some, None, if◌then◌else◌}
 use Rattle.std.specs.Borrow.{Bor}
 use Rattle.std.specs.Cmp.Lexicographic.{slice_cmp}
 use Rattle.std.specs.List.{list_any, slice_index}
@@ -23,16 +23,6 @@ keys_in table = map (λ k. k.now) table
 -- they ascend
 abbrev pub AreAscending : List (Bor (List ℕ)) → Type 0
 AreAscending table = IsSorted (λ a b. slice_cmp nat_cmp a.now b.now) table
-
--- these items are as many as there is room for, or fewer and nothing is behind them
-abbrev pub Fills : {A : Type 0} → ℕ → List A → List A → Type 0
-Fills room front behind = (length front ≤ room) × ((length front ≡ room) ⊎ (behind ≡ []))
-
--- two keys that stand side by side are equal, or the first is equal to the one before them
-abbrev pub has_equal_neighbours : Option (List ℕ) → List (List ℕ) → Bool
-has_equal_neighbours last [] = false
-has_equal_neighbours None (k ∷ ks) = has_equal_neighbours (Some k) ks
-has_equal_neighbours (Some l) (k ∷ ks) = bytes_eq l k || has_equal_neighbours (Some k) ks
 
 -- the last octet of a key, 0 of an empty one
 abbrev pub end_of : List ℕ → ℕ

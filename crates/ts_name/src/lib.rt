@@ -29,6 +29,7 @@ mod subtree;
 mod subtree_reading;
 #[cfg(test)]
 mod subtree_tests;
+mod suspects;
 #[cfg(test)]
 mod tests;
 

@@ -18,10 +18,10 @@ loop-item-preserved g c =
     let many = i.1 in
     let lt : c.end_of-end.result < length c.loop-item.seen = omega arith in
     let unset : get_or c.loop-item.seen (end_of (key x)) false ≡ false = ap (λ (n : ℕ). get_or c.loop-item.seen n false) (sym place) ∙ c.if-seen-end.false in
-    let new = flag-new c.loop-item.seen (key x) i.0 i.2 unset in (
+    let new = flag-new end_of c.loop-item.seen (key x) i.0 i.2 unset in (
       key x ∷ i.0,
       length-set c.loop-item.seen c.end_of-end.result true ∙ i.1,
-      (get_or-set_at c.loop-item.seen c.end_of-end.result (end_of (key x)) true false (sym place) lt, flag-more c.loop-item.seen c.end_of-end.result i.0 lt i.2),
+      (get_or-set_at c.loop-item.seen c.end_of-end.result (end_of (key x)) true false (sym place) lt, flag-more end_of c.loop-item.seen c.end_of-end.result i.0 lt i.2),
       i.3 ∙ seen-next key i.0 _ x rest c.in-Some.ensures.steps new,
     )
 
