@@ -170,6 +170,30 @@ fn repeated(count: u32) -> Vec<Vec<u8>> {
     all
 }
 
+/// Extensions that nobody knows, all distinct, whose identifiers have one of 128 flags of the 262,144 in which the search
+/// for a repeat notes them: what somebody would send who knows its hash.
+fn colliding() -> Vec<Vec<u8>> {
+    let word = |n: u32| {
+        let digits = [n >> 21, n >> 14, n >> 7, n].map(|digit| (digit & 0x7F) as u8);
+        [0x80 | digits[0], 0x80 | digits[1], 0x80 | digits[2], digits[3]]
+    };
+    let words = (1 << 21..1 << 28).map(word);
+    words
+        .filter(|word| flag(word) < 128)
+        .map(|word| extension(&word, &[]))
+        .collect()
+}
+
+/// The flag of an identifier in a long list: by the upper half of its hash, in which each octet is added to what those
+/// before it gave, and the sum multiplied by 2^64 over the golden ratio.
+fn flag(word: &[u8]) -> u64 {
+    let hash = word.iter().fold(0u64, |hash, &octet| {
+        let sum = hash.wrapping_add(octet.into());
+        sum.wrapping_mul(0x9E37_79B9_7F4A_7C15)
+    });
+    (hash >> 32) % 262_144
+}
+
 fn tell_shape(items: &str, of_plain: f64, make: impl Fn(u32) -> Vec<u8>) {
     let (count, octets) = longest(make);
     let answer = match read(&octets) {
@@ -184,17 +208,9 @@ fn tell_shape(items: &str, of_plain: f64, make: impl Fn(u32) -> Vec<u8>) {
     println!("{items:<32}{count:>8}{length:>9}{ours:>11.3}{ratio:>9.2}{mark:>10}  {answer}");
 }
 
-fn main() -> Result<(), String> {
-    let of_plain = tell_plain()?;
-    println!();
-    println!(
-        "items                              count   octets   ns/octet    ratio            answer"
-    );
+/// The longest lists with many extensions, of the list or of its only entry.
+fn tell_extensions(of_plain: f64) {
     let reversed = |count| unknown(count).into_iter().rev().collect::<Vec<_>>();
-    let numbered = |count| (0..count).map(|n| entry(n, &[])).collect::<Vec<_>>();
-    tell_shape("entries without extensions", of_plain, |n| {
-        list(&numbered(n), &[])
-    });
     tell_shape("list extensions, ascending", of_plain, |n| {
         list(&[], &unknown(n))
     });
@@ -207,6 +223,10 @@ fn main() -> Result<(), String> {
     tell_shape("list extensions, last again", of_plain, |n| {
         list(&[], &repeated(n))
     });
+    let chosen = colliding();
+    tell_shape("list extensions, of one hash", of_plain, |n| {
+        list(&[], &chosen[..chosen.len().min(n as usize)])
+    });
     tell_shape("entry extensions, ascending", of_plain, |n| {
         list(&[entry(0, &unknown(n))], &[])
     });
@@ -216,5 +236,18 @@ fn main() -> Result<(), String> {
     tell_shape("entry extensions, shuffled", of_plain, |n| {
         list(&[entry(0, &shuffled(n))], &[])
     });
+}
+
+fn main() -> Result<(), String> {
+    let of_plain = tell_plain()?;
+    println!();
+    println!(
+        "items                              count   octets   ns/octet    ratio            answer"
+    );
+    let numbered = |count| (0..count).map(|n| entry(n, &[])).collect::<Vec<_>>();
+    tell_shape("entries without extensions", of_plain, |n| {
+        list(&numbered(n), &[])
+    });
+    tell_extensions(of_plain);
     Ok(())
 }

@@ -5,7 +5,7 @@ use std::alloc::{AllocError, Global};
 use std::test::Fail;
 use ts_der::{Fault, OidRef, Reader};
 
-/// Lists of identifiers, and the content of the first that repeats an earlier one. A table holds 16 of them.
+/// Lists of identifiers, and the content of the first that repeats an earlier one.
 const LISTS: [(&[u8], Option<&[u8]>); 16] = [
     (b"\x30\x00", None),
     (b"\x30\x03\x06\x01\x2a", None),
@@ -48,7 +48,7 @@ const LISTS: [(&[u8], Option<&[u8]>); 16] = [
         b"\x30\x3c\x06\x01\x01\x06\x01\x02\x06\x01\x03\x06\x01\x04\x06\x01\x05\x06\x01\x06\x06\x01\x07\x06\x01\x08\x06\x01\x09\x06\x01\x0a\x06\x01\x0b\x06\x01\x0c\x06\x01\x0d\x06\x01\x0e\x06\x01\x0f\x06\x01\x10\x06\x01\x11\x06\x01\x12\x06\x01\x01\x06\x01\x12",
         Some(b"\x01"),
     ),
-    // 34 to 1, with 2 and 34 behind them: the tables are those of 34 to 19, 18 to 3, and 2 to 1.
+    // 34 to 1, with 2 and 34 behind them.
     (
         b"\x30\x6c\x06\x01\x22\x06\x01\x21\x06\x01\x20\x06\x01\x1f\x06\x01\x1e\x06\x01\x1d\x06\x01\x1c\x06\x01\x1b\x06\x01\x1a\x06\x01\x19\x06\x01\x18\x06\x01\x17\x06\x01\x16\x06\x01\x15\x06\x01\x14\x06\x01\x13\x06\x01\x12\x06\x01\x11\x06\x01\x10\x06\x01\x0f\x06\x01\x0e\x06\x01\x0d\x06\x01\x0c\x06\x01\x0b\x06\x01\x0a\x06\x01\x09\x06\x01\x08\x06\x01\x07\x06\x01\x06\x06\x01\x05\x06\x01\x04\x06\x01\x03\x06\x01\x02\x06\x01\x01\x06\x01\x02\x06\x01\x22",
         Some(b"\x02"),
@@ -71,13 +71,12 @@ fn the_first_by_place_is_found(rt: HostRuntime) -> Result<(), Fail> {
     Ok(())
 }
 
-/// 1125 identifiers, each another, and two more behind them. A table holds 1024 of them.
-fn many(alloc: Global, more: &[u8; 8]) -> Result<Vec<u8>, AllocError> {
-    let mut list = Vec::from_slice(alloc, b"\x30\x82\x11\x9c")?;
-    for high in 0u8..9 {
-        for low in 0u8..125 {
-            list.extend_from_slice(&[0x06, 0x02, high, low])?;
-        }
+/// All identifiers of one octet, 128 of them, and two more behind them. Of their keys more than 16 have a hash that an
+/// earlier one has, which is all that a short list's table holds.
+fn short(alloc: Global, more: &[u8; 6]) -> Result<Vec<u8>, AllocError> {
+    let mut list = Vec::from_slice(alloc, b"\x30\x82\x01\x86")?;
+    for octet in 0u8..128 {
+        list.extend_from_slice(&[0x06, 0x01, octet])?;
     }
     list.extend_from_slice(more)?;
     Ok(list)
@@ -86,21 +85,52 @@ fn many(alloc: Global, more: &[u8; 8]) -> Result<Vec<u8>, AllocError> {
 #[test]
 fn repeats_are_found_behind_a_full_table(rt: HostRuntime) -> Result<(), Fail> {
     for (more, first) in [
-        (
-            b"\x06\x02\x08\x7c\x06\x02\x00\x00",
-            Some(b"\x08\x7c".as_slice()),
-        ),
-        (
-            b"\x06\x02\x00\x00\x06\x02\x08\x7c",
-            Some(b"\x00\x00".as_slice()),
-        ),
-        (b"\x06\x02\x7f\x7f\x06\x02\x07\x7f", None),
-        (
-            b"\x06\x02\x7f\x7f\x06\x02\x7f\x7f",
-            Some(b"\x7f\x7f".as_slice()),
-        ),
+        (b"\x06\x01\x7f\x06\x01\x00", Some(b"\x7f".as_slice())),
+        (b"\x06\x01\x00\x06\x01\x7f", Some(b"\x00".as_slice())),
+        (b"\x06\x04\x2a\x03\x04\x05", None),
     ] {
-        assert_eq!(rt; repeated(&many(rt.alloc(), more)?)?, first);
+        assert_eq!(rt; repeated(&short(rt.alloc(), more)?)?, first);
+    }
+    Ok(())
+}
+
+/// 125 identifiers for each of so many first octets, each another, and two more behind them.
+fn many(alloc: Global, highs: u8, more: &[u8; 8]) -> Result<Vec<u8>, AllocError> {
+    let length = 500 * u16::from(highs) + 8;
+    let mut list = Vec::from_slice(alloc, b"\x30\x82")?;
+    list.extend_from_slice(&length.to_be_bytes())?;
+    for high in 0..highs {
+        for low in 0u8..125 {
+            list.extend_from_slice(&[0x06, 0x02, high, low])?;
+        }
+    }
+    list.extend_from_slice(more)?;
+    Ok(list)
+}
+
+/// Lists of 4,508 octets of content and of 30,008: the tables have another size for each.
+const LENGTHS: [u8; 2] = [9, 60];
+
+#[test]
+fn repeats_are_found_in_long_lists(rt: HostRuntime) -> Result<(), Fail> {
+    for highs in LENGTHS {
+        for (more, first) in [
+            (
+                b"\x06\x02\x08\x7c\x06\x02\x00\x00",
+                Some(b"\x08\x7c".as_slice()),
+            ),
+            (
+                b"\x06\x02\x00\x00\x06\x02\x08\x7c",
+                Some(b"\x00\x00".as_slice()),
+            ),
+            (b"\x06\x02\x7f\x7f\x06\x02\x07\x7f", None),
+            (
+                b"\x06\x02\x7f\x7f\x06\x02\x7f\x7f",
+                Some(b"\x7f\x7f".as_slice()),
+            ),
+        ] {
+            assert_eq!(rt; repeated(&many(rt.alloc(), highs, more)?)?, first);
+        }
     }
     Ok(())
 }

@@ -84,23 +84,23 @@ loop-before-preserved g c =
     let suspects = suspects-next key keys i.0 _ x _ left less c.in-Some.ensures.steps one i.5 in
     let met : (is_among (key x) i.0 ≡ false) × (length c.match-place_of.met ≡ g.row.N) × AreMarked c.match-place_of.met keys (key x ∷ i.0) =
     elim c.match-place_of.branch [
-      in-Some-place_of+else-met-place w ↦ (
-        let here = sym asked ∙ w.in-Some-place_of.is in
-        let within = place-in-table (key x) c.args.table.now w.in-Some-place_of.place here in
-        let room = c.requires.room in
-        let many = i.1 in (
-          sym (i.4 (key x) w.in-Some-place_of.place here) ∙ w.if-met-place.false,
-          ap length w.met-is ∙ length-set c.loop-before.met w.in-Some-place_of.place true ∙ i.1,
-          subst (λ (m : List Bool). AreMarked m keys (key x ∷ i.0)) (sym w.met-is) (marked-more c.loop-before.met keys i.0 (key x) w.in-Some-place_of.place here (omega arith) i.4),
-        )
-      )
+      | in-Some-place_of+else-met-place w ↦ (
+          let here = sym asked ∙ w.in-Some-place_of.is in
+          let within = place-in-table (key x) c.args.table.now w.in-Some-place_of.place here in
+          let room = c.requires.room in
+          let many = i.1 in (
+            sym (i.4 (key x) w.in-Some-place_of.place here) ∙ w.if-met-place.false,
+            ap length w.met-is ∙ length-set c.loop-before.met w.in-Some-place_of.place true ∙ i.1,
+            subst (λ (m : List Bool). AreMarked m keys (key x ∷ i.0)) (sym w.met-is) (marked-more c.loop-before.met keys i.0 (key x) w.in-Some-place_of.place here (omega arith) i.4),
+          )
+          )
       | in_default-place_of w ↦ (
-        let nowhere = sym asked ∙ w.in_default-place_of.is in (
-          not-seen _ _ suspects.0 (place-absent (key x) keys nowhere),
-          ap length w.met-is ∙ i.1,
-          subst (λ (m : List Bool). AreMarked m keys (key x ∷ i.0)) (sym w.met-is) (marked-beside c.loop-before.met keys i.0 (key x) nowhere i.4),
-        )
-      )
+          let nowhere = sym asked ∙ w.in_default-place_of.is in (
+            not-seen _ _ suspects.0 (place-absent (key x) keys nowhere),
+            ap length w.met-is ∙ i.1,
+            subst (λ (m : List Bool). AreMarked m keys (key x ∷ i.0)) (sym w.met-is) (marked-beside c.loop-before.met keys i.0 (key x) nowhere i.4),
+          )
+          )
     ] in (
       key x ∷ i.0,
       met.1,

@@ -21,11 +21,23 @@ first_met_again-found-requires g c κs =
     let new = c.sort.new.table.items in
     let passed = take c.gather-passed.result (items_at g.T.FromElement.reading (inside (now c.args.list))) in (
       (refl, tt),
-      (c.requires.flags, (c.requires.few, (c.requires.small, (c.as_slice.ensures.fits, (
-        subst (λ (t : List (Bor (List ℕ))). AreAscending t) (sym c.as_slice.ensures.value) c.sort.ensures.ascending,
-        subst (λ (t : List (Bor (List ℕ))). AreSuspects key (keys_in t) [] passed) (sym c.as_slice.ensures.value)
-            (suspects-in key (keys_in old) (keys_in new) [] passed (λ k e. sym (among-moved k old new c.sort.ensures.same) ∙ e) c.gather-passed.ensures.suspects),
-      ))))),
+      (
+        c.requires.flags,
+        (
+          c.requires.few,
+          (
+            c.requires.small,
+            (
+              c.as_slice.ensures.fits,
+              (
+                subst (λ (t : List (Bor (List ℕ))). AreAscending t) (sym c.as_slice.ensures.value) c.sort.ensures.ascending,
+                subst (λ (t : List (Bor (List ℕ))). AreSuspects key (keys_in t) [] passed) (sym c.as_slice.ensures.value)
+                    (suspects-in key (keys_in old) (keys_in new) [] passed (λ k e. sym (among-moved k old new c.sort.ensures.same) ∙ e) c.gather-passed.ensures.suspects),
+              ),
+            ),
+          ),
+        ),
+      ),
     )
 
 pub returns-then-is_some : goal.returns-then-is_some
@@ -33,13 +45,13 @@ returns-then-is_some g c =
     let key = g.T.FromElement.key_of in
     let xs = items_at g.T.FromElement.reading (inside (now c.args.list)) in
     elim c.then-is_some.branch [
-      then-is_some-via-then-is_some w ↦ answered-all key g.T.FromElement.record_of c.first_met_again-found.result c.gather-passed.result xs (sym c.is_some.ensures ∙ w.if-is_some.true) c.first_met_again-found.ensures
+      | then-is_some-via-then-is_some w ↦ answered-all key g.T.FromElement.record_of c.first_met_again-found.result c.gather-passed.result xs (sym c.is_some.ensures ∙ w.if-is_some.true) c.first_met_again-found.ensures
       | then-is_some-via-else-is_some+then-len w ↦ (
-        let same = length_permutation c.gather-passed.new.table.items c.sort.new.table.items c.sort.ensures.same in
-        let few = w.if-len.true in
-        let many = w.len.ensures.value in
-        c.first_met_again-found.ensures ∙ ap (first_repeated key []) (c.gather-passed.ensures.all (omega arith))
-      )
+          let same = length_permutation c.gather-passed.new.table.items c.sort.new.table.items c.sort.ensures.same in
+          let few = w.if-len.true in
+          let many = w.len.ensures.value in
+          c.first_met_again-found.ensures ∙ ap (first_repeated key []) (c.gather-passed.ensures.all (omega arith))
+          )
     ]
 
 pub loop-table-smaller : goal.loop-table-smaller

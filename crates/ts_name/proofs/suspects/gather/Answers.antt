@@ -56,28 +56,28 @@ loop-items-preserved g c =
     let old = keys_in c.loop-items.table.items in
     let kept : AreSuspects key (keys_in c.if-known-passed.table.items) [] (i.0 ++ x ∷ []) × (0 < length c.if-known-passed.table.items → c.args.known < c.loop-items.passed + 1) =
     elim c.if-known-passed.branch [
-      then-known-passed+then-seen-flag w ↦ (
-        let taken : keys_in c.if-known-passed.table.items ≡ old ++ key x ∷ [] =
-        ap (λ t. keys_in t.items) w.table-is ∙ ap keys_in w.push.ensures.items ∙ map-append (λ y. y.now) c.loop-items.table.items (w.key-then-seen-flag.result ∷ [])
-        ∙ ap (λ (k : List ℕ). old ++ k ∷ []) w.key-then-seen-flag.ensures in
-        let from = w.if-known-passed.true in (
-          subst (λ (keys : List (List ℕ)). AreSuspects key keys [] front) (sym taken)
-              (suspects-more key (old ++ key x ∷ []) [] i.0 x (suspects-in key old (old ++ key x ∷ []) [] i.0 (among-more old (key x)) i.5) (λ e. among-last old (key x))),
-          λ some. omega arith,
-        )
-      )
+      | then-known-passed+then-seen-flag w ↦ (
+          let taken : keys_in c.if-known-passed.table.items ≡ old ++ key x ∷ [] =
+          ap (λ t. keys_in t.items) w.table-is ∙ ap keys_in w.push.ensures.items ∙ map-append (λ y. y.now) c.loop-items.table.items (w.key-then-seen-flag.result ∷ [])
+          ∙ ap (λ (k : List ℕ). old ++ k ∷ []) w.key-then-seen-flag.ensures in
+          let from = w.if-known-passed.true in (
+            subst (λ (keys : List (List ℕ)). AreSuspects key keys [] front) (sym taken)
+                (suspects-more key (old ++ key x ∷ []) [] i.0 x (suspects-in key old (old ++ key x ∷ []) [] i.0 (among-more old (key x)) i.5) (λ e. among-last old (key x))),
+            λ some. omega arith,
+          )
+          )
       | else-known-passed w ↦ (
-        let new : is_among (key x) seen ≡ false =
-        elim w.else-known-passed.branch [
-          else-known-passed-via-then-known-passed+else-seen-flag w' ↦ flag-new (flag_of g.row.M) c.loop-items.seen (key x) seen i.4 (ap (λ (n : ℕ). get_or c.loop-items.seen n false) (sym flag) ∙ w'.if-seen-flag.false)
-          | else-known-passed-via-else-known-passed w' ↦ distinct.0 (let front = w'.if-known-passed.false in omega arith)
-        ] in
-        let same : keys_in c.if-known-passed.table.items ≡ old = ap (λ t. keys_in t.items) w.table-is in
-        let many : length c.if-known-passed.table.items ≡ length c.loop-items.table.items = ap (λ t. length t.items) w.table-is in (
-          subst (λ (keys : List (List ℕ)). AreSuspects key keys [] front) (sym same) (suspects-more key old [] i.0 x i.5 (λ e. absurd (false≢true (sym new ∙ e)))),
-          λ some. let before = i.7 (omega arith) in omega arith,
-        )
-      )
+          let new : is_among (key x) seen ≡ false =
+          elim w.else-known-passed.branch [
+            | else-known-passed-via-then-known-passed+else-seen-flag w' ↦ flag-new (flag_of g.row.M) c.loop-items.seen (key x) seen i.4 (ap (λ (n : ℕ). get_or c.loop-items.seen n false) (sym flag) ∙ w'.if-seen-flag.false)
+            | else-known-passed-via-else-known-passed w' ↦ distinct.0 (let front = w'.if-known-passed.false in omega arith)
+          ] in
+          let same : keys_in c.if-known-passed.table.items ≡ old = ap (λ t. keys_in t.items) w.table-is in
+          let many : length c.if-known-passed.table.items ≡ length c.loop-items.table.items = ap (λ t. length t.items) w.table-is in (
+            subst (λ (keys : List (List ℕ)). AreSuspects key keys [] front) (sym same) (suspects-more key old [] i.0 x i.5 (λ e. absurd (false≢true (sym new ∙ e)))),
+            λ some. let before = i.7 (omega arith) in omega arith,
+          )
+          )
     ] in (
       front,
       i.1 ∙ ap (λ (ys : List g.T.FromElement.Record). i.0 ++ ys) c.in-Some.ensures.steps ∙ sym (append_assoc i.0 (x ∷ []) (items_at g.T.FromElement.reading c.next.new.self.rest)),

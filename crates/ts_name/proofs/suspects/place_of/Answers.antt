@@ -31,6 +31,7 @@ returns g c =
     IsPartitionPoint-from_clause (λ y. is_lt (slice_cmp nat_cmp y.now k)) table c.partition_point-place.result c.partition_point-place.ensures.partitioned (parted k table c.requires.ascending) (λ a r q h. search rules) in
     let other : IsOther k table c.partition_point-place.result =
     elim c.else-place-table.branch [
-      else-place-table-via-then-place-table+else-eq w ↦ inr (_, sym w.eq.ensures ∙ w.if-eq.false) | else-place-table-via-else-place-table w ↦ inl w.if-place-table.false
+      | else-place-table-via-then-place-table+else-eq w ↦ inr (_, sym w.eq.ensures ∙ w.if-eq.false)
+      | else-place-table-via-else-place-table w ↦ inl w.if-place-table.false
     ] in
     sym (from-nowhere k table c.partition_point-place.result c.requires.ascending from other)
