@@ -94,11 +94,9 @@ fn repeats_are_found_behind_a_full_table(rt: HostRuntime) -> Result<(), Fail> {
     Ok(())
 }
 
-/// 125 identifiers for each of so many first octets, each another, and two more behind them.
-fn many(alloc: Global, highs: u8, more: &[u8; 8]) -> Result<Vec<u8>, AllocError> {
-    let length = 500 * u16::from(highs) + 8;
-    let mut list = Vec::from_slice(alloc, b"\x30\x82")?;
-    list.extend_from_slice(&length.to_be_bytes())?;
+/// Behind a header 125 identifiers for each of so many first octets, each another, and two more.
+fn many(alloc: Global, header: &[u8; 4], highs: u8, more: &[u8; 8]) -> Result<Vec<u8>, AllocError> {
+    let mut list = Vec::from_slice(alloc, header)?;
     for high in 0..highs {
         for low in 0u8..125 {
             list.extend_from_slice(&[0x06, 0x02, high, low])?;
@@ -109,11 +107,11 @@ fn many(alloc: Global, highs: u8, more: &[u8; 8]) -> Result<Vec<u8>, AllocError>
 }
 
 /// Lists of 4,508 octets of content and of 30,008: the tables have another size for each.
-const LENGTHS: [u8; 2] = [9, 60];
+const LONG_LISTS: [(&[u8; 4], u8); 2] = [(b"\x30\x82\x11\x9c", 9), (b"\x30\x82\x75\x38", 60)];
 
 #[test]
 fn repeats_are_found_in_long_lists(rt: HostRuntime) -> Result<(), Fail> {
-    for highs in LENGTHS {
+    for (header, highs) in LONG_LISTS {
         for (more, first) in [
             (
                 b"\x06\x02\x08\x7c\x06\x02\x00\x00",
@@ -129,7 +127,7 @@ fn repeats_are_found_in_long_lists(rt: HostRuntime) -> Result<(), Fail> {
                 Some(b"\x7f\x7f".as_slice()),
             ),
         ] {
-            assert_eq!(rt; repeated(&many(rt.alloc(), highs, more)?)?, first);
+            assert_eq!(rt; repeated(&many(rt.alloc(), header, highs, more)?)?, first);
         }
     }
     Ok(())
