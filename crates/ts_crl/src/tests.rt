@@ -1,6 +1,7 @@
 //! Rows by hand. The octets were made by other tools, and the places counted.
 
 use super::*;
+use std::alloc::Global;
 use ts_cert::TimeForm;
 use ts_der::{DerFault, Integer};
 use ts_name::{CertFault, CertRule};
@@ -251,6 +252,47 @@ fn refuses_each_front(rt: HostRuntime) {
     for length in 0..ABSENT.len() {
         assert!(rt;
             refusal(&ABSENT[..length]) == Some((CertRule::Der(DerFault::Truncated), 0)),
+            "{length}"
+        );
+    }
+}
+
+/// A list up to the content of its signature, which is to be 1,048,485 octets: that no bit is unused, and the signature.
+const LARGEST: &[u8] =
+    b"\x30\x83\x0f\xff\xfb\x30\x47\x02\x01\x01\x30\x06\x06\x04\x88\x37\x01\x01\x30\x0c\x31\x0a\x30\x08\x06\x03\x55\x04\x03\x0c\x01\x52\x17\x0d\x32\x36\x30\x34\x30\x31\x30\x30\x30\x30\x30\x30\x5a\x17\x0d\x32\x36\x30\x35\x30\x31\x30\x30\x30\x30\x30\x30\x5a\xa0\x0e\x30\x0c\x30\x0a\x06\x03\x55\x1d\x14\x04\x03\x02\x01\x07\x30\x06\x06\x04\x88\x37\x01\x01\x03\x83\x0f\xff\xa5";
+
+/// The same, to be one octet longer.
+const TOO_LARGE: &[u8] =
+    b"\x30\x83\x0f\xff\xfc\x30\x47\x02\x01\x01\x30\x06\x06\x04\x88\x37\x01\x01\x30\x0c\x31\x0a\x30\x08\x06\x03\x55\x04\x03\x0c\x01\x52\x17\x0d\x32\x36\x30\x34\x30\x31\x30\x30\x30\x30\x30\x30\x5a\x17\x0d\x32\x36\x30\x35\x30\x31\x30\x30\x30\x30\x30\x30\x5a\xa0\x0e\x30\x0c\x30\x0a\x06\x03\x55\x1d\x14\x04\x03\x02\x01\x07\x30\x06\x06\x04\x88\x37\x01\x01\x03\x83\x0f\xff\xa6";
+
+/// How many octets the signature of a list has.
+fn signature_length(octets: &[u8]) -> Option<usize> {
+    Some(Crl::read(octets).ok()?.signature().len())
+}
+
+/// Whether the list of this length that begins so, and goes on with zero octets, has such a signature or breaks this rule.
+fn is_answered(
+    alloc: Global,
+    front: &[u8],
+    length: usize,
+    signature: Option<usize>,
+    broken: Option<(CertRule, usize)>,
+) -> Option<bool> {
+    let mut list = Vec::from_slice(alloc, front).ok()?;
+    list.resize(length, 0).ok()?;
+    Some(signature_length(&list) == signature && refusal(&list) == broken)
+}
+
+const LENGTH: CertRule = CertRule::Der(DerFault::TooLarge);
+
+#[test]
+fn reads_1048576_octets_and_no_more(rt: HostRuntime) {
+    for (front, length, signature, broken) in [
+        (LARGEST, 1_048_576, Some(1_048_484), None),
+        (TOO_LARGE, 1_048_577, None, Some((LENGTH, 0))),
+    ] {
+        assert!(rt;
+            is_answered(rt.alloc(), front, length, signature, broken) == Some(true),
             "{length}"
         );
     }
