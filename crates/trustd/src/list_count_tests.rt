@@ -1,6 +1,7 @@
 //! What a list's words come to: the octets of the lists that they make, as another program counts them.
 
-use crate::list_tests::answers_words;
+use crate::list_tests::LINE;
+use crate::tests::answers_words;
 
 /// Words, and how many octets the list has that they describe.
 const COUNTS: [(&[u8], &[u8]); 21] = [
@@ -30,7 +31,7 @@ const COUNTS: [(&[u8], &[u8]); 21] = [
 #[test]
 fn makes_lists(rt: HostRuntime) {
     for &(words, text) in &COUNTS {
-        let answered = answers_words(rt.alloc(), words, 0, text);
+        let answered = answers_words(rt.alloc(), LINE, words, 0, text);
         assert!(rt; answered == Ok(true), "{words:?}");
     }
 }
@@ -47,7 +48,7 @@ const UNMADE: [(&[u8], &[u8]); 4] = [
 #[test]
 fn makes_no_other_lists(rt: HostRuntime) {
     for &(words, text) in &UNMADE {
-        let answered = answers_words(rt.alloc(), words, 2, text);
+        let answered = answers_words(rt.alloc(), LINE, words, 2, text);
         assert!(rt; answered == Ok(true), "{words:?}");
     }
 }

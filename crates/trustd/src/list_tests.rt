@@ -1,22 +1,10 @@
 //! What is said of `crl` lines: one line for each form that is refused, and the names that lists take.
 
-use crate::tests::answers;
+use crate::tests::{answers, answers_words};
 use std::alloc::{AllocError, Global};
 
 /// A line to which words are added.
-const LINE: &[u8] = b"crl L issuer CN=L this 20260501000000Z next 20260701000000Z signer 61";
-
-/// Whether the line with these words is answered so.
-pub fn answers_words(
-    alloc: Global,
-    words: &[u8],
-    status: u8,
-    text: &[u8],
-) -> Result<bool, AllocError> {
-    let mut script = Vec::from_slice(alloc, LINE)?;
-    script.extend_from_slice(words)?;
-    Ok(answers(alloc, script.as_slice(), status, text))
-}
+pub const LINE: &[u8] = b"crl L issuer CN=L this 20260501000000Z next 20260701000000Z signer 61";
 
 /// Words of which one has no form, or stands twice.
 const REFUSED: [&[u8]; 45] = [
@@ -70,7 +58,7 @@ const REFUSED: [&[u8]; 45] = [
 #[test]
 fn refuses_words_of_no_form(rt: HostRuntime) {
     for &words in &REFUSED {
-        let refused = answers_words(rt.alloc(), words, 2, b"line 1: form\n");
+        let refused = answers_words(rt.alloc(), LINE, words, 2, b"line 1: form\n");
         assert!(rt; refused == Ok(true), "{words:?}");
     }
 }

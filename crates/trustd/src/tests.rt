@@ -104,6 +104,19 @@ pub fn answers<R: Read + Drop>(alloc: Global, mut reader: R, status: u8, text: &
     lab(alloc, &mut reader, &mut written) == status && written.as_slice() == text
 }
 
+/// Whether the lab answers a line with words added to it so.
+pub fn answers_words(
+    alloc: Global,
+    line: &[u8],
+    words: &[u8],
+    status: u8,
+    text: &[u8],
+) -> Result<bool, AllocError> {
+    let mut script = Vec::from_slice(alloc, line)?;
+    script.extend_from_slice(words)?;
+    Ok(answers(alloc, script.as_slice(), status, text))
+}
+
 /// Scripts, with what the lab writes for each and its status.
 const SCRIPTS: [(&[u8], &[u8], u8); 11] = [
     (b"", b"", 0),

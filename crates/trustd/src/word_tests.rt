@@ -1,24 +1,11 @@
 //! What is said of words that say extensions: one line for each form that is refused.
 
-use crate::tests::answers;
+use crate::tests::{answers, answers_words};
 use std::alloc::{AllocError, Global};
 
 /// A line to which words are added.
 const LINE: &[u8] =
     b"cert A serial 2 issuer CN=R subject CN=A from 20260101000000Z to 20270101000000Z key 63 signer 61";
-
-/// The script of this line with these words.
-fn script_of(alloc: Global, words: &[u8]) -> Result<Vec<u8>, AllocError> {
-    let mut script = Vec::from_slice(alloc, LINE)?;
-    script.extend_from_slice(words)?;
-    Ok(script)
-}
-
-/// Whether the line with these words is answered so.
-fn answers_words(alloc: Global, words: &[u8], status: u8, text: &[u8]) -> Result<bool, AllocError> {
-    let script = script_of(alloc, words)?;
-    Ok(answers(alloc, script.as_slice(), status, text))
-}
 
 /// Words of which one has no form.
 const REFUSED: [&[u8]; 78] = [
@@ -113,17 +100,17 @@ const REFUSED: [&[u8]; 78] = [
 #[test]
 fn refuses_words_of_no_form(rt: HostRuntime) {
     for &words in &REFUSED {
-        let refused = answers_words(rt.alloc(), words, 2, b"line 1: form\n");
+        let refused = answers_words(rt.alloc(), LINE, words, 2, b"line 1: form\n");
         assert!(rt; refused == Ok(true), "{words:?}");
     }
 }
 
 /// Whether the second of two such lines, the first without words, is answered so.
 fn answers_again(alloc: Global, words: &[u8], text: &[u8]) -> Result<bool, AllocError> {
-    let mut script = script_of(alloc, b"\n")?;
-    let again = script_of(alloc, words)?;
-    script.extend_from_slice(again.as_slice())?;
-    Ok(answers(alloc, script.as_slice(), 2, text))
+    let mut lines = Vec::from_slice(alloc, LINE)?;
+    lines.push(b'\n')?;
+    lines.extend_from_slice(LINE)?;
+    answers_words(alloc, lines.as_slice(), words, 2, text)
 }
 
 /// Words of a line whose name is taken, and what answers it behind the line that took the name.
@@ -199,7 +186,7 @@ const TAKEN: [(&[u8], &[u8]); 40] = [
 #[test]
 fn takes_words_of_each_form(rt: HostRuntime) {
     for &(words, text) in &TAKEN {
-        let taken = answers_words(rt.alloc(), words, 0, text);
+        let taken = answers_words(rt.alloc(), LINE, words, 0, text);
         assert!(rt; taken == Ok(true), "{words:?}");
     }
 }
@@ -220,7 +207,7 @@ const UNREADABLE: [&[u8]; 9] = [
 #[test]
 fn refuses_words_that_describe_no_certificate(rt: HostRuntime) {
     for &words in &UNREADABLE {
-        let refused = answers_words(rt.alloc(), words, 2, b"line 1: form\n");
+        let refused = answers_words(rt.alloc(), LINE, words, 2, b"line 1: form\n");
         assert!(rt; refused == Ok(true), "{words:?}");
     }
     for &words in &UNREADABLE {
