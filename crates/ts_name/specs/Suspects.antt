@@ -9,13 +9,13 @@ abbrev pub hash_from : ℕ → List ℕ → ℕ
 hash_from h [] = h
 hash_from h (x ∷ key) = hash_from (((h + x) % 18446744073709551616 * 11400714819323198485) % 18446744073709551616) key
 
--- which of so many flags a key sets: by the upper half of its hash
-unfoldable pub flag_of : ℕ → List ℕ → ℕ
-flag_of flags key = (hash_from 0 key / 4294967296) % flags
+-- which of so many flags a key sets: by the upper half of its hash, which a seed begins
+unfoldable pub flag_of : ℕ → ℕ → List ℕ → ℕ
+flag_of flags seed key = (hash_from ((seed * 11400714819323198485) % 18446744073709551616) key / 4294967296) % flags
 
 -- the flags of these keys are set, of so many
-abbrev pub AreFlagged : ℕ → List Bool → List (List ℕ) → Type 0
-AreFlagged many flags keys = AllByRecursion (λ k. slice_index_or flags (flag_of many k) false ≡ true) keys
+abbrev pub AreFlagged : ℕ → ℕ → List Bool → List (List ℕ) → Type 0
+AreFlagged many seed flags keys = AllByRecursion (λ k. slice_index_or flags (flag_of many seed k) false ≡ true) keys
 
 -- of items behind others whose keys were seen: the key of each that repeats an earlier one is in a table
 unfoldable pub AreSuspects : {A : Type 0} → (A → List ℕ) → List (List ℕ) → List (List ℕ) → List A → Type 0

@@ -35,7 +35,7 @@ const MIDDLE: usize = 16_384;
 const LONG: usize = 65_536;
 
 /// The first of the items within an element that has the key of an earlier one, up to the first item that can't be
-/// read. It takes no memory but tables on the stack: 140 kB at most for a list of no more than 65,536 octets, 540 kB
+/// read. It takes no memory but tables on the stack: 140 kB at most for a list of no more than 65,536 octets, 680 kB
 /// for a longer one. Most lists need none; others are gone over twice, or more often where many keys have one hash.
 pub fn first_repeated<'a, T: Keyed<'a>>(list: Element<'a>) -> Option<T>
     ensures { option_map T.record_of result ≡ first_repeated_of T.key_of [] (items_at T.reading (inside (now list.entry))) }
@@ -47,7 +47,7 @@ pub fn first_repeated<'a, T: Keyed<'a>>(list: Element<'a>) -> Option<T>
         ..SHORT => first_repeated_of_suspects::<T, 16, 256>(list),
         SHORT..=MIDDLE => first_repeated_of_suspects::<T, 256, 8_192>(list),
         ..=LONG => first_repeated_of_suspects::<T, 4_096, 65_536>(list),
-        _ => first_repeated_of_suspects::<T, 16_384, 262_144>(list),
+        _ => first_repeated_of_suspects::<T, 24_576, 262_144>(list),
     }
 }
 

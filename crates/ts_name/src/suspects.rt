@@ -18,14 +18,14 @@ const GOLDEN: u64 = 0x9E37_79B9_7F4A_7C15;
 /// The first of the items within an element that has the key of an earlier one, up to the first item that can't be read.
 /// A first walk sets a flag of `M` for each key, by its hash, and keeps the keys whose flag was set before, the suspects,
 /// in a table of `N`; a second one looks the items up in the table, and the first that it meets again is it. Where there
-/// are more suspects than the table has room for, both walks are made again for the next of them.
+/// are more suspects than the table has room for, both walks are made again for the next of them, with another hash.
 #[inline(never)]
 pub fn first_repeated_of_suspects<'a, T: Keyed<'a>, const N: usize, const M: usize>(
     list: Element<'a>,
 ) -> Option<T>
     requires room { 0 < N }
     requires flags { 0 < M }
-    requires small { N ≤ 16384 }
+    requires small { N ≤ 32768 }
     requires few { M ≤ 262144 }
     ensures { option_map T.record_of result ≡ first_repeated_of T.key_of [] (items_at T.reading (inside (now list.entry))) }
 {
@@ -33,9 +33,10 @@ pub fn first_repeated_of_suspects<'a, T: Keyed<'a>, const N: usize, const M: usi
     let mut passed = 0;
     loop {
         table.clear();
-        passed = gather::<T, N, M>(&mut table, list, passed);
+        let seed = passed as u64;
+        passed = gather::<T, N, M>(&mut table, list, passed, seed);
         sort(&mut table);
-        let found = first_met_again::<T, N, M>(table.as_slice(), list, passed);
+        let found = first_met_again::<T, N, M>(table.as_slice(), list, passed, seed);
         if found.is_some() || table.len() < N {
             return found;
         }
@@ -49,6 +50,7 @@ fn gather<'a, T: Keyed<'a>, const N: usize, const M: usize>(
     table: &mut ArrayVec<&'a [u8], N>,
     list: Element<'a>,
     known: usize,
+    seed: u64,
 ) -> usize
     requires flags { 0 < M }
     requires few { M ≤ 262144 }
@@ -66,7 +68,7 @@ fn gather<'a, T: Keyed<'a>, const N: usize, const M: usize>(
         let Some(item) = items.next() else {
             return passed;
         };
-        let flag = flag_of::<M>(item.key());
+        let flag = flag_of::<M>(item.key(), seed);
         if known <= passed && seen[flag] {
             table.push(item.key());
         }
@@ -76,15 +78,16 @@ fn gather<'a, T: Keyed<'a>, const N: usize, const M: usize>(
     passed
 }
 
-/// The number of a key's flag, of `M`: by a hash that multiplies (Knuth, The Art of Computer Programming, 6.4).
+/// The number of a key's flag, of `M`: by a hash that multiplies (Knuth, The Art of Computer Programming, 6.4), another
+/// one for each seed.
 #[inline(always)]
 #[tactic(auto, unfolding(crate::specs::Suspects::flag_of))]
-fn flag_of<const M: usize>(key: &[u8]) -> usize
+fn flag_of<const M: usize>(key: &[u8], seed: u64) -> usize
     requires flags { 0 < M }
-    ensures flag { result ≡ flag_in M key.now }
+    ensures flag { result ≡ flag_in M seed key.now }
     ensures within { result < M }
 {
-    let mut hash: u64 = 0;
+    let mut hash = seed.wrapping_mul(GOLDEN);
     for &octet in key {
         hash = hash.wrapping_add(u64::from(octet)).wrapping_mul(GOLDEN);
     }
@@ -105,10 +108,11 @@ fn first_met_again<'a, T: Keyed<'a>, const N: usize, const M: usize>(
     table: &[&'a [u8]],
     list: Element<'a>,
     end: usize,
+    seed: u64,
 ) -> Option<T>
     requires flags { 0 < M }
     requires few { M ≤ 262144 }
-    requires small { N ≤ 16384 }
+    requires small { N ≤ 32768 }
     requires room { length table.now ≤ N }
     requires ascending { AreAscending table.now }
     requires suspects { AreSuspects T.key_of (keys_in table.now) [] (take end (items_at T.reading (inside (now list)))) }
@@ -118,7 +122,7 @@ fn first_met_again<'a, T: Keyed<'a>, const N: usize, const M: usize>(
         return None;
     }
     let mut flags = [false; M];
-    set_flags(&mut flags, table);
+    set_flags(&mut flags, table, seed);
     let mut met = [false; N];
     let mut items = SequenceItems::<T>::within(list);
     let mut before = 0;
@@ -126,7 +130,7 @@ fn first_met_again<'a, T: Keyed<'a>, const N: usize, const M: usize>(
         let Some(item) = items.next() else {
             return None;
         };
-        if let Some(place) = place_of(item.key(), table, &flags) {
+        if let Some(place) = place_of(item.key(), table, &flags, seed) {
             if met[place] {
                 return Some(item);
             }
@@ -138,24 +142,29 @@ fn first_met_again<'a, T: Keyed<'a>, const N: usize, const M: usize>(
 }
 
 /// Sets the flag of each key.
-fn set_flags<const M: usize>(flags: &mut [bool; M], table: &[&[u8]])
+fn set_flags<const M: usize>(flags: &mut [bool; M], table: &[&[u8]], seed: u64)
     requires some { 0 < M }
-    ensures { AreFlagged M flags.new (keys_in table.now) }
+    ensures { AreFlagged M seed flags.new (keys_in table.now) }
 {
     for key in table {
-        flags[flag_of::<M>(key)] = true;
+        flags[flag_of::<M>(key, seed)] = true;
     }
 }
 
 /// The place of the first key in a table that is equal to this one, where the flags of those in the table are set.
 #[inline(always)]
-fn place_of<const M: usize>(key: &[u8], table: &[&[u8]], flags: &[bool; M]) -> Option<usize>
+fn place_of<const M: usize>(
+    key: &[u8],
+    table: &[&[u8]],
+    flags: &[bool; M],
+    seed: u64,
+) -> Option<usize>
     requires some { 0 < M }
     requires ascending { AreAscending table.now }
-    requires flagged { AreFlagged M flags.now (keys_in table.now) }
+    requires flagged { AreFlagged M seed flags.now (keys_in table.now) }
     ensures { result ≡ place_in key.now (keys_in table.now) }
 {
-    if !flags[flag_of::<M>(key)] {
+    if !flags[flag_of::<M>(key, seed)] {
         return None;
     }
     let place = table.partition_point(|other| other.cmp(&key).is_lt());
