@@ -4,18 +4,18 @@ use Rattle.std.specs.List.{slice_index_or, AllByRecursion}
 use Rattle.std.specs.Str.{bytes_eq}
 use Rattle.ts_name.specs.Repeats.{is_among}
 
--- each octet is added to the hash of those before it, which is then multiplied by 2^64 over the golden ratio
-abbrev pub hash_from : ℕ → List ℕ → ℕ
-hash_from h [] = h
-hash_from h (x ∷ key) = hash_from (((h + x) % 18446744073709551616 * 11400714819323198485) % 18446744073709551616) key
+-- each octet is added to the hash of those before it, which is then multiplied by a factor
+abbrev pub hash_from : ℕ → ℕ → List ℕ → ℕ
+hash_from factor h [] = h
+hash_from factor h (x ∷ key) = hash_from factor (((h + x) % 18446744073709551616 * factor) % 18446744073709551616) key
 
--- which of so many flags a key sets: by the upper half of its hash, which a seed begins
+-- which of so many flags a key sets: by the upper half of its hash
 unfoldable pub flag_of : ℕ → ℕ → List ℕ → ℕ
-flag_of flags seed key = (hash_from ((seed * 11400714819323198485) % 18446744073709551616) key / 4294967296) % flags
+flag_of flags factor key = (hash_from factor 0 key / 4294967296) % flags
 
 -- the flags of these keys are set, of so many
 abbrev pub AreFlagged : ℕ → ℕ → List Bool → List (List ℕ) → Type 0
-AreFlagged many seed flags keys = AllByRecursion (λ k. slice_index_or flags (flag_of many seed k) false ≡ true) keys
+AreFlagged many factor flags keys = AllByRecursion (λ k. slice_index_or flags (flag_of many factor k) false ≡ true) keys
 
 -- of items behind others whose keys were seen: the key of each that repeats an earlier one is in a table
 unfoldable pub AreSuspects : {A : Type 0} → (A → List ℕ) → List (List ℕ) → List (List ℕ) → List A → Type 0

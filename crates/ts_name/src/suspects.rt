@@ -33,10 +33,10 @@ pub fn first_repeated_of_suspects<'a, T: Keyed<'a>, const N: usize, const M: usi
     let mut passed = 0;
     loop {
         table.clear();
-        let seed = passed as u64;
-        passed = gather::<T, N, M>(&mut table, list, passed, seed);
+        let factor = GOLDEN.wrapping_add((passed as u64).wrapping_mul(2));
+        passed = gather::<T, N, M>(&mut table, list, passed, factor);
         sort(&mut table);
-        let found = first_met_again::<T, N, M>(table.as_slice(), list, passed, seed);
+        let found = first_met_again::<T, N, M>(table.as_slice(), list, passed, factor);
         if found.is_some() || table.len() < N {
             return found;
         }
@@ -50,7 +50,7 @@ fn gather<'a, T: Keyed<'a>, const N: usize, const M: usize>(
     table: &mut ArrayVec<&'a [u8], N>,
     list: Element<'a>,
     known: usize,
-    seed: u64,
+    factor: u64,
 ) -> usize
     requires flags { 0 < M }
     requires few { M ≤ 262144 }
@@ -68,7 +68,7 @@ fn gather<'a, T: Keyed<'a>, const N: usize, const M: usize>(
         let Some(item) = items.next() else {
             return passed;
         };
-        let flag = flag_of::<M>(item.key(), seed);
+        let flag = flag_of::<M>(item.key(), factor);
         if known <= passed && seen[flag] {
             table.push(item.key());
         }
@@ -79,17 +79,17 @@ fn gather<'a, T: Keyed<'a>, const N: usize, const M: usize>(
 }
 
 /// The number of a key's flag, of `M`: by a hash that multiplies (Knuth, The Art of Computer Programming, 6.4), another
-/// one for each seed.
+/// one for each odd factor.
 #[inline(always)]
 #[tactic(auto, unfolding(crate::specs::Suspects::flag_of))]
-fn flag_of<const M: usize>(key: &[u8], seed: u64) -> usize
+fn flag_of<const M: usize>(key: &[u8], factor: u64) -> usize
     requires flags { 0 < M }
-    ensures flag { result ≡ flag_in M seed key.now }
+    ensures flag { result ≡ flag_in M factor key.now }
     ensures within { result < M }
 {
-    let mut hash = seed.wrapping_mul(GOLDEN);
+    let mut hash: u64 = 0;
     for &octet in key {
-        hash = hash.wrapping_add(u64::from(octet)).wrapping_mul(GOLDEN);
+        hash = hash.wrapping_add(u64::from(octet)).wrapping_mul(factor);
     }
     (hash / 0x1_0000_0000) as usize % M
 }
@@ -108,7 +108,7 @@ fn first_met_again<'a, T: Keyed<'a>, const N: usize, const M: usize>(
     table: &[&'a [u8]],
     list: Element<'a>,
     end: usize,
-    seed: u64,
+    factor: u64,
 ) -> Option<T>
     requires flags { 0 < M }
     requires few { M ≤ 262144 }
@@ -122,7 +122,7 @@ fn first_met_again<'a, T: Keyed<'a>, const N: usize, const M: usize>(
         return None;
     }
     let mut flags = [false; M];
-    set_flags(&mut flags, table, seed);
+    set_flags(&mut flags, table, factor);
     let mut met = [false; N];
     let mut items = SequenceItems::<T>::within(list);
     let mut before = 0;
@@ -130,7 +130,7 @@ fn first_met_again<'a, T: Keyed<'a>, const N: usize, const M: usize>(
         let Some(item) = items.next() else {
             return None;
         };
-        if let Some(place) = place_of(item.key(), table, &flags, seed) {
+        if let Some(place) = place_of(item.key(), table, &flags, factor) {
             if met[place] {
                 return Some(item);
             }
@@ -142,12 +142,12 @@ fn first_met_again<'a, T: Keyed<'a>, const N: usize, const M: usize>(
 }
 
 /// Sets the flag of each key.
-fn set_flags<const M: usize>(flags: &mut [bool; M], table: &[&[u8]], seed: u64)
+fn set_flags<const M: usize>(flags: &mut [bool; M], table: &[&[u8]], factor: u64)
     requires some { 0 < M }
-    ensures { AreFlagged M seed flags.new (keys_in table.now) }
+    ensures { AreFlagged M factor flags.new (keys_in table.now) }
 {
     for key in table {
-        flags[flag_of::<M>(key, seed)] = true;
+        flags[flag_of::<M>(key, factor)] = true;
     }
 }
 
@@ -157,14 +157,14 @@ fn place_of<const M: usize>(
     key: &[u8],
     table: &[&[u8]],
     flags: &[bool; M],
-    seed: u64,
+    factor: u64,
 ) -> Option<usize>
     requires some { 0 < M }
     requires ascending { AreAscending table.now }
-    requires flagged { AreFlagged M seed flags.now (keys_in table.now) }
+    requires flagged { AreFlagged M factor flags.now (keys_in table.now) }
     ensures { result ≡ place_in key.now (keys_in table.now) }
 {
-    if !flags[flag_of::<M>(key, seed)] {
+    if !flags[flag_of::<M>(key, factor)] {
         return None;
     }
     let place = table.partition_point(|other| other.cmp(&key).is_lt());

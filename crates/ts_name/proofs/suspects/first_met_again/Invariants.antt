@@ -9,7 +9,7 @@ use Rattle.ts_name.proofs.suspects.first_met_again.Given as goal
 
 abbrev pub invariant-loop-before : goal.invariant-loop-before
 invariant-loop-before g l =
-    (seen : List (List ℕ)) × (length l.met ≡ g.row.N) × (l.before ≤ l.end) × AreFlagged g.row.M l.seed l.flags (keys_in l.table) × AreMarked l.met (keys_in l.table) seen
+    (seen : List (List ℕ)) × (length l.met ≡ g.row.N) × (l.before ≤ l.end) × AreFlagged g.row.M l.factor l.flags (keys_in l.table) × AreMarked l.met (keys_in l.table) seen
     × AreSuspects g.T.FromElement.key_of (keys_in l.table) seen (take (l.end - l.before) (items_at g.T.FromElement.reading l.items.rest))
     × (first_repeated g.T.FromElement.key_of [] (take l.end (items_at g.T.FromElement.reading (inside (now l.list))))
     ≡ first_repeated g.T.FromElement.key_of seen (take (l.end - l.before) (items_at g.T.FromElement.reading l.items.rest)))

@@ -46,7 +46,7 @@ loop-items-preserved g c =
     let x = g.T.FromElement.record_of c.in-Some.item in
     let i = c.loop-items.invariant in
     let seen = seen_after key [] i.0 in
-    let flag : c.flag_of-flag.result ≡ flag_of g.row.M c.args.seed (key x) = c.flag_of-flag.ensures.flag ∙ ap (flag_of g.row.M c.args.seed) c.key.ensures in
+    let flag : c.flag_of-flag.result ≡ flag_of g.row.M c.args.factor (key x) = c.flag_of-flag.ensures.flag ∙ ap (flag_of g.row.M c.args.factor) c.key.ensures in
     let distinct = distinct-next key seen _ x _ c.args.known c.loop-items.passed c.in-Some.ensures.steps i.6 in
     let many = i.3 in
     let within = c.flag_of-flag.ensures.within in
@@ -69,7 +69,7 @@ loop-items-preserved g c =
       | else-known-passed w ↦ (
           let new : is_among (key x) seen ≡ false =
           elim w.else-known-passed.branch [
-            | else-known-passed-via-then-known-passed+else-seen-flag w' ↦ flag-new (flag_of g.row.M c.args.seed) c.loop-items.seen (key x) seen i.4 (ap (λ (n : ℕ). get_or c.loop-items.seen n false) (sym flag) ∙ w'.if-seen-flag.false)
+            | else-known-passed-via-then-known-passed+else-seen-flag w' ↦ flag-new (flag_of g.row.M c.args.factor) c.loop-items.seen (key x) seen i.4 (ap (λ (n : ℕ). get_or c.loop-items.seen n false) (sym flag) ∙ w'.if-seen-flag.false)
             | else-known-passed-via-else-known-passed w' ↦ distinct.0 (let front = w'.if-known-passed.false in omega arith)
           ] in
           let same : keys_in c.if-known-passed.table.items ≡ old = ap (λ t. keys_in t.items) w.table-is in
@@ -83,7 +83,7 @@ loop-items-preserved g c =
       i.1 ∙ ap (λ (ys : List g.T.FromElement.Record). i.0 ++ ys) c.in-Some.ensures.steps ∙ sym (append_assoc i.0 (x ∷ []) (items_at g.T.FromElement.reading c.next.new.self.rest)),
       (let length_now = i.2 in simp length_push (omega arith)),
       length-set c.loop-items.seen c.flag_of-flag.result true ∙ i.3,
-      subst (λ (keys : List (List ℕ)). AreFlagged g.row.M c.args.seed (set c.loop-items.seen c.flag_of-flag.result true) keys) (sym after) (get_or-set_at c.loop-items.seen c.flag_of-flag.result (flag_of g.row.M c.args.seed (key x)) true false (sym flag) lt, flag-more (flag_of g.row.M c.args.seed) c.loop-items.seen c.flag_of-flag.result seen lt i.4),
+      subst (λ (keys : List (List ℕ)). AreFlagged g.row.M c.args.factor (set c.loop-items.seen c.flag_of-flag.result true) keys) (sym after) (get_or-set_at c.loop-items.seen c.flag_of-flag.result (flag_of g.row.M c.args.factor (key x)) true false (sym flag) lt, flag-more (flag_of g.row.M c.args.factor) c.loop-items.seen c.flag_of-flag.result seen lt i.4),
       kept.0,
       subst (λ (keys : List (List ℕ)). first_repeated key keys (take (c.args.known - (c.loop-items.passed + 1)) (items_at g.T.FromElement.reading c.next.new.self.rest)) ≡ None) (sym after) distinct.1,
       kept.1,

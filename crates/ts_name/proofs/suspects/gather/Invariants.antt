@@ -12,7 +12,7 @@ invariant-loop-items g l =
     (front : List g.T.FromElement.Record)
     × (items_at g.T.FromElement.reading (inside (now l.list)) ≡ front ++ items_at g.T.FromElement.reading l.items.rest)
     × (length front ≡ l.passed) × (length l.seen ≡ g.row.M)
-    × AreFlagged g.row.M l.seed l.seen (seen_after g.T.FromElement.key_of [] front)
+    × AreFlagged g.row.M l.factor l.seen (seen_after g.T.FromElement.key_of [] front)
     × AreSuspects g.T.FromElement.key_of (keys_in l.table.items) [] front
     × (first_repeated g.T.FromElement.key_of (seen_after g.T.FromElement.key_of [] front) (take (l.known - l.passed) (items_at g.T.FromElement.reading l.items.rest)) ≡ None)
     × (0 < length l.table.items → l.known < l.passed)

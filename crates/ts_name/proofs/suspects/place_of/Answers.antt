@@ -11,8 +11,8 @@ pub returns-then-not-flags-flag_of : goal.returns-then-not-flags-flag_of
 returns-then-not-flags-flag_of g c =
     let k = c.args.key.now in
     let flags = c.args.flags.now in
-    let unset : get_or flags (flag_of g.row.M c.args.seed k) false ≡ false = ap (λ (n : ℕ). get_or flags n false) (sym c.flag_of.ensures.flag) ∙ c.if-not-flags-flag_of.true in
-    let new : is_among k (keys_in c.args.table.now) ≡ false = flag-new (flag_of g.row.M c.args.seed) flags k (keys_in c.args.table.now) c.requires.flagged unset in
+    let unset : get_or flags (flag_of g.row.M c.args.factor k) false ≡ false = ap (λ (n : ℕ). get_or flags n false) (sym c.flag_of.ensures.flag) ∙ c.if-not-flags-flag_of.true in
+    let new : is_among k (keys_in c.args.table.now) ≡ false = flag-new (flag_of g.row.M c.args.factor) flags k (keys_in c.args.table.now) c.requires.flagged unset in
     sym (placed-nowhere k (keys_in c.args.table.now) new)
 
 pub returns-then-eq : goal.returns-then-eq

@@ -12,5 +12,5 @@ loop-key-preserved g c =
     let within = c.flag_of.ensures.within in
     let lt : c.flag_of.result < length flags = omega arith in (
       length-set flags c.flag_of.result true ∙ i.0,
-      flagged-next (flag_of g.row.M c.args.seed) flags c.args.table.now c.loop-key.key-index c.flag_of.result _ c.loop-key-test.true c.flag_of.ensures.flag lt i.1,
+      flagged-next (flag_of g.row.M c.args.factor) flags c.args.table.now c.loop-key.key-index c.flag_of.result _ c.loop-key-test.true c.flag_of.ensures.flag lt i.1,
     )

@@ -4,4 +4,4 @@ use Rattle.ts_name.specs.Suspects.{AreFlagged}
 use Rattle.ts_name.proofs.suspects.set_flags.Given as goal
 
 abbrev pub invariant-loop-key : goal.invariant-loop-key
-invariant-loop-key g l = (length l.flags ≡ g.row.M) × AreFlagged g.row.M l.seed l.flags (keys_in (take l.key-index l.table))
+invariant-loop-key g l = (length l.flags ≡ g.row.M) × AreFlagged g.row.M l.factor l.flags (keys_in (take l.key-index l.table))
