@@ -3,6 +3,7 @@
 ghost use Rattle.std.specs.Prelude.{◌≡◌, ◌++◌, List, None, map, option_map, IfOk, IfErr, IsTrue, ◌↔◌, OnOk};
 ghost use Rattle.std.specs.List.{AllByRecursion, flat_map};
 ghost use Rattle.trustd.specs.declared.keyword.Keyword.{Keyword};
+ghost use Rattle.trustd.specs.declared.script.LineFault.TheVariants.{Form};
 ghost use Rattle.trustd.specs.Pieces.{pieces_behind};
 ghost use Rattle.trustd.specs.Words.{RefusesWord};
 ghost use Rattle.trustd.specs.Parts.{Part, PartName, name_in, part_in, usage_bit};
@@ -131,6 +132,7 @@ impl<'a> ExtensionWord<'a> {
     fn read_alone(keyword: Keyword) -> Result<ExtensionWord<'a>, LineFault>
         ensures found { IfOk result (λ word. SaysWith keyword None (parts_of word)) }
         ensures fault { IfErr result (RefusesWord ((parts : List Part) → ¬ (SaysWith keyword None parts))) }
+        ensures form { IfErr result (λ fault. fault ≡ Form) }
     {
         match keyword {
             Keyword::BasicConstraints => Ok(ExtensionWord::BasicConstraints(None)),

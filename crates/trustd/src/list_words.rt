@@ -4,6 +4,7 @@ ghost use Rattle.std.specs.Prelude.{◌≡◌, ◌≢◌, ◌++◌, ℕ, List, o
 ghost use Rattle.ts_ext.specs.declared.reason_code.ReasonCode.{ReasonCode};
 ghost use Rattle.ts_make.specs.declared.list_description.EntryText.{EntryText};
 ghost use Rattle.trustd.specs.declared.list_words.ListKeyword.{ListKeyword};
+ghost use Rattle.trustd.specs.declared.script.LineFault.TheVariants.{Form};
 ghost use Rattle.trustd.specs.Pieces.{pieces_behind};
 ghost use Rattle.trustd.specs.Words.{RefusesWord};
 ghost use Rattle.trustd.specs.ListWords.{ListPart, list_keyword_text, IsReason, reason_numbered, IsEntry, SaysList, IsListWord, AreListWords};
@@ -140,6 +141,7 @@ fn entry_of(value: &[u8]) -> Option<EntryText>
 fn entry_in(value: &[u8]) -> Result<EntryText, LineFault>
     ensures found { IfOk result (IsEntry value.now) }
     ensures fault { IfErr result (RefusesWord ((entry : EntryText) → ¬ (IsEntry value.now entry))) }
+    ensures form { IfErr result (λ fault. fault ≡ Form) }
 {
     entry_of(value).ok_or(LineFault::Form)
 }

@@ -1,7 +1,8 @@
 //! The values of words that say extensions.
 
-ghost use Rattle.std.specs.Prelude.{ℕ, List, IfOk, IfErr};
+ghost use Rattle.std.specs.Prelude.{◌≡◌, ℕ, List, IfOk, IfErr};
 ghost use Rattle.ts_der.specs.Octets.{AreOctets};
+ghost use Rattle.trustd.specs.declared.script.LineFault.TheVariants.{Form};
 ghost use Rattle.trustd.specs.Words.{IsNumber, RefusesWord};
 ghost use Rattle.trustd.specs.ExtensionWords.{IsText, IsDotted, IsNumbers};
 
@@ -17,6 +18,7 @@ const COMMA: u8 = b',';
 pub fn number_in(value: &[u8]) -> Result<u32, LineFault>
     ensures found { IfOk result (IsNumber value.now) }
     ensures fault { IfErr result (RefusesWord ((number : ℕ) → ¬ (IsNumber value.now number))) }
+    ensures form { IfErr result (λ fault. fault ≡ Form) }
 {
     number_of(value).ok_or(LineFault::Form)
 }
@@ -25,6 +27,7 @@ pub fn number_in(value: &[u8]) -> Result<u32, LineFault>
 pub fn text_in(value: &[u8]) -> Result<&str, LineFault>
     ensures found { IfOk result (λ text. IsText value.now text.now) }
     ensures fault { IfErr result (RefusesWord ((text : List ℕ) → ¬ (IsText value.now text))) }
+    ensures form { IfErr result (λ fault. fault ≡ Form) }
 {
     str::from_utf8(value).map_err(|_| LineFault::Form)
 }
