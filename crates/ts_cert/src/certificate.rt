@@ -42,7 +42,10 @@ impl<'a> Cert<'a> {
     ///
     /// The first rule that is broken, with its place: first more than 65,536 octets (`TooLarge` at 0); then the shape
     /// from front to back, a version other than 1, 2 and 3 (`Version`) in its place; then `AlgorithmMismatch`, at the
-    /// algorithm identifier beside the signature.
+    /// algorithm identifier beside the signature; then extensions in a certificate that is not of version 3
+    /// (`ExtensionsInOldVersion`), at the element that holds them; then `DuplicateExtension`, at the first that has the
+    /// object identifier of an earlier one; then the values of the known extensions, in order of place, each by DER
+    /// first and then by `SubtreeBounds`, `AddressLength` and `DuplicatePolicy` (RFC 5280 4.1, 4.2).
     pub fn read(octets: &'a [u8]) -> Result<Cert<'a>, CertFault>
         // What is read is spelled so.
         ensures found { IfOk result (λ cert. IsCertificate octets.now (cert_in cert)) }

@@ -82,8 +82,12 @@ const NO_SUCH_DAY: &[u8] =
 const SERIAL_FORM: &[u8] =
     b"\x30\x6e\x30\x5e\x02\x01\x01\x30\x06\x06\x04\x88\x37\x01\x01\x30\x0c\x31\x0a\x30\x08\x06\x03\x55\x04\x03\x0c\x01\x52\x17\x0d\x32\x36\x30\x34\x30\x31\x30\x30\x30\x30\x30\x30\x5a\x17\x0d\x32\x36\x30\x35\x30\x31\x30\x30\x30\x30\x30\x30\x5a\x30\x15\x30\x13\x02\x02\x00\x05\x17\x0d\x32\x36\x30\x33\x30\x31\x30\x30\x30\x30\x30\x30\x5a\xa0\x0e\x30\x0c\x30\x0a\x06\x03\x55\x1d\x14\x04\x03\x02\x01\x07\x30\x06\x06\x04\x88\x37\x01\x01\x03\x04\x00\x73\x69\x67";
 
-/// The octets of a list by themselves: how long what is signed is, the parameters' absence, the algorithm and the signature.
-type Parts<'a> = (usize, bool, &'a [u8], &'a [u8]);
+/// The octets of a list by themselves: how long what is signed is, the parameters' absence, the algorithm, the issuer and
+/// the signature.
+type Parts<'a> = (usize, bool, &'a [u8], &'a [u8], &'a [u8]);
+
+/// The common name R.
+const ISSUER: &[u8] = b"\x30\x0c\x31\x0a\x30\x08\x06\x03\x55\x04\x03\x0c\x01\x52";
 
 fn parts<'a>(octets: &'a [u8]) -> Option<Parts<'a>> {
     let crl = Crl::read(octets).ok()?;
@@ -92,14 +96,15 @@ fn parts<'a>(octets: &'a [u8]) -> Option<Parts<'a>> {
         crl.tbs().len(),
         algorithm.parameters.is_none(),
         algorithm.whole,
+        crl.issuer().element.whole,
         crl.signature(),
     ))
 }
 
 #[test]
 fn reads_octets_where_they_lie(rt: HostRuntime) {
-    assert!(rt; parts(OPENSSL) == Some((229, true, &OPENSSL[233..245], &OPENSSL[248..])));
-    assert!(rt; parts(ABSENT) == Some((73, true, &ABSENT[75..83], b"sig".as_slice())));
+    assert!(rt; parts(OPENSSL) == Some((229, true, &OPENSSL[233..245], ISSUER, &OPENSSL[248..])));
+    assert!(rt; parts(ABSENT) == Some((73, true, &ABSENT[75..83], ISSUER, b"sig".as_slice())));
 }
 
 /// The version of a list, when it was issued and when the next one is, with the form of that.
@@ -175,10 +180,13 @@ fn tells_an_absent_list_from_an_empty_one(rt: HostRuntime) {
     }
 }
 
-/// When the certificate of a serial number was revoked, and whether its entry has extensions.
+/// When the certificate of a serial number was revoked, and whether its entry has extensions. The entry says that number.
 fn revocation(octets: &[u8], serial: &[u8]) -> Option<(i64, bool)> {
     let crl = Crl::read(octets).ok()?;
     let entry = crl.entry(Integer { octets: serial })?;
+    if entry.serial_number().octets != serial {
+        return None;
+    }
     Some((
         entry.revocation_date().moment.0,
         entry.extensions().is_some(),
