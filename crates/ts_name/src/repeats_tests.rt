@@ -71,8 +71,8 @@ fn the_first_by_place_is_found(rt: HostRuntime) -> Result<(), Fail> {
     Ok(())
 }
 
-/// All identifiers of one octet, 128 of them, and two more behind them. Of their keys more than 16 have a hash that an
-/// earlier one has, which is all that a short list's table holds.
+/// All identifiers of one octet, 128 of them, and more behind them. Of the keys 29 set a flag that an earlier one has
+/// set; a short list's table holds 16.
 fn short(alloc: Global, more: &[u8; 6]) -> Result<Vec<u8>, AllocError> {
     let mut list = Vec::from_slice(alloc, b"\x30\x82\x01\x86")?;
     for octet in 0u8..128 {
