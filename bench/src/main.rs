@@ -1,21 +1,23 @@
-//! Times `Cert::read` beside `webpki::EndEntityCert::try_from`: on the roots of Debian's package `ca-certificates`, and
-//! on the longest certificates of shapes that could be hard to read.
+//! Times `Cert::read` beside `webpki::EndEntityCert::try_from`, OpenSSL's `d2i_X509` and a bare walk over the headers: on the
+//! roots of Debian's package `ca-certificates`, and on the longest certificates of shapes that could be hard to read.
 
 mod certificate;
 mod der;
+#[allow(dead_code)]
+mod openssl;
 mod pem;
 mod reader;
 mod roots;
 mod shapes;
 mod timing;
 
-use reader::{Ours, Reader, Webpki};
+use reader::{OpenSsl, Ours, Reader, Walk, Webpki};
 use roots::Root;
 use shapes::{Shape, SHAPES};
 use std::env;
 use std::error::Error;
 use std::path::PathBuf;
-use timing::{race, ROUNDS};
+use timing::{pass, race, ROUNDS};
 
 /// A shape is marked where `Cert::read` takes more than this many times as long for an octet as for one of the roots.
 const MARKED: f64 = 20.0;
@@ -47,8 +49,8 @@ fn tell_refused<R: Reader>(roots: &[Root]) {
     }
 }
 
-/// Prints how long both readers take for the roots that both read, or for all where there are none. The answer is the
-/// time of `Cert::read` for an octet, in nanoseconds.
+/// Prints how long the readers take for the roots that `Cert::read` and webpki read, or for all where there are none. The
+/// answer is the time of `Cert::read` for an octet, in nanoseconds.
 fn tell_times(roots: &[Root]) -> f64 {
     let all: Vec<&[u8]> = roots.iter().map(Root::octets).collect();
     let both: Vec<&[u8]> = all.iter().copied().filter(|it| is_read(it)).collect();
@@ -62,13 +64,20 @@ fn tell_times(roots: &[Root]) -> f64 {
         "Timed: {which}, {} certificates of {octets} octets; the median of {ROUNDS} rounds",
         timed.len()
     );
-    let times = race(&timed);
-    for (name, time) in [(Ours::NAME, times.ours), (Webpki::NAME, times.webpki)] {
+    let [ours, webpki, walk] = race(&timed, [pass::<Ours>, pass::<Webpki>, pass::<Walk>]);
+    // By itself: it leaves nothing of the others in the caches.
+    let [openssl] = race(&timed, [pass::<OpenSsl>]);
+    for (name, time) in [
+        (Ours::NAME, ours),
+        (Webpki::NAME, webpki),
+        (Walk::NAME, walk),
+        (OpenSsl::NAME, openssl),
+    ] {
         let (each, for_an_octet) = (time / timed.len() as f64, time / octets as f64);
-        println!("{name:<12}{each:>10.1} ns a certificate{for_an_octet:>10.3} ns an octet");
+        let ratio = time / webpki;
+        println!("{name:<12}{each:>10.1} ns a certificate{for_an_octet:>10.3} ns an octet{ratio:>10.2} times webpki");
     }
-    println!("{:<12}{:>10.2}", "ratio", times.ours / times.webpki);
-    times.ours / octets as f64
+    ours / octets as f64
 }
 
 /// Whether both readers read it.
@@ -95,8 +104,8 @@ fn tell_shapes(of_roots: f64) {
 fn tell_shape(shape: &Shape, of_roots: f64) {
     let longest = shape.longest();
     let octets = longest.octets.len();
-    let times = race(&[&longest.octets]);
-    let (ours, webpki) = (times.ours / octets as f64, times.webpki / octets as f64);
+    let [ours, webpki] =
+        race(&[&longest.octets], [pass::<Ours>, pass::<Webpki>]).map(|time| time / octets as f64);
     let ratio = ours / of_roots;
     let mark = if ratio > MARKED { "ABOVE 20" } else { "" };
     let answer = match Ours::read(&longest.octets) {

@@ -1,9 +1,11 @@
-//! OpenSSL's reader of lists of revoked certificates, as far as the benchmark calls it.
+//! OpenSSL's readers of certificates and of lists of revoked certificates, as far as the benchmarks call them.
 
 use std::ffi::{c_int, c_long, c_void};
 use std::ptr::null_mut;
 
 extern "C" {
+    fn d2i_X509(into: *mut *mut c_void, octets: *mut *const u8, length: c_long) -> *mut c_void;
+    fn X509_free(certificate: *mut c_void);
     fn d2i_X509_CRL(into: *mut *mut c_void, octets: *mut *const u8, length: c_long) -> *mut c_void;
     fn X509_CRL_free(list: *mut c_void);
     fn X509_CRL_get0_by_serial(
@@ -17,6 +19,26 @@ extern "C" {
         length: c_long,
     ) -> *mut c_void;
     fn ASN1_INTEGER_free(number: *mut c_void);
+}
+
+/// A certificate that OpenSSL has read.
+pub struct Certificate(*mut c_void);
+
+impl Certificate {
+    /// The certificate that octets are, if OpenSSL reads them.
+    pub fn read(octets: &[u8]) -> Option<Certificate> {
+        let mut next = octets.as_ptr();
+        // SAFETY: as d2i_X509(3) asks: no object to reuse, and a pointer to octets of this length, which it moves.
+        let certificate = unsafe { d2i_X509(null_mut(), &mut next, octets.len() as c_long) };
+        (!certificate.is_null()).then_some(Certificate(certificate))
+    }
+}
+
+impl Drop for Certificate {
+    fn drop(&mut self) {
+        // SAFETY: the certificate is this one's own.
+        unsafe { X509_free(self.0) }
+    }
 }
 
 /// A list that OpenSSL has read.

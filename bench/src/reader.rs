@@ -1,5 +1,6 @@
-//! The two readers that are compared.
+//! The readers that are compared.
 
+use crate::openssl::Certificate;
 use std::fmt;
 
 /// The greatest number of octets that a certificate may have for `Cert::read`.
@@ -100,4 +101,60 @@ impl Reader for Webpki {
         std::hint::black_box(cert);
         Ok(())
     }
+}
+
+/// OpenSSL's `d2i_X509`, which takes memory for all that it reads.
+pub struct OpenSsl;
+
+impl Reader for OpenSsl {
+    const NAME: &'static str = "d2i_X509";
+
+    type Fault = &'static str;
+
+    fn read(octets: &[u8]) -> Result<(), &'static str> {
+        let certificate = Certificate::read(octets).ok_or("not read")?;
+        std::hint::black_box(certificate);
+        Ok(())
+    }
+}
+
+/// A walk from header to header, into each element that holds others and over each that doesn't. It asks nothing of what it
+/// passes: whoever looks at each element one after another, and asks something, is slower.
+pub struct Walk;
+
+impl Reader for Walk {
+    const NAME: &'static str = "bare walk";
+
+    type Fault = &'static str;
+
+    fn read(octets: &[u8]) -> Result<(), &'static str> {
+        let (mut next, mut elements) = (0, 0);
+        while next < octets.len() {
+            next = behind_header(octets, next).ok_or("no header")?;
+            elements += 1;
+        }
+        std::hint::black_box(elements);
+        Ok(())
+    }
+}
+
+/// Whether an element holds others: a bit of its first octet (X.690 8.1.2.5).
+const CONSTRUCTED: u8 = 0x20;
+
+/// Where the next header begins: behind this one, or behind the content where that is no elements.
+fn behind_header(octets: &[u8], at: usize) -> Option<usize> {
+    let (tag, first) = (*octets.get(at)?, *octets.get(at + 1)?);
+    let (length, content) = match usize::from(first) {
+        short @ 0..=127 => (short, at + 2),
+        long => {
+            let content = at + 2 + (long - 128);
+            let digits = octets.get(at + 2..content)?;
+            let length = digits.iter().fold(0, |sum, it| sum << 8 | usize::from(*it));
+            (length, content)
+        }
+    };
+    Some(match tag & CONSTRUCTED {
+        0 => content + length,
+        _ => content,
+    })
 }

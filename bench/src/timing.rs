@@ -1,36 +1,29 @@
-//! How long the two readers take.
+//! How long readers take.
 
-use crate::reader::{Ours, Reader, Webpki};
+use crate::reader::Reader;
 use std::hint::black_box;
 use std::time::Instant;
 
 /// How often each reader goes over the inputs.
 pub const ROUNDS: usize = 200;
 
-/// The time of one pass over the inputs by each reader, in nanoseconds.
-#[derive(Clone, Copy)]
-pub struct Times {
-    pub ours: f64,
-    pub webpki: f64,
-}
+/// One pass over the inputs: the time of a reader, in nanoseconds.
+pub type Pass = fn(&[&[u8]]) -> f64;
 
-/// The median of the rounds. The readers take turns, and each is the first of every other round.
-pub fn race(inputs: &[&[u8]]) -> Times {
-    let (mut ours, mut webpki) = (Vec::new(), Vec::new());
-    for _ in 0..ROUNDS / 2 {
-        ours.push(pass::<Ours>(inputs));
-        webpki.push(pass::<Webpki>(inputs));
-        webpki.push(pass::<Webpki>(inputs));
-        ours.push(pass::<Ours>(inputs));
+/// The median time of each pass. The readers take turns, and each round begins with the next of them.
+pub fn race<const N: usize>(inputs: &[&[u8]], passes: [Pass; N]) -> [f64; N] {
+    let mut times = [(); N].map(|()| Vec::with_capacity(ROUNDS));
+    for round in 0..ROUNDS {
+        for turn in 0..N {
+            let reader = (round + turn) % N;
+            times[reader].push(passes[reader](inputs));
+        }
     }
-    Times {
-        ours: median(ours),
-        webpki: median(webpki),
-    }
+    times.map(median)
 }
 
 /// The time in which a reader reads the inputs, one after another.
-fn pass<R: Reader>(inputs: &[&[u8]]) -> f64 {
+pub fn pass<R: Reader>(inputs: &[&[u8]]) -> f64 {
     let start = Instant::now();
     for octets in inputs {
         let _ = black_box(R::read(black_box(octets)));

@@ -10,6 +10,7 @@ mod der;
 #[path = "../list.rs"]
 mod list;
 #[path = "../openssl.rs"]
+#[allow(dead_code)]
 mod openssl;
 
 use certificate::extension;
@@ -175,7 +176,12 @@ fn repeated(count: u32) -> Vec<Vec<u8>> {
 fn colliding() -> Vec<Vec<u8>> {
     let word = |n: u32| {
         let digits = [n >> 21, n >> 14, n >> 7, n].map(|digit| (digit & 0x7F) as u8);
-        [0x80 | digits[0], 0x80 | digits[1], 0x80 | digits[2], digits[3]]
+        [
+            0x80 | digits[0],
+            0x80 | digits[1],
+            0x80 | digits[2],
+            digits[3],
+        ]
     };
     let words = (1 << 21..1 << 28).map(word);
     words
