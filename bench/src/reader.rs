@@ -119,7 +119,7 @@ impl Reader for OpenSsl {
 }
 
 /// A walk from header to header, into each element that holds others and over each that doesn't. It asks nothing of what it
-/// passes: whoever looks at each element one after another, and asks something, is slower.
+/// passes. It is one such loop, and no bound for every other.
 pub struct Walk;
 
 impl Reader for Walk {
@@ -146,12 +146,13 @@ fn behind_header(octets: &[u8], at: usize) -> Option<usize> {
     let (tag, first) = (*octets.get(at)?, *octets.get(at + 1)?);
     let (length, content) = match usize::from(first) {
         short @ 0..=127 => (short, at + 2),
-        long => {
+        long @ 129..=132 => {
             let content = at + 2 + (long - 128);
             let digits = octets.get(at + 2..content)?;
             let length = digits.iter().fold(0, |sum, it| sum << 8 | usize::from(*it));
             (length, content)
         }
+        _ => return None,
     };
     Some(match tag & CONSTRUCTED {
         0 => content + length,
