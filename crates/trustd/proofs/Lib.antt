@@ -10,5 +10,6 @@ pub mod OneList
 pub mod OneParts
 pub mod OneWord
 pub mod Reading
+pub mod Lookup
 pub mod Scanning
 pub mod Spelling

@@ -1,18 +1,18 @@
 -- What words say of a list, they say in one way.
-use Rattle.std.proofs.Common.{◌≡◌, ◌∙◌, refl, sym, ap, subst, ℕ, ◌==◌, List, [], ◌∷◌, ◌++◌, get_or, Option, Some, None, MatchOption, Bool, true, false, cond, if◌then◌else◌, append_assoc}
+use Rattle.std.proofs.Common.{◌≡◌, ◌<◌, ◌∙◌, refl, sym, ap, subst, ℕ, ◌==◌, List, [], ◌∷◌, ◌++◌, get_or, Option, Some, None, MatchOption, Bool, true, false, cond, if◌then◌else◌, append_assoc, arith}
 use Rattle.std.specs.List.{find}
 use Rattle.std.proofs.lemmas.Bool.{eqb-true}
 use Rattle.ts_ext.specs.declared.reason_code.ReasonCode.{ReasonCode}
 use Rattle.ts_ext.specs.declared.reason_code.ReasonCode.TheVariants as reason
 use Rattle.ts_ext.specs.Spelling.{reason_number}
-use Rattle.ts_ext.specs.Table.{reasons}
+use Rattle.ts_ext.specs.Table.{reasons, reason_of_number}
 use Rattle.ts_make.specs.declared.list_description.EntryText.{EntryText}
 use Rattle.ts_make.specs.Told.{list_of}
 use Rattle.trustd.specs.declared.list_words.ListKeyword.{ListKeyword}
 use Rattle.trustd.specs.declared.list_words.ListKeyword.TheVariants as keyword
 use Rattle.trustd.specs.Words.{IsNumber}
 use Rattle.trustd.specs.ExtensionWords.{IsText, IsDotted, IsNumbers}
-use Rattle.trustd.specs.ListWords.{ListPart, revoked, numbered, some_reasons, at_uri, critical_unknown, list_keyword_text, IsReason, reason_numbered, IsEntry, SaysPart, SaysList, IsListWord, AreListWords, Fields, Gather, AreFields}
+use Rattle.trustd.specs.ListWords.{ListPart, revoked, numbered, some_reasons, at_uri, critical_unknown, list_keyword_text, IsReason, IsEntry, SaysPart, SaysList, IsListWord, AreListWords, Fields, Gather, AreFields}
 use Rattle.trustd.proofs.OneParts.{one_number, one_numbers, one_text, one_oid}
 
 append_cancel : (xs v w : List ℕ) → xs ++ v ≡ xs ++ w → v ≡ w
@@ -57,7 +57,8 @@ list_word_says word k v part is said =
     subst (λ (l : ListKeyword). SaysList l v part) one.keyword (subst (λ (w : List ℕ). SaysList said.keyword w part) one.value said.says)
 
 -- reasons have numbers of their own
-reason_found : (r : ReasonCode) → reason_numbered (reason_number r) ≡ Some r
+reason_found : (r : ReasonCode) → reason_of_number (reason_number r) ≡ Some r
+unfolding reason_of_number
 reason_found reason.Unspecified = refl
 reason_found reason.KeyCompromise = refl
 reason_found reason.CaCompromise = refl
@@ -69,6 +70,19 @@ reason_found reason.RemoveFromCrl = refl
 reason_found reason.PrivilegeWithdrawn = refl
 reason_found reason.AaCompromise = refl
 
+-- and each takes one octet
+reason_small : (r : ReasonCode) → reason_number r < 256
+reason_small reason.Unspecified = omega arith
+reason_small reason.KeyCompromise = omega arith
+reason_small reason.CaCompromise = omega arith
+reason_small reason.AffiliationChanged = omega arith
+reason_small reason.Superseded = omega arith
+reason_small reason.CessationOfOperation = omega arith
+reason_small reason.CertificateHold = omega arith
+reason_small reason.RemoveFromCrl = omega arith
+reason_small reason.PrivilegeWithdrawn = omega arith
+reason_small reason.AaCompromise = omega arith
+
 -- what a search finds passes its test
 finds : (p : ReasonCode → Bool) (xs : List ReasonCode) (x : ReasonCode) → find p xs ≡ Some x → p x ≡ true
 finds p [] x e = absurd cc
@@ -78,20 +92,29 @@ finds p (y ∷ ys) x e = by_test (p y) refl (finds p ys x) e
     by_test true t later e = let same : y ≡ x = cc in subst (λ (z : ReasonCode). p z ≡ true) same t
     by_test false t later e = later e
 
+-- a reason that is found by its number has it
+reason_is : (n : ℕ) (r : ReasonCode) → reason_of_number n ≡ Some r → reason_number r ≡ n
+unfolding reason_of_number
+reason_is n r e = eqb-true (reason_number r) n (finds (λ s. reason_number s == n) reasons r e)
+
 -- a number is that of one reason, or of none
-pub reason_read : (value : List ℕ) (n : ℕ) (o : Option ReasonCode) → IsNumber value n → o ≡ reason_numbered n
+pub reason_read : (value : List ℕ) (n : ℕ) (o : Option ReasonCode) → IsNumber value n → o ≡ reason_of_number n
     → MatchOption o ((r : ReasonCode) → ¬ (IsReason value r)) (IsReason value)
 reason_read value n None is e = λ r stands.
     let same = one_number value n (reason_number r) is stands in
-    cc (e ∙ (ap reason_numbered same ∙ reason_found r))
-reason_read value n (Some r) is e =
-    let same = eqb-true (reason_number r) n (finds (λ s. reason_number s == n) reasons r (sym e)) in
-    subst (IsNumber value) (sym same) is
+    cc (e ∙ (ap reason_of_number same ∙ reason_found r))
+reason_read value n (Some r) is e = subst (IsNumber value) (sym (reason_is n r (sym e))) is
+
+-- a number that takes more than one octet is that of none
+pub reason_great : (value : List ℕ) (n : ℕ) → IsNumber value n → ¬ (n < 256) → (r : ReasonCode) → ¬ (IsReason value r)
+reason_great value n is great r stands =
+    let same = one_number value n (reason_number r) is stands in
+    great (subst (λ (m : ℕ). m < 256) (sym same) (reason_small r))
 
 pub one_reason : (value : List ℕ) (r s : ReasonCode) → IsReason value r → IsReason value s → r ≡ s
 one_reason value r s is other =
     let same = one_number value (reason_number r) (reason_number s) is other in
-    let found = sym (reason_found r) ∙ (ap reason_numbered same ∙ reason_found s) in
+    let found = sym (reason_found r) ∙ (ap reason_of_number same ∙ reason_found s) in
     cc
 
 pub one_entry : (value : List ℕ) (x y : EntryText) → IsEntry value x → IsEntry value y → x ≡ y

@@ -13,7 +13,7 @@ use Rattle.ts_make.specs.declared.fault.MakeFault.{MakeFault}
 use Rattle.ts_make.specs.declared.fault.MakeFault.TheVariants.{TooLong, Unreadable}
 use Rattle.ts_make.specs.Times.{IsTimeOf}
 use Rattle.ts_make.specs.ListMade.{made_list}
-use Rattle.ts_make.specs.ListMaking.{IsTaken, AnswersMadeList}
+use Rattle.ts_make.specs.ListMaking.{IsTaken, AnswersList}
 use Rattle.ts_make.proofs.OneTime.{one-time}
 use Rattle.ts_make.proofs.SameList.{made_list-same}
 use Rattle.trustd.specs.declared.crl_line.CrlWords.{CrlWords}
@@ -67,15 +67,15 @@ refuses_list known c Memory refused none = tt
 refuses_list known c Unknown refused none = refused
 
 -- what was made is too long, can't be read, or is returned
-pub list_long : (r : Result (Vec ℕ Global) MakeFault) (fault : MakeFault) (octets : List ℕ) → AnswersMadeList r octets → r ≡ Err fault → fault ≡ TooLong → 1048576 < length octets
+pub list_long : (r : Result (Vec ℕ Global) MakeFault) (fault : MakeFault) (octets : List ℕ) → AnswersList IsTaken r octets → r ≡ Err fault → fault ≡ TooLong → 1048576 < length octets
 list_long r fault octets answers is long =
-    let P : Result (Vec ℕ Global) MakeFault → Type 0 = λ x. AnswersMadeList x octets in
+    let P : Result (Vec ℕ Global) MakeFault → Type 0 = λ x. AnswersList IsTaken x octets in
     subst P (is ∙ ap Err long) answers
 
-pub list_unreadable : (r : Result (Vec ℕ Global) MakeFault) (fault : MakeFault) (why : CertFault) (octets : List ℕ) → AnswersMadeList r octets → r ≡ Err fault
+pub list_unreadable : (r : Result (Vec ℕ Global) MakeFault) (fault : MakeFault) (why : CertFault) (octets : List ℕ) → AnswersList IsTaken r octets → r ≡ Err fault
     → fault ≡ Unreadable why → IsNoList octets
 list_unreadable r fault why octets answers is unreadable =
-    let P : Result (Vec ℕ Global) MakeFault → Type 0 = λ x. AnswersMadeList x octets in
+    let P : Result (Vec ℕ Global) MakeFault → Type 0 = λ x. AnswersList IsTaken x octets in
     let found = subst P (is ∙ ap Err unreadable) answers in
     (found.0, why, found.1)
 
@@ -85,9 +85,9 @@ long_list octets long is = let short = is.0 in omega arith
 taken_list : (octets : List ℕ) → IsTaken (crl_of octets) → ¬ (IsNoList octets)
 taken_list octets taken is = let critical = subst (λ (r : Result CertificateList ListFault). IsTaken r) is.2 taken in absurd (cc (critical.1))
 
-pub list_stands : (r : Result (Vec ℕ Global) MakeFault) (v : Vec ℕ Global) (octets : List ℕ) → AnswersMadeList r octets → r ≡ Ok v → ¬ (IsNoList octets)
+pub list_stands : (r : Result (Vec ℕ Global) MakeFault) (v : Vec ℕ Global) (octets : List ℕ) → AnswersList IsTaken r octets → r ≡ Ok v → ¬ (IsNoList octets)
 list_stands r v octets answers is =
-    let P : Result (Vec ℕ Global) MakeFault → Type 0 = λ x. AnswersMadeList x octets in
+    let P : Result (Vec ℕ Global) MakeFault → Type 0 = λ x. AnswersList IsTaken x octets in
     let found = subst P is answers in
     taken_list octets found.2
 

@@ -65,18 +65,18 @@ pub scans_refused : (T U : Type 0) (old mid new : Scanner) (before after : Optio
 scans_refused T U old mid new before after Write h = tt
 scans_refused T U old mid new before after (Wrong w) h = λ rest.
     subst (λ a. Owes old before (LINE_FEED ∷ rest) a (Some w)) (sym h.silent)
-    (subst (λ n. Ends n (known_in old.known.items) old.line.items before (LINE_FEED ∷ rest) before (Some w)) h.number
-    (ends_refused (known_in old.known.items) old.line.items before w h.refuses rest))
+    (subst (λ n. Ends n (known_in old.known) old.line.items before (LINE_FEED ∷ rest) before (Some w)) h.number
+    (ends_refused (known_in old.known) old.line.items before w h.refuses rest))
 
 -- a line that said its text is behind what is scanned
 pub scans_said : (old mid new : Scanner) (before after : Option (List ℕ)) → HasSaid old mid before after
-    → new.number ≡ old.number + 1 → new.line.items ≡ [] → new.known.items ≡ mid.known.items
+    → new.number ≡ old.number + 1 → new.line.items ≡ [] → new.known ≡ mid.known
     → (rest : List ℕ) (whole : Option (List ℕ)) (wrong : Option WrongLine) → Owes new after rest whole wrong → Owes old before (LINE_FEED ∷ rest) whole wrong
 scans_said old mid new before after h number line known rest whole wrong e =
-    let f = subst (λ n. Ends n (known_in new.known.items) new.line.items after rest whole wrong) number e in
-    let g = subst (λ l. Ends (old.number + 1) (known_in new.known.items) l after rest whole wrong) line f in
+    let f = subst (λ n. Ends n (known_in new.known) new.line.items after rest whole wrong) number e in
+    let g = subst (λ l. Ends (old.number + 1) (known_in new.known) l after rest whole wrong) line f in
     let k = subst (λ s. Ends (old.number + 1) (known_in s) [] after rest whole wrong) known g in
-    ends_said old.number (known_in old.known.items) (known_in mid.known.items) old.line.items h.text before after h.says h.written rest whole wrong k
+    ends_said old.number (known_in old.known) (known_in mid.known) old.line.items h.text before after h.says h.written rest whole wrong k
 
 -- an octet that does not end the line
 pub scans_begun : (n : ℕ) (known : List Entry) (line : List ℕ) (x : ℕ) → (x ≢ LINE_FEED) → (before : Option (List ℕ))

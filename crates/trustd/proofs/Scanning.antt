@@ -24,13 +24,13 @@ pub scans_pushed : (T : Type 0) (r : Result T Stop) (old new : Scanner) (x : ℕ
     → new.number ≡ old.number → new.known ≡ old.known → OnOk r (new.line.items ≡ old.line.items ++ x ∷ [])
     → IfErr r (λ stop. stop ≡ Wrong (record { number = old.number; fault = Memory })) → Scans {T = T} old new before before (x ∷ []) r
 scans_pushed T (Ok _) old new x before other number known line fault = λ rest whole wrong e.
-    let f = subst (λ n. Ends n (known_in new.known.items) new.line.items before rest whole wrong) number e in
-    let g = subst (λ k. Ends old.number (known_in k.items) new.line.items before rest whole wrong) known f in
-    let h = subst (λ l. Ends old.number (known_in old.known.items) l before rest whole wrong) line g in
-    scans_begun old.number (known_in old.known.items) old.line.items x other before rest whole wrong h
+    let f = subst (λ n. Ends n (known_in new.known) new.line.items before rest whole wrong) number e in
+    let g = subst (λ k. Ends old.number (known_in k) new.line.items before rest whole wrong) known f in
+    let h = subst (λ l. Ends old.number (known_in old.known) l before rest whole wrong) line g in
+    scans_begun old.number (known_in old.known) old.line.items x other before rest whole wrong h
 scans_pushed T (Err stop) old new x before other number known line fault =
     subst (λ s. Scans {T = T} old new before before (x ∷ []) (Err s)) (sym fault)
-    (λ rest. scans_forgotten old.number (known_in old.known.items) old.line.items x other before (record { number = old.number; fault = Memory }) refl refl rest)
+    (λ rest. scans_forgotten old.number (known_in old.known) old.line.items x other before (record { number = old.number; fault = Memory }) refl refl rest)
 
 -- a piece of which an octet ends what is scanned
 pub scans_stopped : (T U : Type 0) (old mid new : Scanner) (start before after : Option (List ℕ)) (piece behind : List ℕ) (x : ℕ) (left : List ℕ) (stop : Stop)
@@ -64,11 +64,11 @@ ends_last_refused known (x ∷ xs) contents w refuses some =
 -- what ending a script does
 pub closes : (T : Type 0) (r : Result T Stop) (old new : Scanner) (before after : Option (List ℕ)) → old.line.items ≢ [] → Finishes {T = T} old new before after r → Closes {T = T} old before after r
 closes T (Ok u) old new before after some h =
-    ends_last old.number (known_in old.known.items) (known_in new.known.items) old.line.items h.text before after h.says h.written
+    ends_last old.number (known_in old.known) (known_in new.known) old.line.items h.text before after h.says h.written
 closes T (Err Write) old new before after some h = tt
 closes T (Err (Wrong w)) old new before after some h =
-    let e = ends_last_refused (known_in old.known.items) old.line.items before w h.refuses some in
-    let f = subst (λ n. Ends n (known_in old.known.items) old.line.items before [] before (Some w)) h.number e in
+    let e = ends_last_refused (known_in old.known) old.line.items before w h.refuses some in
+    let f = subst (λ n. Ends n (known_in old.known) old.line.items before [] before (Some w)) h.number e in
     subst (λ a. Owes old before [] a (Some w)) (sym h.silent) f
 
 -- a script that ends where a line would begin
@@ -84,7 +84,7 @@ read_to_end old left now None start before after wrong took end h scan = tt
 read_to_end old None now (Some xs) start before after wrong took end h scan = absurd scan
 read_to_end old (Some l) None (Some xs) start before after wrong took end h scan = absurd took
 read_to_end old (Some l) (Some m) (Some xs) start before after wrong took end h scan =
-    scan after wrong (subst (λ l. Ends old.number (known_in old.known.items) old.line.items before l after wrong) (sym (took ∙ end)) h)
+    scan after wrong (subst (λ l. Ends old.number (known_in old.known) old.line.items before l after wrong) (sym (took ∙ end)) h)
 
 pub step_done : (T : Type 0) (r : Result T Stop) (q : Result Step StreamFault) (old new : Scanner) (left now before after : Option (List ℕ)) → q ≡ done_in r
     → Consumes left now [] → IsAtEnd now → Closes {T = T} old before after r → IsStep left now before after old new q
@@ -102,7 +102,7 @@ read_stopped old left now None start before after piece wrong took h scan = tt
 read_stopped old None now (Some xs) start before after piece wrong took h scan = absurd scan
 read_stopped old (Some l) None (Some xs) start before after piece wrong took h scan = absurd took
 read_stopped old (Some l) (Some m) (Some xs) start before after piece wrong took h scan =
-    scan after wrong (subst (λ l. Ends old.number (known_in old.known.items) old.line.items before l after wrong) (sym took) (h m))
+    scan after wrong (subst (λ l. Ends old.number (known_in old.known) old.line.items before l after wrong) (sym took) (h m))
 
 -- or none
 read_on : (old new : Scanner) (left now script start before after : Option (List ℕ)) (piece : List ℕ) → Consumes left now piece
@@ -112,7 +112,7 @@ read_on old new left now None start before after piece took h scan = tt
 read_on old new None now (Some xs) start before after piece took h scan = absurd scan
 read_on old new (Some l) None (Some xs) start before after piece took h scan = absurd took
 read_on old new (Some l) (Some m) (Some xs) start before after piece took h scan = λ whole wrong e.
-    scan whole wrong (subst (λ l. Ends old.number (known_in old.known.items) old.line.items before l whole wrong) (sym took) (h m whole wrong e))
+    scan whole wrong (subst (λ l. Ends old.number (known_in old.known) old.line.items before l whole wrong) (sym took) (h m whole wrong e))
 
 pub step_fed : (T : Type 0) (r : Result T Stop) (q : Result Step StreamFault) (old new : Scanner) (left now before after : Option (List ℕ)) (piece : List ℕ) → q ≡ fed_in r
     → Consumes left now piece → Scans {T = T} old new before after piece r → IsStep left now before after old new q

@@ -1,6 +1,8 @@
 -- What a script has named so far.
 use Rattle.std.specs.Prelude.{ℕ, if◌then◌else◌, List, [], ◌∷◌, map, Option, Some, None}
 use Rattle.std.specs.Str.{bytes_eq}
+use Rattle.std.specs.declared.vec.Vec.{Vec}
+use Rattle.std.specs.declared.alloc.Global.{Global}
 use Rattle.trustd.specs.declared.named.Kept.{Kept}
 use Rattle.trustd.specs.declared.named.Kept.TheVariants as kept
 use Rattle.trustd.specs.declared.named.Named.{Named}
@@ -18,16 +20,16 @@ abbrev pub thing_in : Kept → Thing
 thing_in (kept.Certificate cert) = certificate cert.octets.items
 thing_in (kept.List octets) = revocation_list octets.items
 
-abbrev pub entry_in : Named → Entry
-entry_in n = (n.name.items, thing_in n.kept)
+abbrev pub entry_in : Vec ℕ Global × Kept → Entry
+entry_in e = (e.0.items, thing_in e.1)
 
-abbrev pub known_in : List Named → List Entry
-known_in known = map entry_in known
+abbrev pub known_in : Named → List Entry
+known_in known = map entry_in known.things.entries
 
 -- what a name stands for, by its first entry
 abbrev pub named : List Entry → List ℕ → Option Thing
 named [] name = None
-named (e ∷ known) name = if bytes_eq e.0 name then Some e.1 else named known name
+named (e ∷ known) name = if bytes_eq name e.0 then Some e.1 else named known name
 
 -- the octets of a certificate
 abbrev pub certificate_in : Option Thing → Option (List ℕ)

@@ -1,9 +1,8 @@
 -- The words behind the signer of a `crl` line: what they say of the list of revoked certificates.
-use Rattle.std.specs.Prelude.{◌≡◌, ℕ, ◌==◌, List, [], ◌∷◌, ◌++◌, map, Option, codes}
-use Rattle.std.specs.List.{find, flat_map}
+use Rattle.std.specs.Prelude.{◌≡◌, ℕ, List, [], ◌∷◌, ◌++◌, map, Option, codes}
+use Rattle.std.specs.List.{flat_map}
 use Rattle.ts_ext.specs.declared.reason_code.ReasonCode.{ReasonCode}
 use Rattle.ts_ext.specs.Spelling.{reason_number}
-use Rattle.ts_ext.specs.Table.{reasons}
 use Rattle.ts_make.specs.declared.list_description.EntryText.{EntryText}
 use Rattle.ts_make.specs.declared.list_description.CrlText.{CrlText}
 use Rattle.ts_make.specs.Told.{list_of}
@@ -32,10 +31,6 @@ list_keyword_text keyword.Critical = codes "critical="
 -- the number of a reason (RFC 5280 5.3.1)
 abbrev pub IsReason : List ℕ → ReasonCode → Type 0
 IsReason value reason = IsNumber value (reason_number reason)
-
--- the reason of a number (in a private clause)
-abbrev pub reason_numbered : ℕ → Option ReasonCode
-reason_numbered n = find (λ r. reason_number r == n) reasons
 
 -- an entry: a serial number and a reason, between which `:` stands
 pub record IsEntry (value : List ℕ) (entry : EntryText) : Type 0 where

@@ -17,7 +17,7 @@ Ends n known line before rest whole wrong =
 
 -- the same of a scanner, if these octets are the rest of the script
 abbrev pub Owes : Scanner → Option (List ℕ) → List ℕ → Option (List ℕ) → Option WrongLine → Type 0
-Owes s before rest whole wrong = Ends s.number (known_in s.known.items) s.line.items before rest whole wrong
+Owes s before rest whole wrong = Ends s.number (known_in s.known) s.line.items before rest whole wrong
 
 -- an `Ok` took the piece, and an `Err` is the first wrong line, whatever is to come
 abbrev pub Scans : {T : Type 0} → Scanner → Scanner → Option (List ℕ) → Option (List ℕ) → List ℕ → Result T Stop → Type 0
@@ -31,13 +31,13 @@ pub record HasSaid (old new : Scanner) (before after : Option (List ℕ)) : Type
   pub number : new.number ≡ old.number
   pub line : new.line.items ≡ old.line.items
   pub text : List ℕ
-  pub says : Says (known_in old.known.items) old.line.items text (known_in new.known.items)
+  pub says : Says (known_in old.known) old.line.items text (known_in new.known)
   pub written : Appends before after text
 
 -- it is refused, and nothing is written
 pub record HasRefused (old : Scanner) (before after : Option (List ℕ)) (w : WrongLine) : Type 0 where
   pub number : w.number ≡ old.number
-  pub refuses : Refuses (known_in old.known.items) old.line.items w.fault
+  pub refuses : Refuses (known_in old.known) old.line.items w.fault
   pub silent : after ≡ before
 
 abbrev pub Finishes : {T : Type 0} → Scanner → Scanner → Option (List ℕ) → Option (List ℕ) → Result T Stop → Type 0

@@ -16,8 +16,8 @@ use std::alloc::Global;
 /// # Errors
 ///
 /// Why the line is refused.
-pub fn answer_line(alloc: Global, known: &mut Vec<Named>, line: &[u8]) -> Result<String, LineFault>
-    ensures { Answers (known_in known.old.items) line.now result (known_in known.new.items) }
+pub fn answer_line(alloc: Global, known: &mut Named, line: &[u8]) -> Result<String, LineFault>
+    ensures { Answers (known_in known.old) line.now result (known_in known.new) }
 {
     let Some(&first) = line.first() else {
         return Ok(String::new(alloc));

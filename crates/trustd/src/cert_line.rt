@@ -62,7 +62,7 @@ impl<'a> CertWords<'a> {
     }
 
     /// The octets of the certificate that the words say, where it can be read, unless its name is taken.
-    fn make(&self, alloc: Global, known: &[Named]) -> Result<Vec<u8>, LineFault>
+    fn make(&self, alloc: Global, known: &Named) -> Result<Vec<u8>, LineFault>
         ensures made { IfOk result (λ octets. IsMade self.now octets.items) }
         ensures short { IfOk result (λ octets. length octets.items ≤ 65536) }
         ensures reads { IfOk result (λ octets. is_ok (certificate_of octets.items) ≡ true) }
@@ -89,7 +89,7 @@ impl<'a> CertWords<'a> {
             extensions: &extensions,
         };
         let made = make_cert(alloc, &text);
-        let is_taken = Named::find(known, self.name).is_some();
+        let is_taken = known.find(self.name).is_some();
         match made {
             Err(MakeFault::Memory) => Err(LineFault::Memory),
             Err(MakeFault::Unreadable(_)) => Err(LineFault::Form),
@@ -102,10 +102,10 @@ impl<'a> CertWords<'a> {
 }
 
 /// Answers a `cert` line, and keeps its certificate.
-pub fn answer_cert(alloc: Global, known: &mut Vec<Named>, line: &[u8]) -> Result<String, LineFault>
-    ensures said { IfOk result (λ text. IsCertSaid (known_in known.old.items) line.now (string_bytes text) (known_in known.new.items)) }
-    ensures fault { IfErr result (RefusesCert (known_in known.old.items) line.now) }
-    ensures unchanged { OnErr result (known_in known.new.items ≡ known_in known.old.items) }
+pub fn answer_cert(alloc: Global, known: &mut Named, line: &[u8]) -> Result<String, LineFault>
+    ensures said { IfOk result (λ text. IsCertSaid (known_in known.old) line.now (string_bytes text) (known_in known.new)) }
+    ensures fault { IfErr result (RefusesCert (known_in known.old) line.now) }
+    ensures unchanged { OnErr result (known_in known.new ≡ known_in known.old) }
 {
     let Some(words) = CertWords::of(line) else {
         return Err(LineFault::Form);
@@ -114,18 +114,15 @@ pub fn answer_cert(alloc: Global, known: &mut Vec<Named>, line: &[u8]) -> Result
 }
 
 /// Keeps the certificate that the words of a `cert` line say, and answers the line.
-fn keep(alloc: Global, known: &mut Vec<Named>, words: &CertWords<'_>) -> Result<String, LineFault>
-    ensures said { IfOk result (λ text. IsKept (known_in known.old.items) words.now (string_bytes text) (known_in known.new.items)) }
-    ensures fault { IfErr result (λ fault. IsName words.now.name.now → RefusesWords (known_in known.old.items) words.now fault) }
-    ensures unchanged { OnErr result (known_in known.new.items ≡ known_in known.old.items) }
+fn keep(alloc: Global, known: &mut Named, words: &CertWords<'_>) -> Result<String, LineFault>
+    ensures said { IfOk result (λ text. IsKept (known_in known.old) words.now (string_bytes text) (known_in known.new)) }
+    ensures fault { IfErr result (λ fault. IsName words.now.name.now → RefusesWords (known_in known.old) words.now fault) }
+    ensures unchanged { OnErr result (known_in known.new ≡ known_in known.old) }
 {
     let octets = words.make(alloc, known)?;
     let name = Vec::from_slice(alloc, words.name)?;
     let text = cert_text(alloc, words.name, octets.len())?;
-    known.push(Named {
-        name,
-        kept: Kept::Certificate(CertOctets { octets }),
-    })?;
+    known.keep(name, Kept::Certificate(CertOctets { octets }))?;
     Ok(text)
 }
 

@@ -94,13 +94,13 @@ impl<'a> CheckWords<'a> {
 }
 
 /// Whether each of the names has a certificate.
-fn are_known(known: &[Named], names: Option<&[u8]>) -> bool
+fn are_known(known: &Named, names: Option<&[u8]>) -> bool
     ensures { IsTrue result ↔ AreKnown (known_in known.now) (pieces_behind 32 (option_map (λ rest. rest.now) names.entry)) }
 {
     let mut rest = names;
     while let Some(left) = rest {
         let (name, behind) = first_piece(left, SPACE);
-        if Named::find_cert(known, name).is_none() {
+        if known.find_cert(name).is_none() {
             return false;
         }
         rest = behind;
@@ -109,7 +109,7 @@ fn are_known(known: &[Named], names: Option<&[u8]>) -> bool
 }
 
 /// Answers a `check` line.
-pub fn answer_check(alloc: Global, known: &[Named], line: &[u8]) -> Result<String, LineFault>
+pub fn answer_check(alloc: Global, known: &Named, line: &[u8]) -> Result<String, LineFault>
     ensures said { IfOk result (λ text. IsCheckSaid (known_in known.now) line.now (string_bytes text)) }
     ensures fault { IfErr result (RefusesCheck (known_in known.now) line.now) }
 {
@@ -117,8 +117,8 @@ pub fn answer_check(alloc: Global, known: &[Named], line: &[u8]) -> Result<Strin
         return Err(LineFault::Form);
     };
     let (Some(anchor), Some(target)) = (
-        Named::find_cert(known, words.anchor),
-        Named::find_cert(known, words.target),
+        known.find_cert(words.anchor),
+        known.find_cert(words.target),
     ) else {
         return Err(LineFault::Name);
     };

@@ -54,7 +54,7 @@ impl<'a> CrlWords<'a> {
     }
 
     /// The octets of the list that the words say, where it can be read, unless its name is taken.
-    fn make(&self, alloc: Global, known: &[Named]) -> Result<Vec<u8>, LineFault>
+    fn make(&self, alloc: Global, known: &Named) -> Result<Vec<u8>, LineFault>
         ensures made { IfOk result (λ octets. IsListMade self.now octets.items) }
         ensures short { IfOk result (λ octets. length octets.items ≤ 1048576) }
         ensures reads { IfOk result (λ octets. IsTaken (crl_of octets.items)) }
@@ -79,7 +79,7 @@ impl<'a> CrlWords<'a> {
             critical: &fields.critical,
         };
         let made = make_crl(alloc, &text);
-        let is_taken = Named::find(known, self.name).is_some();
+        let is_taken = known.find(self.name).is_some();
         match made {
             Err(MakeFault::Memory) => Err(LineFault::Memory),
             Err(MakeFault::Unreadable(_)) => Err(LineFault::Form),
@@ -92,10 +92,10 @@ impl<'a> CrlWords<'a> {
 }
 
 /// Answers a `crl` line, and keeps its list.
-pub fn answer_crl(alloc: Global, known: &mut Vec<Named>, line: &[u8]) -> Result<String, LineFault>
-    ensures said { IfOk result (λ text. IsCrlSaid (known_in known.old.items) line.now (string_bytes text) (known_in known.new.items)) }
-    ensures fault { IfErr result (RefusesCrl (known_in known.old.items) line.now) }
-    ensures unchanged { OnErr result (known_in known.new.items ≡ known_in known.old.items) }
+pub fn answer_crl(alloc: Global, known: &mut Named, line: &[u8]) -> Result<String, LineFault>
+    ensures said { IfOk result (λ text. IsCrlSaid (known_in known.old) line.now (string_bytes text) (known_in known.new)) }
+    ensures fault { IfErr result (RefusesCrl (known_in known.old) line.now) }
+    ensures unchanged { OnErr result (known_in known.new ≡ known_in known.old) }
 {
     let Some(words) = CrlWords::of(line) else {
         return Err(LineFault::Form);
@@ -104,18 +104,15 @@ pub fn answer_crl(alloc: Global, known: &mut Vec<Named>, line: &[u8]) -> Result<
 }
 
 /// Keeps the list that the words of a `crl` line say, and answers the line.
-fn keep(alloc: Global, known: &mut Vec<Named>, words: &CrlWords<'_>) -> Result<String, LineFault>
-    ensures said { IfOk result (λ text. IsListKept (known_in known.old.items) words.now (string_bytes text) (known_in known.new.items)) }
-    ensures fault { IfErr result (λ fault. IsName words.now.name.now → RefusesListWords (known_in known.old.items) words.now fault) }
-    ensures unchanged { OnErr result (known_in known.new.items ≡ known_in known.old.items) }
+fn keep(alloc: Global, known: &mut Named, words: &CrlWords<'_>) -> Result<String, LineFault>
+    ensures said { IfOk result (λ text. IsListKept (known_in known.old) words.now (string_bytes text) (known_in known.new)) }
+    ensures fault { IfErr result (λ fault. IsName words.now.name.now → RefusesListWords (known_in known.old) words.now fault) }
+    ensures unchanged { OnErr result (known_in known.new ≡ known_in known.old) }
 {
     let octets = words.make(alloc, known)?;
     let name = Vec::from_slice(alloc, words.name)?;
     let text = crl_text(alloc, words.name, octets.len())?;
-    known.push(Named {
-        name,
-        kept: Kept::List(octets),
-    })?;
+    known.keep(name, Kept::List(octets))?;
     Ok(text)
 }
 

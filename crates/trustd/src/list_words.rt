@@ -7,7 +7,7 @@ ghost use Rattle.trustd.specs.declared.list_words.ListKeyword.{ListKeyword};
 ghost use Rattle.trustd.specs.declared.script.LineFault.TheVariants.{Form};
 ghost use Rattle.trustd.specs.Pieces.{pieces_behind};
 ghost use Rattle.trustd.specs.Words.{RefusesWord};
-ghost use Rattle.trustd.specs.ListWords.{ListPart, list_keyword_text, IsReason, reason_numbered, IsEntry, SaysList, IsListWord, AreListWords};
+ghost use Rattle.trustd.specs.ListWords.{ListPart, list_keyword_text, IsReason, IsEntry, SaysList, IsListWord, AreListWords};
 ghost use Rattle.trustd.specs.OwnedList.{list_part, list_parts};
 
 use crate::script::LineFault;
@@ -97,30 +97,15 @@ impl<'a> ListWord<'a> {
     }
 }
 
-/// The reason of a number, if one has it (RFC 5280 5.3.1).
-fn reason_numbered(number: u32) -> Option<ReasonCode>
-    ensures { result ≡ reason_numbered number }
-{
-    match number {
-        0 => Some(ReasonCode::Unspecified),
-        1 => Some(ReasonCode::KeyCompromise),
-        2 => Some(ReasonCode::CaCompromise),
-        3 => Some(ReasonCode::AffiliationChanged),
-        4 => Some(ReasonCode::Superseded),
-        5 => Some(ReasonCode::CessationOfOperation),
-        6 => Some(ReasonCode::CertificateHold),
-        8 => Some(ReasonCode::RemoveFromCrl),
-        9 => Some(ReasonCode::PrivilegeWithdrawn),
-        10 => Some(ReasonCode::AaCompromise),
-        _ => None,
-    }
-}
-
 /// The reason whose number a value writes.
 fn reason_of(value: &[u8]) -> Option<ReasonCode>
     ensures { MatchOption result ((reason : ReasonCode) → ¬ (IsReason value.now reason)) (IsReason value.now) }
 {
-    reason_numbered(number_of(value)?)
+    match u8::try_from(number_of(value)?) {
+        Ok(number) => ReasonCode::numbered(number),
+        // The number of a reason takes one octet.
+        Err(_) => None,
+    }
 }
 
 /// The entry that a value writes, as `SERIAL:REASON`.

@@ -1,9 +1,11 @@
 //! What a script has named so far.
 
-ghost use Rattle.std.specs.Prelude.{◌≡◌, option_map};
-ghost use Rattle.trustd.specs.Known.{known_in, thing_in, named, certificate_named};
+ghost use Rattle.std.specs.Prelude.{◌≡◌, ◌++◌, [], ◌∷◌, None, OnOk, OnErr, option_map};
+ghost use Rattle.trustd.specs.Known.{known_in, entry_in, thing_in, named, certificate_named};
 
 use crate::cert_octets::CertOctets;
+use indexmap::IndexMap;
+use std::alloc::{AllocFailed, Global};
 
 /// What a name stands for, as its octets.
 #[derive(Drop)]
@@ -14,33 +16,50 @@ pub enum Kept {
     List(Vec<u8>),
 }
 
-/// What is known by a name.
+/// What is known by names, in the order in which it was kept.
 #[derive(Drop)]
 pub struct Named {
-    pub name: Vec<u8>,
-    pub kept: Kept,
+    things: IndexMap<Vec<u8>, Kept>,
 }
 
 impl Named {
-    /// What is known by this name.
-    pub fn find<'a>(known: &'a [Named], name: &[u8]) -> Option<&'a Named>
-        ensures { option_map (λ one. thing_in one.now.kept) result ≡ named (known_in known.now) name.now }
+    /// Nothing yet.
+    pub fn new(alloc: Global) -> Named
+        ensures { known_in result ≡ [] }
     {
-        for one in known {
-            if one.name.as_slice() == name {
-                return Some(one);
-            }
+        Named {
+            things: IndexMap::new(alloc),
         }
-        None
+    }
+
+    /// What is known by this name.
+    pub fn find(&self, name: &[u8]) -> Option<&Kept>
+        ensures { option_map (λ kept. thing_in kept.now) result ≡ named (known_in self.now) name.now }
+    {
+        self.things.get(name)
     }
 
     /// The certificate of this name.
-    pub fn find_cert<'a>(known: &'a [Named], name: &[u8]) -> Option<&'a CertOctets>
-        ensures { option_map (λ one. one.now.octets.items) result ≡ certificate_named (known_in known.now) name.now }
+    pub fn find_cert(&self, name: &[u8]) -> Option<&CertOctets>
+        ensures { option_map (λ one. one.now.octets.items) result ≡ certificate_named (known_in self.now) name.now }
     {
-        match &Named::find(known, name)?.kept {
+        match self.find(name)? {
             Kept::Certificate(cert) => Some(cert),
             Kept::List(_) => None,
         }
+    }
+
+    /// Keeps something by a name.
+    ///
+    /// # Errors
+    ///
+    /// Memory ran out.
+    pub fn keep(&mut self, name: Vec<u8>, kept: Kept) -> Result<(), AllocFailed<(Vec<u8>, Kept)>>
+        // A name by which nothing was known stands last.
+        ensures kept { named (known_in self.old) name.items ≡ None → OnOk result (known_in self.new ≡ known_in self.old ++ entry_in (name, kept) ∷ []) }
+        ensures unchanged { OnErr result (known_in self.new ≡ known_in self.old) }
+    {
+        self.things.insert(name, kept)?;
+        Ok(())
     }
 }

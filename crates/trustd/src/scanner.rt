@@ -2,6 +2,7 @@
 
 ghost use Rattle.std.specs.Prelude.{◌≡◌, ◌≢◌, ◌++◌, IfErr, ◌+◌, ◌<◌, ◌≤◌, ◌^◌, [], ◌∷◌, length, OnOk};
 ghost use Rattle.std.specs.Io.KnownBytes.{Appends};
+ghost use Rattle.trustd.specs.Known.{known_in};
 ghost use Rattle.trustd.specs.Scanner.{Scans, Finishes, Closes};
 
 use crate::answer::answer_line;
@@ -19,7 +20,7 @@ pub struct Scanner {
     /// What has come of that line.
     line: Vec<u8>,
     /// What the lines before it have named.
-    known: Vec<Named>,
+    known: Named,
 }
 
 /// Why a script is answered no further.
@@ -36,12 +37,12 @@ impl Scanner {
     pub fn new(alloc: Global) -> Scanner
         ensures number { result.number ≡ 1 }
         ensures line { result.line.items ≡ [] }
-        ensures known { result.known.items ≡ [] }
+        ensures known { known_in result.known ≡ [] }
     {
         Scanner {
             number: 1,
             line: Vec::new(alloc),
-            known: Vec::new(alloc),
+            known: Named::new(alloc),
         }
     }
 

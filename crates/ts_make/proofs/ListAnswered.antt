@@ -23,7 +23,7 @@ use Rattle.ts_make.specs.Description.{Says}
 use Rattle.ts_make.specs.Sayable.{IfWritten}
 use Rattle.ts_make.specs.Times.{IsTimeOf}
 use Rattle.ts_make.specs.ListMade.{list_tbs, made_list}
-use Rattle.ts_make.specs.ListMaking.{IsWhole, AnswersWhole, AreSerials, IsSayableList}
+use Rattle.ts_make.specs.ListMaking.{IsWhole, AnswersList, AreSerials, IsSayableList}
 use Rattle.ts_make.specs.ListDescription.{AreEntriesOf, IsListDescribed, IsListSignedBy}
 use Rattle.ts_make.proofs.OneTime.{in_years_or_not}
 use Rattle.ts_make.proofs.SerialNumbers.{serial-is}
@@ -123,7 +123,7 @@ list-years t n text sayable from to le w =
 -- ---- the clauses
 
 pub answers-signed : (r : Result (Vec ℕ Global) MakeFault) (t n : List ℕ) (text : CrlText) → IfWritten r (IsSayableList text) → IsTimeOf t text.this_update → IsTimeOf n text.next_update
-    → AnswersWhole r (made_list t n text) → IfOk r (λ v. (l : StandingList) × (shape_of v.items ≡ Ok l) × IsListSignedBy text.signer.now (said_list l))
+    → AnswersList IsWhole r (made_list t n text) → IfOk r (λ v. (l : StandingList) × (shape_of v.items ≡ Ok l) × IsListSignedBy text.signer.now (said_list l))
 answers-signed (Ok v) t n text sayable from to h =
     let years = list-years t n text sayable from to h.1 h.2 in
     let is = is-list-read t n text sayable from to h.1 years.0 years.1 in
@@ -131,6 +131,6 @@ answers-signed (Ok v) t n text sayable from to h =
 answers-signed (Err e) t n text sayable from to h = tt
 
 pub answers-years : (r : Result (Vec ℕ Global) MakeFault) (t n : List ℕ) (text : CrlText) → IfWritten r (IsSayableList text) → IsTimeOf t text.this_update → IsTimeOf n text.next_update
-    → AnswersWhole r (made_list t n text) → OnOk r (IsInYears 0 9999 text.this_update × IsInYears 0 9999 text.next_update)
+    → AnswersList IsWhole r (made_list t n text) → OnOk r (IsInYears 0 9999 text.this_update × IsInYears 0 9999 text.next_update)
 answers-years (Ok v) t n text sayable from to h = list-years t n text sayable from to h.1 h.2
 answers-years (Err e) t n text sayable from to h = tt

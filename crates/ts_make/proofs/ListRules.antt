@@ -38,7 +38,7 @@ use Rattle.ts_make.specs.Times.{IsTimeOf}
 use Rattle.ts_make.specs.ListExtensions.{reason_extension, number_extensions, scope_content, null_extension, list_extensions, list_field}
 use Rattle.ts_make.specs.ListDescription.{IsListDescribed, IsReadAs}
 use Rattle.ts_make.specs.ListMade.{made_list}
-use Rattle.ts_make.specs.ListMaking.{IsWhole, IsTaken, AnswersWhole, AnswersMadeList, IsSayableList, AreAllowedInList, IsListRefusal}
+use Rattle.ts_make.specs.ListMaking.{IsWhole, IsTaken, AnswersList, IsSayableList, AreAllowedInList, IsListRefusal}
 use Rattle.ts_make.proofs.ListSpelled.{entry_said, revoked_said, list-fields-short, list-parts-short}
 use Rattle.ts_make.proofs.ListRefused.{IsOutsideList, list-refused}
 use Rattle.ts_make.proofs.ListAnswered.{in_years, IsListRead, is-list-read, crl-read, placed-none, profile-left, is-described, list-years}
@@ -114,7 +114,7 @@ refusal t n text fault sayable from to le e =
     ]
 
 pub answers-refused : (r : Result (Vec ℕ Global) MakeFault) (t n : List ℕ) (text : CrlText) → IfWritten r (IsSayableList text) → IsTimeOf t text.this_update → IsTimeOf n text.next_update
-    → AnswersWhole r (made_list t n text) → IfErr r (IsListRefusal text)
+    → AnswersList IsWhole r (made_list t n text) → IfErr r (IsListRefusal text)
 answers-refused (Ok v) t n text sayable from to h = tt
 answers-refused (Err Memory) t n text sayable from to h = tt
 answers-refused (Err TooLong) t n text sayable from to h = tt
@@ -168,7 +168,7 @@ whole-read t n text is le w =
     read ∙ (profile-left l none ∙ ap (λ (o : Option ListFault). unless_broken l o) (profile-is t n text is small none))
 
 pub answers-made : (r : Result (Vec ℕ Global) MakeFault) (t n : List ℕ) (text : CrlText) → IfWritten r (IsSayableList text) → IsTimeOf t text.this_update → IsTimeOf n text.next_update
-    → AnswersWhole r (made_list t n text) → AnswersMadeList r (made_list t n text)
+    → AnswersList IsWhole r (made_list t n text) → AnswersList IsTaken r (made_list t n text)
 answers-made (Ok v) t n text sayable from to h =
     let years = list-years t n text sayable from to h.1 h.2 in
     let is = is-list-read t n text sayable from to h.1 years.0 years.1 in
@@ -178,7 +178,7 @@ answers-made (Err TooLong) t n text sayable from to h = h
 answers-made (Err (Unreadable fault)) t n text sayable from to h = h
 
 pub answers-described : (r : Result (Vec ℕ Global) MakeFault) (t n : List ℕ) (text : CrlText) → IfWritten r (IsSayableList text) → IsTimeOf t text.this_update → IsTimeOf n text.next_update
-    → AnswersWhole r (made_list t n text)
+    → AnswersList IsWhole r (made_list t n text)
     → IfOk r (λ v. (l : StandingList) × (shape_of v.items ≡ Ok l) × IsListDescribed text (said_list l) × IsReadAs (crl_of v.items) (said_list l))
 answers-described (Ok v) t n text sayable from to h =
     let years = list-years t n text sayable from to h.1 h.2 in

@@ -27,24 +27,18 @@ IsWhole (Ok c) = Unit {0}
 IsWhole (Err (broken fault)) = ⊥
 IsWhole (Err other) = Unit {0}
 
--- of the octets of a list: they are returned unless a rule that has a place is broken, and else it is said which
-abbrev pub AnswersWhole : Result (Vec ℕ Global) MakeFault → List ℕ → Type 0
-AnswersWhole (Ok v) octets = (v.items ≡ octets) × (length octets ≤ 1048576) × IsWhole (crl_of octets)
-AnswersWhole (Err TooLong) octets = 1048576 < length octets
-AnswersWhole (Err (Unreadable fault)) octets = (length octets ≤ 1048576) × (crl_of octets ≡ Err (broken fault))
-AnswersWhole (Err Memory) octets = Unit {0}
-
 -- reading takes the octets, or refuses them for a critical extension that it does not process, and for nothing else
 abbrev pub IsTaken : Result CertificateList ListFault → Type 0
 IsTaken (Ok c) = Unit {0}
 IsTaken (Err f) = (oid : List ℕ) × (f ≡ criticalCrlExtension oid)
 
--- of the octets of a list: they are returned where they are taken so, and else it is said why not
-abbrev pub AnswersMadeList : Result (Vec ℕ Global) MakeFault → List ℕ → Type 0
-AnswersMadeList (Ok v) octets = (v.items ≡ octets) × (length octets ≤ 1048576) × IsTaken (crl_of octets)
-AnswersMadeList (Err TooLong) octets = 1048576 < length octets
-AnswersMadeList (Err (Unreadable fault)) octets = (length octets ≤ 1048576) × (crl_of octets ≡ Err (broken fault))
-AnswersMadeList (Err Memory) octets = Unit {0}
+-- of the octets of a list: they are returned where their reading is as is asked, and else it is said why not: they are too
+-- long, or a rule that has a place is broken
+abbrev pub AnswersList : (Result CertificateList ListFault → Type 0) → Result (Vec ℕ Global) MakeFault → List ℕ → Type 0
+AnswersList Reads (Ok v) octets = (v.items ≡ octets) × (length octets ≤ 1048576) × Reads (crl_of octets)
+AnswersList Reads (Err TooLong) octets = 1048576 < length octets
+AnswersList Reads (Err (Unreadable fault)) octets = (length octets ≤ 1048576) × (crl_of octets ≡ Err (broken fault))
+AnswersList Reads (Err Memory) octets = Unit {0}
 
 -- the serial numbers of entries are u32s
 abbrev pub AreSerials : List EntryText → Type 0

@@ -10,7 +10,7 @@ ghost use Rattle.ts_make.specs.TimeView.{time_octets};
 ghost use Rattle.ts_make.specs.Sayable.{IfWritten};
 ghost use Rattle.ts_make.specs.Writing.{Writes};
 ghost use Rattle.ts_make.specs.ListMade.{made_list};
-ghost use Rattle.ts_make.specs.ListMaking.{AnswersWhole, AnswersMadeList, IsSayableList, IsListRefusal};
+ghost use Rattle.ts_make.specs.ListMaking.{IsWhole, IsTaken, AnswersList, IsSayableList, IsListRefusal};
 ghost use Rattle.ts_make.specs.ListDescription.{IsListDescribed, IsListSignedBy, IsReadAs};
 
 use crate::elements::{SEQUENCE, append, append_bits, element};
@@ -47,7 +47,7 @@ fn write_whole_list(
     this: &TimeText,
     next: &TimeText,
 ) -> Result<Vec<u8>, MakeFault>
-    ensures exact { AnswersWhole result (made_list (time_octets this.now) (time_octets next.now) text.now) }
+    ensures exact { AnswersList IsWhole result (made_list (time_octets this.now) (time_octets next.now) text.now) }
     ensures sayable { IfWritten result (IsSayableList text.now) }
 {
     let octets = write_list(alloc, text, this, next)?;
@@ -71,7 +71,7 @@ fn write_whole_list(
 pub fn make_crl(alloc: Global, text: &CrlText<'_>) -> Result<Vec<u8>, MakeFault>
     // It is the one list that says the description, where a list may be so long.
     ensures made { (this next : List ℕ) × IsTimeOf this text.now.this_update × IsTimeOf next text.now.next_update
-        × AnswersMadeList result (made_list this next text.now) }
+        × AnswersList IsTaken result (made_list this next text.now) }
     // It has the shape of the list that the description says, and reading gives that list, or refuses it for its
     // first critical extension that is not processed.
     ensures described { IfOk result (λ v. (l : StandingList) × (shape_of v.items ≡ Ok l) × IsListDescribed text.now (said_list l) × IsReadAs (crl_of v.items) (said_list l)) }

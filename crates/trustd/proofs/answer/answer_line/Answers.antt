@@ -9,5 +9,4 @@ use Rattle.trustd.proofs.answer.answer_line.Goals as goal
 pub returns-then-eq-3 : goal.returns-then-eq-3
 returns-then-eq-3 c =
     let kind : kind_of c.args.line.now ≡ check_kind = first_of (search rules, grind (arith, common_steps)) in
-    let known = c.deref.ensures.value in
-    check_answered (known_in c.args.known.now.items) c.args.line.now c.answer_check.result kind (rw known at c.answer_check.ensures.said) (rw known at c.answer_check.ensures.fault)
+    check_answered (known_in c.args.known.now) c.args.line.now c.answer_check.result kind c.answer_check.ensures.said c.answer_check.ensures.fault

@@ -63,7 +63,7 @@ returns-in-Err-TooLong-clause-fault c =
       octets,
       (text, said, made.0, made.1, made.2, made.3, refl),
       long_stands octets long,
-      found_some (λ one. thing_in one.now.kept) c.find.result (named (known_in c.args.known.now) words.name.now) (sym c.is_some-is_taken.ensures ∙ c.if-is_taken.true) c.find.ensures,
+      found_some (λ one. thing_in one.now) c.find.result (named (known_in c.args.known.now) words.name.now) (sym c.is_some-is_taken.ensures ∙ c.if-is_taken.true) c.find.ensures,
     )
 
 pub returns-in-Err-TooLong-2-clause-fault : goal.returns-in-Err-TooLong-2-clause-fault
@@ -97,7 +97,7 @@ returns-in-Err-TooLong-2-clause-fault c =
     let long = made_long c.make_cert-made.result c.in-Err-TooLong-2.field-0 octets made.4 c.in-Err-TooLong-2.is (rw c.in-Err-TooLong-2.is at c.in-Err-TooLong-2.field-0-is) in (
       octets,
       (text, said, made.0, made.1, made.2, made.3, refl),
-      found_none (λ one. thing_in one.now.kept) c.find.result (named (known_in c.args.known.now) words.name.now) (sym c.is_some-is_taken.ensures ∙ c.if-is_taken.false) c.find.ensures,
+      found_none (λ one. thing_in one.now) c.find.result (named (known_in c.args.known.now) words.name.now) (sym c.is_some-is_taken.ensures ∙ c.if-is_taken.false) c.find.ensures,
       long,
     )
 
@@ -132,7 +132,7 @@ returns-in-Ok-clause-fault c =
       octets,
       (text, said, made.0, made.1, made.2, made.3, refl),
       made_stands c.make_cert-made.result c.in-Ok.field-0 octets made.4 c.in-Ok.is,
-      found_some (λ one. thing_in one.now.kept) c.find.result (named (known_in c.args.known.now) words.name.now) (sym c.is_some-is_taken.ensures ∙ c.if-is_taken-2.true) c.find.ensures,
+      found_some (λ one. thing_in one.now) c.find.result (named (known_in c.args.known.now) words.name.now) (sym c.is_some-is_taken.ensures ∙ c.if-is_taken-2.true) c.find.ensures,
     )
 
 pub returns-in-Err-Unreadable-clause-fault : goal.returns-in-Err-Unreadable-clause-fault

@@ -11,7 +11,7 @@ returns-then-is_empty-clause-closes g c =
     let line = c.args.self.now.line in
     let len : vec_len line ≡ length line.items = omega (arith, line.ok.0) in
     let none = eqb-true (vec_len line) 0 (sym c.is_empty.ensures ∙ c.if-is_empty.true) in
-    closes_empty c.args.self.now.number (known_in c.args.self.now.known.items) line.items (g.W.Write.contents c.args.writer.now) (no_items line.items (sym len ∙ none))
+    closes_empty c.args.self.now.number (known_in c.args.self.now.known) line.items (g.W.Write.contents c.args.writer.now) (no_items line.items (sym len ∙ none))
 
 pub returns-else-is_empty-clause-closes : goal.returns-else-is_empty-clause-closes
 returns-else-is_empty-clause-closes g c =
