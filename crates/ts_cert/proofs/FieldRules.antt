@@ -101,12 +101,12 @@ all-said t l has = ap (λ (o : Option (List Extension)). unwrap_or o []) has.ext
 
 pub rules-kept : (t : Tbs) (l : LateFields) → Has t l → AllOctets (standings l) → extensions_fault t.version l ≡ None → KeepsRules t
 rules-kept t l has fits e =
-    let first = neither (version_fault t.version l or_else repeated_fault (standings l)) _ e in
-    let second = neither (version_fault t.version l) _ first.0 in
+    let first = neither (version_fault t.version l) _ e in
+    let second = neither (repeated_fault (standings l)) _ first.1 in
     let same = all-said t l has in (
-      version-fits t.version t l has second.0,
-      ap (λ (xs : List Extension). first_repeated (λ x. x.extnID) [] xs) same ∙ repeated-none (standings l) second.1,
-      subst (AreSound CertificateHolder) (sym same) (are-sound CertificateHolder (standings l) fits first.1),
+      version-fits t.version t l has first.0,
+      ap (λ (xs : List Extension). first_repeated (λ x. x.extnID) [] xs) same ∙ repeated-none (standings l) second.0,
+      subst (AreSound CertificateHolder) (sym same) (are-sound CertificateHolder (standings l) fits second.1),
     )
 
 pub rules-again : (t : Tbs) (l : LateFields) → Has t l → KeepsRules t → extensions_fault t.version l ≡ None

@@ -1,5 +1,6 @@
 pub mod Certificate
 pub mod Period
+pub mod Standings
 pub mod View
 pub mod Spelling
 pub mod Rules

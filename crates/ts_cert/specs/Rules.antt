@@ -6,7 +6,7 @@ use Rattle.ts_name.specs.Fault.{breaks}
 use Rattle.ts_name.specs.Shape.{◌or_else◌}
 use Rattle.ts_ext.specs.declared.known.Holder.TheVariants.{Certificate as CertificateHolder}
 use Rattle.ts_ext.specs.Extension.{Standing}
-use Rattle.ts_ext.specs.ValueRules.{repeated_fault, values_fault}
+use Rattle.ts_ext.specs.ValueRules.{list_fault}
 use Rattle.ts_cert.specs.declared.version.Version.{Version}
 use Rattle.ts_cert.specs.declared.version.Version.TheVariants.{V1, V2, V3}
 use Rattle.ts_cert.specs.Certificate.{Tbs}
@@ -42,4 +42,4 @@ version_fault V3 l = None
 
 -- the first rule that is broken: of versions, that no extension stands twice (4.2), of the values of extensions
 abbrev pub extensions_fault : Version → LateFields → Option CertFault
-extensions_fault v l = version_fault v l or_else repeated_fault (standings l) or_else values_fault CertificateHolder (standings l)
+extensions_fault v l = version_fault v l or_else list_fault CertificateHolder (standings l)

@@ -1,18 +1,15 @@
 -- What contracts see of the parts that a certificate lends: octets, without where they lie in memory.
-use Rattle.std.specs.Prelude.{List, map, option_map}
+use Rattle.std.specs.Prelude.{map, option_map}
 use Rattle.std.specs.Option.{option_copied}
-use Rattle.ts_der.specs.declared.reader.Element.{Element}
 use Rattle.ts_der.specs.BitsView.{parts_of}
-use Rattle.ts_der.specs.Element.{inside}
-use Rattle.ts_der.specs.View.{now}
-use Rattle.ts_name.specs.Items.{items_at}
 use Rattle.ts_name.specs.NameView.{rdns_in}
-use Rattle.ts_ext.specs.Extension.{Standing, said, standing_in}
+use Rattle.ts_ext.specs.Extension.{said}
 use Rattle.ts_cert.specs.declared.algorithm.AlgorithmIdentifier.{AlgorithmIdentifier}
 use Rattle.ts_cert.specs.declared.key.SubjectPublicKeyInfo.{SubjectPublicKeyInfo}
 use Rattle.ts_cert.specs.declared.late.LateFields.{LateFields as Late}
 use Rattle.ts_cert.specs.declared.tbs.TbsCertificate.{TbsCertificate}
 use Rattle.ts_cert.specs.Period.{validity_in}
+use Rattle.ts_cert.specs.Standings.{standings_within}
 use Rattle.ts_cert.specs.Certificate.{Algorithm, KeyInfo, Tbs}
 use Rattle.ts_cert.specs.Rules.{LateFields, TbsStanding}
 
@@ -21,10 +18,6 @@ algorithm_in a = record { algorithm = a.algorithm.now; parameters = option_copie
 
 abbrev pub key_in : SubjectPublicKeyInfo → KeyInfo
 key_in k = record { algorithm = algorithm_in k.algorithm; subjectPublicKey = k.subject_public_key.now }
-
--- the extensions within their SEQUENCE
-abbrev pub standings_within : Element → List Standing
-standings_within e = items_at standing_in (inside (now e))
 
 abbrev pub late_in : Late → LateFields
 late_in l =

@@ -26,6 +26,7 @@ pub(crate) fn next_oid<'a>(fields: &mut Reader<'a>) -> Result<&'a [u8], Fault>
 
 /// An INTEGER of any size.
 #[tactic(auto, unfolding(ts_name::specs::Fields::integer_at, ts_name::specs::Names::within))]
+#[inline(always)]
 pub fn next_integer<'a>(fields: &mut Reader<'a>) -> Result<Integer<'a>, Fault>
     ensures { Takes (λ i. i.octets.now) fields.new result (integer_at fields.old) }
 {
@@ -34,6 +35,7 @@ pub fn next_integer<'a>(fields: &mut Reader<'a>) -> Result<Integer<'a>, Fault>
 
 /// The octets of a BIT STRING without unused bits.
 #[tactic(auto, unfolding(ts_name::specs::Fields::bits_at, ts_name::specs::Names::within))]
+#[inline(always)]
 pub fn next_bits<'a>(fields: &mut Reader<'a>) -> Result<&'a [u8], Fault>
     ensures { Takes (λ c. c.now) fields.new result (bits_at fields.old) }
 {
@@ -47,4 +49,16 @@ pub fn next_name<'a>(fields: &mut Reader<'a>) -> Result<Name<'a>, Fault>
     ensures { Takes rdns_in fields.new result (name_at fields.old) }
 {
     Name::read(fields.element(SEQUENCE)?)
+}
+
+/// A distinguished name that may have the octets of another.
+#[tactic(auto, unfolding(ts_name::specs::Fields::name_at, ts_name::specs::Names::within))]
+#[inline(always)]
+pub(crate) fn next_name_beside<'a>(
+    fields: &mut Reader<'a>,
+    other: Name<'a>,
+) -> Result<Name<'a>, Fault>
+    ensures { Takes rdns_in fields.new result (name_at fields.old) }
+{
+    other.read_beside(fields.element(SEQUENCE)?)
 }

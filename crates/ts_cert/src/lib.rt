@@ -9,6 +9,7 @@ mod extension_tests;
 mod fields;
 mod key;
 mod late;
+mod late_reading;
 pub mod laws;
 mod owned;
 #[cfg(test)]

@@ -1,16 +1,11 @@
 //! The rules of the fields beside their shape: what a version may have, and what extensions keep to.
 
-ghost use Rattle.std.specs.Prelude.{◌≡◌, [], unwrap_or, option_map};
-ghost use Rattle.ts_name.specs.Shape.{◌or_else◌};
-ghost use Rattle.ts_ext.specs.declared.known.Holder.TheVariants.{Certificate};
-ghost use Rattle.ts_ext.specs.ValueRules.{repeated_fault, values_fault};
+ghost use Rattle.std.specs.Prelude.{◌≡◌};
 ghost use Rattle.ts_cert.specs.Rules.{must_lack, version_fault, extensions_fault};
-ghost use Rattle.ts_cert.specs.View.{standings_within, late_in};
+ghost use Rattle.ts_cert.specs.View.{late_in};
 
 use crate::late::LateFields;
 use crate::version::Version;
-use ts_der::Element;
-use ts_ext::{Extensions, Holder};
 use ts_name::{CertFault, CertRule};
 
 /// `ExtensionsInOldVersion`, where a field stands that may not.
@@ -40,18 +35,6 @@ fn version_rule(version: Version, late: &LateFields<'_>) -> Option<CertFault>
     }
 }
 
-/// The first extension that stands twice (RFC 5280 4.2), then the first rule that a value breaks.
-#[tactic(auto, unfolding(ts_name::specs::Repeats::first_repeated))]
-#[inline(always)]
-fn list_rule(extensions: Option<Element<'_>>) -> Option<CertFault>
-    ensures { result ≡ (repeated_fault (unwrap_or (option_map standings_within extensions.entry) []) or_else values_fault Certificate (unwrap_or (option_map standings_within extensions.entry) [])) }
-{
-    match extensions {
-        Some(element) => Extensions::within(element).first_fault(Holder::Certificate),
-        None => None,
-    }
-}
-
 /// The first of these rules that is broken.
 #[inline(always)]
 pub(crate) fn broken_rule(version: Version, late: &LateFields<'_>) -> Option<CertFault>
@@ -59,6 +42,6 @@ pub(crate) fn broken_rule(version: Version, late: &LateFields<'_>) -> Option<Cer
 {
     match version_rule(version, late) {
         Some(fault) => Some(fault),
-        None => list_rule(late.extensions),
+        None => late.extensions_fault,
     }
 }

@@ -6,9 +6,10 @@ ghost use Rattle.ts_cert.specs.Reading.{tbs_of};
 ghost use Rattle.ts_cert.specs.View.{tbs_in};
 
 use crate::algorithm::{AlgorithmIdentifier, next_algorithm};
-use crate::fields::{next_integer, next_name};
+use crate::fields::{next_integer, next_name, next_name_beside};
 use crate::key::{SubjectPublicKeyInfo, next_key};
-use crate::late::{LateFields, read_late_fields};
+use crate::late::LateFields;
+use crate::late_reading::read_late_fields;
 use crate::time::{Period, next_validity};
 use crate::version::{Version, next_version};
 use ts_der::{Element, Integer};
@@ -38,7 +39,7 @@ pub(crate) fn read_tbs<'a>(element: Element<'a>) -> Result<TbsCertificate<'a>, C
     let signature = next_algorithm(&mut fields)?;
     let issuer = next_name(&mut fields)?;
     let validity = next_validity(&mut fields)?;
-    let subject = next_name(&mut fields)?;
+    let subject = next_name_beside(&mut fields, issuer)?;
     let subject_public_key_info = next_key(&mut fields)?;
     let late = read_late_fields(&mut fields)?;
     Ok(TbsCertificate {

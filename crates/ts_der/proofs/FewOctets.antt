@@ -1,8 +1,8 @@
 -- Object identifiers of few octets, whose numbers need not be computed.
-use Rattle.std.proofs.Common.{◌≡◌, ℕ, zero, suc, ◌+◌, ◌-◌, ◌*◌, ◌/◌, ◌%◌, ◌^◌, ◌<◌, ◌≤◌, Bool, true, false, not, ◌&&◌, ◌||◌, cond, ltb, eqb, List, [], ◌∷◌, length, refl, sym, subst, ◌∙◌, arith}
+use Rattle.std.proofs.Common.{◌≡◌, ℕ, zero, suc, ◌+◌, ◌-◌, ◌*◌, ◌/◌, ◌%◌, ◌^◌, ◌<◌, ◌≤◌, Bool, true, false, not, ◌&&◌, ◌||◌, cond, ltb, eqb, get_or, List, [], ◌∷◌, length, refl, sym, subst, ◌∙◌, arith}
 use Rattle.std.specs.List.{list_all}
-use Rattle.std.proofs.lemmas.Bool.{le-ltb}
-use Rattle.ts_der.specs.ObjectIdentifier.{series_of, is_subidentifier}
+use Rattle.std.proofs.lemmas.Bool.{le-ltb, lt-ltb, ne_eqb}
+use Rattle.ts_der.specs.ObjectIdentifier.{series_of, is_subidentifier, is_oid}
 use Rattle.ts_der.proofs.Oids.{passes, passes_all}
 
 -- the check without the number
@@ -47,3 +47,21 @@ passes-goes begun value (o ∷ octets) lt =
 
 pub goes_all : (octets : List ℕ) → length octets ≤ 18 → goes false octets ≡ list_all is_subidentifier (series_of octets)
 goes_all octets few = sym (passes-goes false 0 octets (room-few (length octets) few)) ∙ passes_all octets
+
+-- three octets below 128 are three numbers
+pub three_go : (octets : List ℕ) → length octets ≡ 3 → get_or octets 0 0 < 128 → get_or octets 1 0 < 128 → get_or octets 2 0 < 128 → is_oid octets ≡ true
+unfolding is_oid
+three_go (a ∷ b ∷ c ∷ []) three x y z =
+    let octets = a ∷ b ∷ c ∷ [] in
+    let all : list_all is_subidentifier (series_of octets) ≡ true = sym (goes_all octets (omega arith)) ∙ (below a x (b ∷ c ∷ []) ∙ (below b y (c ∷ []) ∙ below c z [])) in
+    rw all refl
+  where
+    below : (o : ℕ) → o < 128 → (octets : List ℕ) → goes false (o ∷ octets) ≡ goes false octets
+    below o lt octets =
+        let other : eqb o 128 ≡ false = ne_eqb o 128 (λ e. omega arith) in
+        let ends : ltb o 128 ≡ true = lt-ltb o 128 lt in
+        rw (other, ends) refl
+three_go [] three x y z = absurd cc
+three_go (a ∷ []) three x y z = absurd cc
+three_go (a ∷ b ∷ []) three x y z = absurd cc
+three_go (a ∷ b ∷ c ∷ d ∷ more) three x y z = absurd cc

@@ -1,6 +1,6 @@
 //! Reading an OBJECT IDENTIFIER.
 
-ghost use Rattle.std.specs.Prelude.{◌≡◌, ◌≤◌, List, ℕ, length, IfOk, IsOkAnd};
+ghost use Rattle.std.specs.Prelude.{◌≡◌, ◌≤◌, true, List, ℕ, length, IfOk, IsOkAnd};
 ghost use Rattle.std.specs.List.{list_all};
 ghost use Rattle.ts_der.specs.Answer.{Answers, refusal};
 ghost use Rattle.ts_der.specs.Rules.{checked};
@@ -57,10 +57,25 @@ fn are_few_subidentifiers(octets: &[u8]) -> bool
     !is_open
 }
 
+/// Whether octets are three below 80, each of which is a number, as in the types of attributes and extensions.
+#[inline(always)]
+fn are_three_numbers(octets: &[u8]) -> bool
+    ensures { result ≡ true → is_oid octets.now ≡ true }
+{
+    match octets {
+        [a, b, c] => *a < 0x80 && *b < 0x80 && *c < 0x80,
+        _ => false,
+    }
+}
+
 #[tactic(auto, unfolding(crate::specs::ObjectIdentifier::is_oid))]
+#[inline(always)]
 fn is_object_identifier(content: &[u8]) -> bool
     ensures { result ≡ is_oid content.now }
 {
+    if are_three_numbers(content) {
+        return true;
+    }
     if content.len() <= FEW {
         !content.is_empty() && are_few_subidentifiers(content)
     } else {
@@ -68,6 +83,7 @@ fn is_object_identifier(content: &[u8]) -> bool
     }
 }
 
+#[inline(always)]
 fn read_oid(content: &[u8]) -> Result<OidRef<'_>, DerFault>
     ensures { Answers (λ oid. oid.content.now) result (checked oid_rules (λ c. c) content.now) }
 {
@@ -81,6 +97,7 @@ fn read_oid(content: &[u8]) -> Result<OidRef<'_>, DerFault>
 impl<'a> Element<'a> {
     /// The object identifier of an OBJECT IDENTIFIER's content, else `OidForm` (X.690 8.19). The tag is not looked
     /// at.
+    #[inline(always)]
     pub fn oid(self) -> Result<OidRef<'a>, Fault>
         ensures found { IfOk result (λ oid. IsOid self.entry.content.now (arcs oid.content.now)) }
         ensures only { (numbers : List ℕ) → IsOid self.entry.content.now numbers → IsOkAnd result (λ oid. arcs oid.content.now ≡ numbers) }

@@ -92,6 +92,7 @@ impl<'a> Reader<'a> {
 
     /// The next element, whatever its tag. At a fault, which is that of the first rule of a header that is broken
     /// (X.690 8.1.2, 8.1.3, 10.1), the reader has not moved.
+    #[inline(always)]
     pub fn next(&mut self) -> Result<Element<'a>, Fault>
         // What is read stands here, and the reader is behind it.
         ensures found { IfOk result (λ e. StandsAt self.old (now e) self.new) }
@@ -107,6 +108,7 @@ impl<'a> Reader<'a> {
 
     /// The next element, which has this tag. At a fault, which is that of the first rule that is broken, `WrongTag`
     /// being the last, the reader has not moved.
+    #[inline(always)]
     pub fn element(&mut self, tag: u8) -> Result<Element<'a>, Fault>
         ensures found { IfOk result (λ e. StandsAt self.old (now e) self.new × (e.tag ≡ tag)) }
         ensures only { (content more : List ℕ) → Fits tag content → self.old.rest ≡ spell tag content ++ more
@@ -130,6 +132,7 @@ impl<'a> Reader<'a> {
     }
 
     /// The next element as `element` reads it, if the next octet is this tag; else nothing, and the reader stays.
+    #[inline(always)]
     pub fn optional(&mut self, tag: u8) -> Result<Option<Element<'a>>, Fault>
         ensures found { IfOk result (λ e. StandsIfAny self.old (option_map now e) tag self.new) }
         ensures only { IfOk result (λ e. is_some (option_map now e) ≡ begins_with tag self.old.rest) }
@@ -156,6 +159,7 @@ impl<'a> Reader<'a> {
 
     /// Nothing is left; else `Trailing`, at the first octet that is.
     #[tactic(auto, unfolding(crate::specs::Reading::end_at))]
+    #[inline(always)]
     pub fn end(&self) -> Result<(), Fault>
         ensures ok { IsOk result ↔ (self.now.rest ≡ []) }
         ensures fault { IfErr result (λ f. f ≡ fault_at self.now.at DerFault.Trailing) }
@@ -173,6 +177,7 @@ impl<'a> Reader<'a> {
 
     /// The element at the front, and a reader of what is behind it.
     #[tactic(auto, unfolding(crate::specs::Reading::next_at, crate::specs::Reading::element_of, crate::specs::Reading::behind))]
+    #[inline(always)]
     fn split(&self) -> Result<(Element<'a>, Reader<'a>), Fault>
         ensures octets { AreOctets self.now.rest }
         ensures exact { Answers (λ x. (now x.0, x.1)) result (next_at self.now) }
@@ -196,6 +201,7 @@ impl<'a> Reader<'a> {
         Ok((element, after))
     }
 
+    #[inline(always)]
     fn take(&mut self) -> Result<Element<'a>, Fault>
         ensures octets { AreOctets self.old.rest }
         ensures exact { Gives now self.old self.new result (next_at self.old) }
@@ -207,6 +213,7 @@ impl<'a> Reader<'a> {
 
     /// The same, where it has this tag.
     #[tactic(auto, unfolding(crate::specs::Reading::element_at))]
+    #[inline(always)]
     fn split_tag(&self, tag: u8) -> Result<(Element<'a>, Reader<'a>), Fault>
         ensures octets { AreOctets self.now.rest }
         ensures exact { Answers (λ x. (now x.0, x.1)) result (element_at tag self.now) }
@@ -221,6 +228,7 @@ impl<'a> Reader<'a> {
         Ok((element, after))
     }
 
+    #[inline(always)]
     fn take_tag(&mut self, tag: u8) -> Result<Element<'a>, Fault>
         ensures octets { AreOctets self.old.rest }
         ensures exact { Gives now self.old self.new result (element_at tag self.old) }
@@ -260,6 +268,7 @@ impl<'a> Reader<'a> {
     }
 
     #[tactic(auto, unfolding(crate::specs::Reading::optional_at))]
+    #[inline(always)]
     fn take_optional(&mut self, tag: u8) -> Result<Option<Element<'a>>, Fault>
         ensures octets { AreOctets self.old.rest }
         ensures exact { Gives (option_map now) self.old self.new result (optional_at tag self.old) }

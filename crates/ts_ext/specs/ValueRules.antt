@@ -37,6 +37,10 @@ abbrev pub values_fault : Holder → List Standing → Option CertFault
 values_fault holder [] = None
 values_fault holder (x ∷ xs) = value_fault holder x or_else values_fault holder xs
 
+-- the first rule that a list breaks: that none stands twice, then those of the values
+abbrev pub list_fault : Holder → List Standing → Option CertFault
+list_fault holder xs = repeated_fault xs or_else values_fault holder xs
+
 -- ---- lists whose values break no rule
 
 -- the value of an extension is spelled as that extension asks, and breaks none of the other rules

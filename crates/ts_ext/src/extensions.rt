@@ -15,7 +15,7 @@ ghost use Rattle.ts_ext.specs.Extension.{Extension as Stated, AreExtensions, Are
 ghost use Rattle.ts_ext.specs.ExtensionView.{standing_as, standings_in, extensions_in};
 ghost use Rattle.ts_ext.specs.Known.{identifier_of};
 ghost use Rattle.ts_ext.specs.Table.{list_rules};
-ghost use Rattle.ts_ext.specs.ValueRules.{repeated_fault, rule_place, value_fault, values_fault, AreSound};
+ghost use Rattle.ts_ext.specs.ValueRules.{repeated_fault, rule_place, value_fault, values_fault, list_fault, AreSound};
 
 use crate::ext::Ext;
 use crate::extension::Extension;
@@ -120,7 +120,7 @@ impl<'a> Extensions<'a> {
     /// The first rule that the list breaks: `DuplicateExtension` at the first extension that stands twice, then the first
     /// rule that a value breaks.
     pub fn first_fault(self, holder: Holder) -> Option<CertFault>
-        ensures { result ≡ (repeated_fault (standings_in self.entry) or_else values_fault holder (standings_in self.entry)) }
+        ensures { result ≡ list_fault holder (standings_in self.entry) }
     {
         match first_repeated::<Extension<'a>>(self.list.element) {
             Some(extension) => Some(CertFault {
@@ -175,7 +175,7 @@ fn place_of(holder: Holder, at: usize) -> usize
 
 /// The first rule that the value of an extension breaks.
 #[inline(always)]
-fn broken_value<'a>(holder: Holder, extension: Extension<'a>) -> Option<CertFault>
+pub(crate) fn broken_value<'a>(holder: Holder, extension: Extension<'a>) -> Option<CertFault>
     ensures { result ≡ value_fault holder (standing_as extension.entry) }
 {
     let Extension { at, id, value, .. } = extension;

@@ -190,6 +190,13 @@ rdn-again e attributes is whole =
     let ordered : order_at e ≡ Ok true = set_is_ordered e attributes is.each whole ∙ ap (λ (b : Bool). Ok b) is.ordered in
     rw (items, some, ordered) refl
 
+-- one attribute is a set
+pub rdn-single : (e : Tlv) (x : Attr) → AreOctets e.content → many attribute_at (inside e) ≡ Ok (x ∷ []) → rdn_of e ≡ Ok (x ∷ [])
+unfolding rdn_content
+rdn-single e x fits read =
+    let items = many-found 0x30 attribute_of attribute_content IsAttribute attribute-codec (inside e) (x ∷ []) fits read in
+    rdn-again e (x ∷ []) (record { some = λ none. absurd cc; each = items.each; ordered = refl }) items.whole
+
 pub rdn-codec : Codec 0x31 rdn_of rdn_content IsRdn
 rdn-codec = record { found = rdn-found; again = rdn-again }
 

@@ -42,6 +42,6 @@ pub use general_reading::GeneralNames;
 pub use name::Name;
 pub use name_items::{Attributes, Rdns};
 pub use rdn::Rdn;
-pub use repeats::{Keyed, first_repeated};
-pub use sequence_of::{FromElement, SequenceItems, SequenceOf, tagged_as};
+pub use repeats::{Ends, Keyed, first_repeated};
+pub use sequence_of::{FromElement, SequenceItems, SequenceOf, next_item, tagged_as};
 pub use subtree::Subtree;

@@ -1,6 +1,6 @@
 //! Reading a distinguished name.
 
-ghost use Rattle.std.specs.Prelude.{◌≡◌, List, IfOk, IsOkAnd, option_map};
+ghost use Rattle.std.specs.Prelude.{◌≡◌, ◌∷◌, [], List, true, Ok, IfOk, IsOkAnd, option_map};
 ghost use Rattle.ts_der.specs.Answer.{Answers, refusal};
 ghost use Rattle.ts_der.specs.Element.{inside};
 ghost use Rattle.ts_der.specs.View.{now};
@@ -64,16 +64,21 @@ fn next_attribute<'a>(rest: &mut Reader<'a>) -> Result<Attribute<'a>, Fault>
     read_attribute(element)
 }
 
-/// The attributes of a set, one after another.
+/// The attributes of a set, one after another, and whether there is one and no other.
 #[inline(always)]
-fn check_attributes(set: Element<'_>) -> Result<(), Fault>
-    ensures { refusal result ≡ refusal (many attribute_at (inside (now set.entry))) }
+fn check_attributes(set: Element<'_>) -> Result<bool, Fault>
+    ensures fault { refusal result ≡ refusal (many attribute_at (inside (now set.entry))) }
+    ensures single { IfOk result (λ is_single. is_single ≡ true → (x : Attr) × (many attribute_at (inside (now set.entry)) ≡ Ok (x ∷ []))) }
 {
     let mut rest = set.reader();
+    let mut is_first = true;
+    let mut is_single = false;
     while !rest.is_at_end() {
         next_attribute(&mut rest)?;
+        is_single = is_first;
+        is_first = false;
     }
-    Ok(())
+    Ok(is_single)
 }
 
 /// What stands in a set that is a relative distinguished name, and its order.
@@ -81,7 +86,10 @@ fn check_attributes(set: Element<'_>) -> Result<(), Fault>
 fn check_rdn(set: Element<'_>) -> Result<(), Fault>
     ensures { refusal result ≡ refusal (rdn_of (now set.entry)) }
 {
-    check_attributes(set)?;
+    // One attribute, as in most names, is in order.
+    if check_attributes(set)? {
+        return Ok(());
+    }
     if set.content.is_empty() {
         return Err(Fault {
             kind: DerFault::Empty,
@@ -126,6 +134,17 @@ impl<'a> Name<'a> {
         ensures fault { option_map about (refusal result) ≡ judge (items relative_distinguished_name) (inside (now element.entry)) }
         ensures exact { Answers rdns_in result (name_of (now element.entry)) }
     {
+        read_name(element)
+    }
+
+    /// The name that another element's content is, as `read` reads it. Where that has the octets of this name, as the
+    /// subject of a self-signed certificate has those of its issuer, they are not read again.
+    pub fn read_beside(self, element: Element<'a>) -> Result<Name<'a>, Fault>
+        ensures exact { Answers rdns_in result (name_of (now element.entry)) }
+    {
+        if self.element.content == element.content {
+            return Ok(Name { element });
+        }
         read_name(element)
     }
 }

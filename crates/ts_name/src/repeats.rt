@@ -8,6 +8,7 @@ ghost use Rattle.ts_name.specs.Repeats.{first_repeated as first_repeated_of, end
 
 use crate::sequence_of::{FromElement, SequenceItems};
 use crate::suspects::first_repeated_of_suspects;
+use std::marker::Model;
 use ts_der::{Element, OidRef};
 
 /// What is known among others by octets of its own.
@@ -55,15 +56,55 @@ pub fn first_repeated<'a, T: Keyed<'a>>(list: Element<'a>) -> Option<T>
 fn have_ends_of_their_own<'a, T: Keyed<'a>>(list: Element<'a>) -> bool
     ensures { result ≡ true → first_repeated_of T.key_of [] (items_at T.reading (inside (now list.entry))) ≡ None }
 {
-    let mut seen = [false; 256];
+    let mut ends = Ends::new();
     for item in SequenceItems::<T>::within(list) {
-        let end = end_of(item.key());
-        if seen[end] {
+        if !ends.is_new(item.key()) {
             return false;
         }
-        seen[end] = true;
     }
     true
+}
+
+/// The last octets of keys. A key that ends in none of them is none of those keys.
+#[derive(Drop)]
+pub struct Ends {
+    seen: [bool; 256],
+}
+
+impl Model for Ends {
+    ghost use Rattle.std.specs.Prelude.{◌≡◌, Bool, List, length};
+
+    ghost Value = { List Bool };
+
+    ghost view = { λ ends. ends.seen };
+
+    ghost invariant = { λ ends. length ends.seen ≡ 256 };
+}
+
+impl Ends {
+    ghost use Rattle.std.specs.Prelude.{◌≡◌, ◌∷◌, ℕ, List, not, replicate, true, false};
+    ghost use Rattle.ts_name.specs.Repeats.{is_among, is_end_met, with_end, HaveEnds};
+
+    /// Those of no key.
+    pub fn new() -> Ends
+        ensures { result ≡ replicate 256 false }
+    {
+        Ends { seen: [false; 256] }
+    }
+
+    /// Whether a key ends in an octet of its own, which is then one of these. An empty key counts as one that ends in 0.
+    pub fn is_new(&mut self, key: &[u8]) -> bool
+        ensures new { result ≡ not (is_end_met self.old key.now) }
+        ensures met { self.new ≡ with_end self.old key.now }
+        // A key that ends in an octet of its own is none of those whose ends these are.
+        ensures none { (keys : List (List ℕ)) → HaveEnds keys self.old → result ≡ true → is_among key.now keys ≡ false }
+        ensures more { (keys : List (List ℕ)) → HaveEnds keys self.old → HaveEnds (key.now ∷ keys) self.new }
+    {
+        let end = end_of(key);
+        let is_new = !self.seen[end];
+        self.seen[end] = true;
+        is_new
+    }
 }
 
 /// The last octet of a key, 0 of an empty one.

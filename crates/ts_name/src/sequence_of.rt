@@ -182,10 +182,10 @@ fn check_items<'a, T: FromElement<'a>>(element: Element<'a>) -> Result<(), Fault
     Ok(())
 }
 
-/// The next item, which the reader has then passed.
+/// The item that the next element is, which the reader has then passed.
 #[tactic(auto, unfolding(crate::specs::Items::each))]
 #[inline(always)]
-fn next_item<'a, T: FromElement<'a>>(rest: &mut Reader<'a>) -> Result<T, Fault>
+pub fn next_item<'a, T: FromElement<'a>>(rest: &mut Reader<'a>) -> Result<T, Fault>
     ensures { Takes T.record_of rest.new result (each T.reading rest.old) }
 {
     T::read(rest.next()?)

@@ -1,4 +1,4 @@
-use Rattle.std.proofs.Common.{◌≡◌, List, length}
+use Rattle.std.proofs.Common.{◌≡◌, List, [], ◌∷◌, true, length}
 use Rattle.ts_der.specs.Element.{inside}
 use Rattle.ts_der.specs.Reading.{many}
 use Rattle.ts_der.specs.View.{now}
@@ -8,7 +8,9 @@ use Rattle.ts_name.specs.Names.{attribute_at}
 use Rattle.ts_name.proofs.name_reading.check_attributes.Given as goal
 
 abbrev pub invariant-loop-rest : goal.invariant-loop-rest
-invariant-loop-rest l = (front : List Attr) × (with_front front (many attribute_at l.rest) ≡ many attribute_at (inside (now l.set)))
+invariant-loop-rest l =
+    (front : List Attr) × (with_front front (many attribute_at l.rest) ≡ many attribute_at (inside (now l.set)))
+    × (l.is_first ≡ true → front ≡ []) × (l.is_single ≡ true → (x : Attr) × (front ≡ x ∷ []))
 
 abbrev pub decreases-loop-rest : goal.decreases-loop-rest
 decreases-loop-rest l = length l.rest.rest

@@ -3,7 +3,8 @@ use Rattle.std.specs.Prelude.{map, option_map}
 use Rattle.std.specs.List.{find}
 use Rattle.ts_der.specs.declared.reader.Element.{Element}
 use Rattle.ts_ext.specs.Extension.{Standing, said}
-use Rattle.ts_cert.specs.View.{fields_in, standings_within}
+use Rattle.ts_cert.specs.Standings.{standings_within}
+use Rattle.ts_cert.specs.View.{fields_in}
 use Rattle.ts_cert.proofs.StatedValues.{is_known, none-stands, none-found, one-found}
 use Rattle.ts_cert.proofs.certificate.Cert.content.Goals as goal
 

@@ -1,0 +1,17 @@
+-- The extensions within the SEQUENCE that holds them, and the first rule that they break.
+use Rattle.std.specs.Prelude.{List, [], Option, option_map, unwrap_or}
+use Rattle.ts_der.specs.declared.reader.Element.{Element}
+use Rattle.ts_der.specs.Element.{inside}
+use Rattle.ts_der.specs.View.{now}
+use Rattle.ts_name.specs.declared.fault.CertFault.{CertFault}
+use Rattle.ts_name.specs.Items.{items_at}
+use Rattle.ts_ext.specs.declared.known.Holder.TheVariants.{Certificate}
+use Rattle.ts_ext.specs.Extension.{Standing, standing_in}
+use Rattle.ts_ext.specs.ValueRules.{list_fault}
+
+abbrev pub standings_within : Element → List Standing
+standings_within e = items_at standing_in (inside (now e))
+
+-- the first rule that the extensions of a certificate break, none where it has none
+abbrev pub fault_within : Option Element → Option CertFault
+fault_within e = list_fault Certificate (unwrap_or (option_map standings_within e) [])

@@ -1,0 +1,142 @@
+//! Extensions that are read, and judged in the same walk.
+
+ghost use Rattle.std.specs.Prelude.{◌≡◌, [], true, None, IfOk};
+ghost use Rattle.ts_der.specs.Answer.{Answers, refusal};
+ghost use Rattle.ts_der.specs.Element.{inside};
+ghost use Rattle.ts_der.specs.View.{now};
+ghost use Rattle.ts_name.specs.Items.{items_at};
+ghost use Rattle.ts_name.specs.Repeats.{first_repeated as first_repeated_of};
+ghost use Rattle.ts_ext.specs.Extension.{standing_in, standings_of, explicit_standings_of};
+ghost use Rattle.ts_ext.specs.ExtensionView.{standings_in};
+ghost use Rattle.ts_ext.specs.ValueRules.{values_fault, list_fault};
+
+use crate::extension::Extension;
+use crate::extensions::{Extensions, broken_value};
+use crate::fields::SEQUENCE;
+use crate::known::Holder;
+use ts_der::{DerFault, Element, Fault};
+use ts_name::{CertFault, CertRule, Ends, Keyed, first_repeated, next_item, tagged_as};
+
+/// Extensions that were read, and the first rule that they break.
+#[derive(Clone, Copy)]
+pub struct Judged<'a> {
+    pub extensions: Extensions<'a>,
+    /// What `Extensions::first_fault` finds.
+    pub fault: Option<CertFault>,
+}
+
+impl<'a> Judged<'a> {
+    /// The list that the one SEQUENCE within an explicit tag is, as `Extensions::read_explicit` reads it, and the first
+    /// rule that it breaks in a holder, as `Extensions::first_fault` finds it. A list is walked once, if its object
+    /// identifiers end in octets of their own; else it is then searched for one that stands twice.
+    pub fn read_explicit(element: Element<'a>, holder: Holder) -> Result<Judged<'a>, Fault>
+        ensures placed { Answers (λ j. standings_in j.extensions) result (explicit_standings_of (now element.entry)) }
+        ensures fault { IfOk result (λ j. j.fault ≡ list_fault holder (standings_in j.extensions)) }
+    {
+        judge_explicit(element, holder)
+    }
+}
+
+#[tactic(auto, unfolding(ts_name::specs::Items::alone, ts_name::specs::Items::each, ts_name::specs::Items::of_tag))]
+#[inline(always)]
+fn judge_explicit<'a>(element: Element<'a>, holder: Holder) -> Result<Judged<'a>, Fault>
+    ensures placed { Answers (λ j. standings_in j.extensions) result (explicit_standings_of (now element.entry)) }
+    ensures fault { IfOk result (λ j. j.fault ≡ list_fault holder (standings_in j.extensions)) }
+{
+    let mut rest = element.reader();
+    let judged = judge(tagged_as(rest.next()?, SEQUENCE)?, holder)?;
+    rest.end()?;
+    Ok(judged)
+}
+
+/// The list that a SEQUENCE's content is, and the first rule that it breaks.
+#[inline(always)]
+fn judge<'a>(element: Element<'a>, holder: Holder) -> Result<Judged<'a>, Fault>
+    ensures placed { Answers (λ j. standings_in j.extensions) result (standings_of (now element.entry)) }
+    ensures fault { IfOk result (λ j. j.fault ≡ list_fault holder (standings_in j.extensions)) }
+{
+    let fault = fault_of_list(element, holder)?;
+    Ok(Judged {
+        extensions: Extensions::within(element),
+        fault,
+    })
+}
+
+/// The first rule that the extensions of a list break, where they can be read. Only a list of which two object identifiers
+/// end alike is searched for one that stands twice.
+fn fault_of_list(element: Element<'_>, holder: Holder) -> Result<Option<CertFault>, Fault>
+    ensures shape { refusal result ≡ refusal (standings_of (now element.entry)) }
+    ensures fault { IfOk result (λ fault. fault ≡ list_fault holder (items_at standing_in (inside (now element.entry)))) }
+{
+    let findings = walk(element, holder)?;
+    if findings.have_ends_of_their_own {
+        return Ok(findings.fault);
+    }
+    match first_repeated::<Extension<'_>>(element) {
+        Some(extension) => Ok(Some(CertFault {
+            kind: CertRule::DuplicateExtension,
+            at: extension.at,
+        })),
+        None => Ok(findings.fault),
+    }
+}
+
+/// What a walk over the extensions of a list finds.
+#[derive(Clone, Copy)]
+struct Findings {
+    /// The first rule that a value breaks.
+    fault: Option<CertFault>,
+    /// Whether no two object identifiers end in one octet, so that none stands twice.
+    have_ends_of_their_own: bool,
+}
+
+/// Walks the extensions of a list.
+fn walk(element: Element<'_>, holder: Holder) -> Result<Findings, Fault>
+    ensures shape { refusal result ≡ refusal (standings_of (now element.entry)) }
+    ensures fault { IfOk result (λ found. found.fault ≡ values_fault holder (items_at standing_in (inside (now element.entry)))) }
+    ensures ends { IfOk result (λ found. found.have_ends_of_their_own ≡ true → first_repeated_of (λ x. x.extnID) [] (items_at standing_in (inside (now element.entry))) ≡ None) }
+{
+    let mut rest = element.reader();
+    let mut ends = Ends::new();
+    let mut found = Findings {
+        fault: None,
+        have_ends_of_their_own: true,
+    };
+    while !rest.is_at_end() {
+        let extension = next_item::<Extension<'_>>(&mut rest)?;
+        found = found.with(&mut ends, holder, extension);
+    }
+    if element.content.is_empty() {
+        return Err(Fault {
+            kind: DerFault::Empty,
+            at: element.at,
+        });
+    }
+    Ok(found)
+}
+
+impl Findings {
+    ghost use Rattle.std.specs.Prelude.{◌≡◌, ◌∷◌, ℕ, List, true, false};
+    ghost use Rattle.ts_name.specs.Repeats.{HaveEnds, is_among};
+    ghost use Rattle.ts_name.specs.Shape.{◌or_else◌};
+    ghost use Rattle.ts_ext.specs.ExtensionView.{standing_as};
+    ghost use Rattle.ts_ext.specs.ValueRules.{value_fault};
+
+    /// What is found with one extension more.
+    #[inline(always)]
+    fn with(self, ends: &mut Ends, holder: Holder, extension: Extension<'_>) -> Findings
+        ensures fault { result.fault ≡ (self.fault or_else value_fault holder (standing_as extension.entry)) }
+        ensures before { result.have_ends_of_their_own ≡ true → self.have_ends_of_their_own ≡ true }
+        ensures new { (keys : List (List ℕ)) → HaveEnds keys ends.old → result.have_ends_of_their_own ≡ true → is_among (standing_as extension.entry).extnID keys ≡ false }
+        ensures met { (keys : List (List ℕ)) → HaveEnds keys ends.old → HaveEnds ((standing_as extension.entry).extnID ∷ keys) ends.new }
+    {
+        let is_new = ends.is_new(extension.key());
+        Findings {
+            fault: match self.fault {
+                Some(fault) => Some(fault),
+                None => broken_value(holder, extension),
+            },
+            have_ends_of_their_own: is_new && self.have_ends_of_their_own,
+        }
+    }
+}
