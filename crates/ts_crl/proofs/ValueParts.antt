@@ -42,15 +42,3 @@ lent-anywhere known e fits r o read is = ap (λ (q : Option Ext). option_map ext
     by_result : (r : Result Ext Fault) → Answers ext_in r (ext_of known e) → option_map ext_in (result_ok r) ≡ ok_of (ext_of known e)
     by_result (Ok x) a = ap (λ (q : Result ExtValue Fault). ok_of q) (sym a)
     by_result (Err f) a = ap (λ (q : Result ExtValue Fault). ok_of q) (sym a)
-
--- ---- reasons
-
--- what a reason is refused for is the first rule that it breaks
-pub reason-judged : (v : Tlv) (r : Result ReasonCode Fault) → Answers (λ x. reasonCode x) r (ext_of (Some ReasonExtension) v)
-    → option_map about (refusal r) ≡ (ext_fault (Some ReasonExtension) v or_else content_fault 0 (ext_of (Some ReasonExtension) v))
-reason-judged v (Ok x) a =
-    let none : None ≡ ext_fault (Some ReasonExtension) v = about-judged (λ x. reasonCode x) (Ok x) (ext_of (Some ReasonExtension) v) _ (λ x. Unit {0}) a (ext-judged (Some ReasonExtension) v) in
-    rw (← none, a) refl
-reason-judged v (Err f) a =
-    let some : Some (about f) ≡ ext_fault (Some ReasonExtension) v = about-judged (λ x. reasonCode x) (Err f) (ext_of (Some ReasonExtension) v) _ (λ x. Unit {0}) a (ext-judged (Some ReasonExtension) v) in
-    rw (← some) refl

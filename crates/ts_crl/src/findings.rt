@@ -1,24 +1,20 @@
 //! What the rules of a list ask of the extensions of its entries.
 
-ghost use Rattle.std.specs.Prelude.{◌≡◌, ◌||◌, [], ◌∷◌, Some};
+ghost use Rattle.std.specs.Prelude.{◌≡◌, ◌||◌, [], ◌∷◌};
 ghost use Rattle.std.specs.Option.{option_copied};
-ghost use Rattle.ts_der.specs.Answer.{Answers};
-ghost use Rattle.ts_der.specs.View.{now};
 ghost use Rattle.ts_name.specs.Shape.{◌or_else◌};
 ghost use Rattle.ts_ext.specs.declared.known.Holder.TheVariants.{Entry as EntryHolder};
-ghost use Rattle.ts_ext.specs.declared.known.Known.TheVariants.{CertificateIssuer, ReasonCode as ReasonExtension};
-ghost use Rattle.ts_ext.specs.Ext.{reasonCode, ext_of, ext_fault};
+ghost use Rattle.ts_ext.specs.declared.known.Known.TheVariants.{CertificateIssuer};
 ghost use Rattle.ts_ext.specs.ExtensionView.{standing_as};
-ghost use Rattle.ts_ext.specs.ValueRules.{content_fault, value_fault as value_fault_of};
+ghost use Rattle.ts_ext.specs.ValueRules.{value_fault as value_fault_of};
 ghost use Rattle.ts_crl.specs.EntryView.{extension_as};
 ghost use Rattle.ts_crl.specs.Findings.{findings_of};
 ghost use Rattle.ts_crl.specs.FindingsView.{findings_in};
 ghost use Rattle.ts_crl.specs.Profile.{unprocessed_in};
 ghost use Rattle.ts_crl.specs.Values.{is_known};
 
-use ts_der::{Element, Fault};
-use ts_ext::{Ext, Extension, Holder, Known, ReasonCode};
-use ts_name::{CertFault, tagged_as};
+use ts_ext::{Extension, Holder, Known};
+use ts_name::CertFault;
 
 /// What the rules of a list ask of the extensions of its entries (RFC 5280 4.2, 5.1.2.1, 5.3), found while these are read.
 #[derive(Clone, Copy)]
@@ -33,45 +29,6 @@ pub(crate) struct Findings<'a> {
     pub unprocessed: Option<&'a [u8]>,
     /// Whether an entry names another issuer.
     pub names_issuer: bool,
-}
-
-/// The reason that the one element within an OCTET STRING is.
-#[tactic(auto, unfolding(ts_ext::specs::Ext::ext_of, ts_name::specs::Items::alone, ts_name::specs::Items::each, ts_name::specs::Items::of_tag))]
-fn read_reason(octets: Element<'_>) -> Result<ReasonCode, Fault>
-    ensures { Answers (λ r. reasonCode r) result (ext_of (Some ReasonExtension) (now octets.entry)) }
-{
-    let mut rest = octets.reader();
-    let reason = ReasonCode::read(tagged_as(rest.next()?, Known::ReasonCode.tag())?)?;
-    rest.end()?;
-    Ok(reason)
-}
-
-/// The first rule that a reason breaks.
-fn reason_fault(octets: Element<'_>) -> Option<CertFault>
-    ensures { result ≡ (ext_fault (Some ReasonExtension) (now octets.entry) or_else content_fault 0 (ext_of (Some ReasonExtension) (now octets.entry))) }
-{
-    match read_reason(octets) {
-        Ok(_) => None,
-        Err(fault) => Some(fault.into()),
-    }
-}
-
-/// The first rule that the value of an extension of an entry breaks. Most are reasons, which are read without room for the
-/// other values.
-fn value_fault(extension: Extension<'_>) -> Option<CertFault>
-    ensures { result ≡ value_fault_of EntryHolder (standing_as extension.entry) }
-{
-    let Extension { id, value, .. } = extension;
-    if let Some(Known::ReasonCode) = Known::at(Holder::Entry, id) {
-        return reason_fault(value);
-    }
-    match Ext::read(Holder::Entry, id, value) {
-        Ok(ext) => {
-            let kind = ext.broken_rule()?;
-            Some(CertFault { kind, at: 0 })
-        }
-        Err(fault) => Some(fault.into()),
-    }
 }
 
 /// The object identifier of an extension of an entry, if it is critical and not processed.
@@ -115,7 +72,7 @@ impl<'a> Findings<'a> {
         ensures issuer { self.new.names_issuer ≡ (self.old.names_issuer || is_known CertificateIssuer (extension_as extension.entry)) }
     {
         if self.value.is_none() {
-            self.value = value_fault(extension);
+            self.value = extension.first_fault(Holder::Entry);
         }
         if self.unprocessed.is_none() {
             self.unprocessed = unprocessed(extension);

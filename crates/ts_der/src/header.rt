@@ -1,6 +1,6 @@
 //! The identifier and length octets of an element (X.690 8.1.2, 8.1.3).
 
-ghost use Rattle.std.specs.Prelude.{◌≡◌, ℕ, ◌+◌, ◌<◌, ◌≤◌, length, nat_lt, if◌then◌else◌, Ok, Err, IfOk};
+ghost use Rattle.std.specs.Prelude.{◌≡◌, ℕ, ◌+◌, ◌<◌, ◌≤◌, ◌%◌, ◌==◌, false, ◌∷◌, length, nat_lt, if◌then◌else◌, Ok, Err, IfOk};
 ghost use Rattle.ts_der.specs.declared.fault.DerFault.TheVariants.{Truncated};
 ghost use Rattle.ts_der.specs.Answer.{refusal};
 ghost use Rattle.ts_der.specs.Rules.{first_broken};
@@ -19,6 +19,7 @@ pub struct Header {
 
 impl Header {
     /// A header of these parts, if as much content follows it as it announces.
+    #[inline(always)]
     fn before(content: &[u8], tag: u8, size: usize, announced: usize) -> Result<Header, DerFault>
         ensures { result ≡ (if nat_lt (length content.now) announced then Err Truncated
             else Ok (record { tag = tag; size = size; length = announced })) }
@@ -50,8 +51,38 @@ pub fn number_of(octets: &[u8]) -> usize
     }
 }
 
+/// The header of a length in the long form (X.690 8.1.3.5), by its tag, its first length octet and what follows.
+#[tactic(auto, unfolding(crate::specs::Header::header_rules, crate::specs::Header::length_of))]
+fn read_long_form(tag: u8, form: u8, more: &[u8]) -> Result<Header, DerFault>
+    requires low { (tag % 32 == 31) ≡ false }
+    requires long { 0x80 ≤ form }
+    ensures fault { refusal result ≡ first_broken header_rules (tag ∷ form ∷ more.now) }
+    ensures tag { IfOk result (λ h. h.tag ≡ tag) }
+    ensures size { IfOk result (λ h. h.size ≡ header_size (tag ∷ form ∷ more.now)) }
+    ensures length { IfOk result (λ h. h.length ≡ length_of (tag ∷ form ∷ more.now)) }
+    ensures whole { IfOk result (λ h. h.size + h.length ≤ 2 + length more.now) }
+{
+    if form == 0x80 {
+        return Err(DerFault::Indefinite);
+    }
+    if form > 0x84 {
+        return Err(DerFault::TooLarge);
+    }
+    let count = form as usize - 0x80;
+    if more.len() < count {
+        return Err(DerFault::Truncated);
+    }
+    let (digits, content) = more.split_at(count);
+    let length = number_of(digits);
+    if digits[0] == 0 || length < 0x80 {
+        return Err(DerFault::LongLength);
+    }
+    Header::before(content, tag, 2 + count, length)
+}
+
 /// The header that octets begin with.
 #[tactic(auto, unfolding(crate::specs::Header::header_rules, crate::specs::Header::length_of))]
+#[inline(always)]
 pub fn read_header(rest: &[u8]) -> Result<Header, DerFault>
     ensures fault { refusal result ≡ first_broken header_rules rest.now }
     ensures tag { IfOk result (λ h. h.tag ≡ tag_of rest.now) }
@@ -71,20 +102,5 @@ pub fn read_header(rest: &[u8]) -> Result<Header, DerFault>
     if *form < 0x80 {
         return Header::before(more, *tag, 2, *form as usize);
     }
-    if *form == 0x80 {
-        return Err(DerFault::Indefinite);
-    }
-    if *form > 0x84 {
-        return Err(DerFault::TooLarge);
-    }
-    let count = *form as usize - 0x80;
-    if more.len() < count {
-        return Err(DerFault::Truncated);
-    }
-    let (digits, content) = more.split_at(count);
-    let length = number_of(digits);
-    if digits[0] == 0 || length < 0x80 {
-        return Err(DerFault::LongLength);
-    }
-    Header::before(content, *tag, 2 + count, length)
+    read_long_form(*tag, *form, more)
 }

@@ -10,6 +10,7 @@ pub mod KeyAndConstraints
 pub mod Lists
 pub mod Policies
 pub mod Exts
+pub mod ValueFaults
 pub mod ExtensionParts
 pub mod Said
 pub mod Soundness

@@ -124,13 +124,15 @@ explicit_extensions-see = alone-sees (map said) (of_tag 0x30 standings_of) (of_t
 
 -- ---- a list that was read is seen as what its extensions say
 
-as_said : (value : Tlv → Result (List Standing) Fault) (other : Tlv → Result (List Extension) Fault) → Sees (map said) value other
-    → (e : Tlv) (r : Result Extensions Fault) → Answers standings_in r (value e) → Answers extensions_in r (other e)
-as_said value other sees e (Ok x) a = sees e ∙ ap (λ (r : Result (List Standing) Fault). r >>= λ xs. Ok (map said xs)) a
-as_said value other sees e (Err f) a = sees e ∙ ap (λ (r : Result (List Standing) Fault). r >>= λ xs. Ok (map said xs)) a
+as_said : {X : Type 0} (list : X → Extensions) (value : Tlv → Result (List Standing) Fault) (other : Tlv → Result (List Extension) Fault) → Sees (map said) value other
+    → (e : Tlv) (r : Result X Fault) → Answers (λ x. standings_in (list x)) r (value e) → Answers (λ x. extensions_in (list x)) r (other e)
+as_said list value other sees e (Ok x) a = sees e ∙ ap (λ (r : Result (List Standing) Fault). r >>= λ xs. Ok (map said xs)) a
+as_said list value other sees e (Err f) a = sees e ∙ ap (λ (r : Result (List Standing) Fault). r >>= λ xs. Ok (map said xs)) a
 
 pub say : (e : Tlv) (r : Result Extensions Fault) → Answers standings_in r (standings_of e) → Answers extensions_in r (extensions_of e)
-say = as_said standings_of extensions_of extensions-see
+say = as_said (λ x. x) standings_of extensions_of extensions-see
 
-pub say-explicit : (e : Tlv) (r : Result Extensions Fault) → Answers standings_in r (explicit_standings_of e) → Answers extensions_in r (explicit_extensions_of e)
-say-explicit = as_said explicit_standings_of explicit_extensions_of explicit_extensions-see
+-- the same of what holds the list
+pub say-explicit : {X : Type 0} (list : X → Extensions) (e : Tlv) (r : Result X Fault) → Answers (λ x. standings_in (list x)) r (explicit_standings_of e)
+    → Answers (λ x. extensions_in (list x)) r (explicit_extensions_of e)
+say-explicit list = as_said list explicit_standings_of explicit_extensions_of explicit_extensions-see

@@ -2,6 +2,8 @@
 -- (RFC 5280 4.2, 5.2, 5.3).
 use Rattle.std.specs.Prelude.{◌≡◌, ℕ, List, [], ◌∷◌, Option, None, Result, Ok, Err, option_map}
 use Rattle.ts_der.specs.declared.fault.Fault.{Fault}
+use Rattle.ts_der.specs.Answer.{◌>>=◌}
+use Rattle.ts_name.specs.declared.fault.CertRule.{CertRule}
 use Rattle.ts_name.specs.declared.fault.CertRule.TheVariants.{DuplicateExtension}
 use Rattle.ts_name.specs.declared.fault.CertFault.{CertFault}
 use Rattle.ts_name.specs.Fault.{breaks}
@@ -23,7 +25,11 @@ abbrev pub rule_place : Holder → ℕ → ℕ
 rule_place Certificate at = at
 rule_place other at = 0
 
--- the rule beside those of DER that a value breaks, where it was read
+-- the rule beside those of DER that a value breaks, if it can be read
+abbrev pub rule_of : Result ExtValue Fault → Result (Option CertRule) Fault
+rule_of read = read >>= λ x. Ok (broken_rule x)
+
+-- the same as a fault of an extension at a place, where it was read
 abbrev pub content_fault : ℕ → Result ExtValue Fault → Option CertFault
 content_fault at (Ok value) = option_map (breaks at) (broken_rule value)
 content_fault at (Err fault) = None

@@ -56,7 +56,7 @@ pub enum Ext<'a> {
 }
 
 /// The value of an extension that an element's content is.
-fn read_content<'a>(known: Known, element: Element<'a>) -> Result<Ext<'a>, Fault>
+pub(crate) fn read_content<'a>(known: Known, element: Element<'a>) -> Result<Ext<'a>, Fault>
     ensures { Answers ext_in result (content_of known (now element.entry)) }
 {
     Ok(match known {

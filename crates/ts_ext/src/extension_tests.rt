@@ -156,6 +156,38 @@ fn the_first_rule_that_values_break(rt: HostRuntime) -> Result<(), Fail> {
     Ok(())
 }
 
+/// The rule that the extensions within an explicit tag break in a certificate, and where.
+fn judged(octets: &[u8]) -> Result<Option<(CertRule, usize)>, Fault> {
+    let list = Judged::read_explicit(Reader::new(octets).next()?, Holder::Certificate)?;
+    Ok(list.fault.map(|f| (f.kind, f.at)))
+}
+
+#[test]
+fn a_list_is_read_and_judged(rt: HostRuntime) -> Result<(), Fail> {
+    for (octets, wanted) in [
+        (
+            b"\xa3\x10\x30\x0e\x30\x0c\x06\x03\x55\x1d\x11\x04\x05\x30\x03\x82\x01\x61",
+            None,
+        ),
+        // An unknown extension that stands twice.
+        (
+            b"\xa3\x14\x30\x12\x30\x07\x06\x03\x55\x1d\x62\x04\x00\x30\x07\x06\x03\x55\x1d\x62\x04\x00",
+            Some((CertRule::DuplicateExtension, 13)),
+        ),
+        // An unknown extension, and then an address of 5 octets.
+        (
+            b"\xa3\x1d\x30\x1b\x30\x07\x06\x03\x55\x1d\x63\x04\x00\x30\x10\x06\x03\x55\x1d\x11\x04\x09\x30\x07\x87\x05\x0a\x00\x00\x01\x02",
+            Some((CertRule::AddressLength, 13)),
+        ),
+    ] {
+        assert_eq!(rt; judged(octets)?, wanted);
+    }
+    // Something behind the list.
+    let more = b"\xa3\x12\x30\x0e\x30\x0c\x06\x03\x55\x1d\x11\x04\x05\x30\x03\x82\x01\x61\x05\x00";
+    assert_eq!(rt; refusal(judged(more)), Some((DerFault::Trailing, 18)));
+    Ok(())
+}
+
 #[test]
 fn an_extension_is_found_by_its_name(rt: HostRuntime) {
     for (octets, known, wanted) in [

@@ -7,22 +7,19 @@ ghost use Rattle.ts_der.specs.Answer.{Answers, refusal};
 ghost use Rattle.ts_der.specs.Element.{inside};
 ghost use Rattle.ts_der.specs.View.{now};
 ghost use Rattle.ts_name.specs.Fault.{about};
-ghost use Rattle.ts_name.specs.Shape.{no_rules, ◌or_else◌};
 ghost use Rattle.ts_name.specs.Items.{items_at};
 ghost use Rattle.ts_name.specs.Repeats.{first_repeated as first_repeated_of};
 ghost use Rattle.ts_ext.specs.Inner.{inner_fault};
-ghost use Rattle.ts_ext.specs.Extension.{Extension as Stated, AreExtensions, AreExplicit, extensions, explicit_extensions, standing_in, extensions_of, explicit_extensions_of, standings_of, explicit_standings_of};
+ghost use Rattle.ts_ext.specs.Extension.{Extension as Stated, AreExtensions, extensions, standing_in, extensions_of, standings_of};
 ghost use Rattle.ts_ext.specs.ExtensionView.{standing_as, standings_in, extensions_in};
 ghost use Rattle.ts_ext.specs.Known.{identifier_of};
 ghost use Rattle.ts_ext.specs.Table.{list_rules};
-ghost use Rattle.ts_ext.specs.ValueRules.{repeated_fault, rule_place, value_fault, values_fault, list_fault, AreSound};
+ghost use Rattle.ts_ext.specs.ValueRules.{value_fault, values_fault, AreSound};
 
-use crate::ext::Ext;
 use crate::extension::Extension;
-use crate::fields::SEQUENCE;
 use crate::known::{Holder, Known};
 use ts_der::{Element, Fault};
-use ts_name::{CertFault, CertRule, SequenceItems, SequenceOf, first_repeated, tagged_as};
+use ts_name::{CertFault, SequenceItems, SequenceOf, first_repeated};
 
 /// Extensions, one or more (RFC 5280 4.1, 4.2).
 #[derive(Clone, Copy)]
@@ -51,25 +48,8 @@ impl<'a> Extensions<'a> {
         read_extensions(element)
     }
 
-    /// The list that the one SEQUENCE within an explicit tag is, whatever the values say.
-    ///
-    /// # Errors
-    ///
-    /// The first rule that is broken, with its place: the header and the tag of the SEQUENCE, the rules of `read`, and
-    /// `Trailing`.
-    pub fn read_explicit(element: Element<'a>) -> Result<Extensions<'a>, Fault>
-        ensures found { IfOk result (λ x. AreExplicit element.entry.content.now (extensions_in x)) }
-        ensures only { (xs : List Stated) → AreExplicit element.entry.content.now xs → IsOkAnd result (λ x. extensions_in x ≡ xs) }
-        ensures fault { option_map about (refusal result) ≡ inner_fault explicit_extensions no_rules (now element.entry) }
-        ensures exact { Answers extensions_in result (explicit_extensions_of (now element.entry)) }
-        // The same with the place of each.
-        ensures placed { Answers standings_in result (explicit_standings_of (now element.entry)) }
-    {
-        read_within(element)
-    }
-
-    /// The list within a SEQUENCE that `read` has accepted before. Of another element it is what stands before the first
-    /// that is no extension.
+    /// The list within a SEQUENCE that `read` or `Judged::read_explicit` has accepted before. Of another element it is what
+    /// stands before the first that is no extension.
     pub fn within(element: Element<'a>) -> Extensions<'a>
         ensures { standings_in result ≡ items_at standing_in (inside (now element.entry)) }
     {
@@ -106,29 +86,13 @@ impl<'a> Extensions<'a> {
         first_repeated(self.list.element)
     }
 
-    /// The first rule that the values break, each read as `Ext::read` does and then asked for `Ext::broken_rule`, one
-    /// extension after another. The place of a rule beside those of DER is the extension in a certificate, and 0 in a
-    /// list.
+    /// The first rule that the values break, one extension after another, as `Extension::first_fault` finds it in each.
     pub fn broken_rule(self, holder: Holder) -> Option<CertFault>
         ensures fault { result ≡ values_fault holder (standings_in self.entry) }
         // None exactly where each value is one that its extension has and breaks no rule.
         ensures sound { (result ≡ None) ↔ AreSound holder (extensions_in self.entry) }
     {
         first_broken_value(self, holder)
-    }
-
-    /// The first rule that the list breaks: `DuplicateExtension` at the first extension that stands twice, then the first
-    /// rule that a value breaks.
-    pub fn first_fault(self, holder: Holder) -> Option<CertFault>
-        ensures { result ≡ list_fault holder (standings_in self.entry) }
-    {
-        match first_repeated::<Extension<'a>>(self.list.element) {
-            Some(extension) => Some(CertFault {
-                kind: CertRule::DuplicateExtension,
-                at: extension.at,
-            }),
-            None => first_broken_value(self, holder),
-        }
     }
 }
 
@@ -140,53 +104,15 @@ fn read_extensions<'a>(element: Element<'a>) -> Result<Extensions<'a>, Fault>
     })
 }
 
-#[tactic(auto, unfolding(ts_name::specs::Items::alone, ts_name::specs::Items::each, ts_name::specs::Items::of_tag))]
-fn read_within<'a>(element: Element<'a>) -> Result<Extensions<'a>, Fault>
-    ensures { Answers standings_in result (explicit_standings_of (now element.entry)) }
-{
-    let mut rest = element.reader();
-    let extensions = read_extensions(tagged_as(rest.next()?, SEQUENCE)?)?;
-    rest.end()?;
-    Ok(extensions)
-}
-
 /// The first rule that the values of a list break.
 #[inline(always)]
 fn first_broken_value(extensions: Extensions<'_>, holder: Holder) -> Option<CertFault>
     ensures { result ≡ values_fault holder (standings_in extensions.entry) }
 {
     for extension in extensions.iter() {
-        if let Some(fault) = broken_value(holder, extension) {
+        if let Some(fault) = extension.first_fault(holder) {
             return Some(fault);
         }
     }
     None
-}
-
-/// The place of a rule beside those of DER that the value of an extension at this place breaks.
-fn place_of(holder: Holder, at: usize) -> usize
-    ensures { result ≡ rule_place holder at }
-{
-    match holder {
-        Holder::Certificate => at,
-        Holder::List | Holder::Entry => 0,
-    }
-}
-
-/// The first rule that the value of an extension breaks.
-#[inline(always)]
-pub(crate) fn broken_value<'a>(holder: Holder, extension: Extension<'a>) -> Option<CertFault>
-    ensures { result ≡ value_fault holder (standing_as extension.entry) }
-{
-    let Extension { at, id, value, .. } = extension;
-    match Ext::read(holder, id, value) {
-        Ok(ext) => {
-            let kind = ext.broken_rule()?;
-            Some(CertFault {
-                kind,
-                at: place_of(holder, at),
-            })
-        }
-        Err(fault) => Some(fault.into()),
-    }
 }

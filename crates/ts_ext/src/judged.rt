@@ -1,17 +1,20 @@
 //! Extensions that are read, and judged in the same walk.
 
-ghost use Rattle.std.specs.Prelude.{◌≡◌, [], true, None, IfOk};
+ghost use Rattle.std.specs.Prelude.{◌≡◌, List, [], true, None, IfOk, IsOkAnd, option_map};
 ghost use Rattle.ts_der.specs.Answer.{Answers, refusal};
 ghost use Rattle.ts_der.specs.Element.{inside};
 ghost use Rattle.ts_der.specs.View.{now};
+ghost use Rattle.ts_name.specs.Fault.{about};
 ghost use Rattle.ts_name.specs.Items.{items_at};
 ghost use Rattle.ts_name.specs.Repeats.{first_repeated as first_repeated_of};
-ghost use Rattle.ts_ext.specs.Extension.{standing_in, standings_of, explicit_standings_of};
-ghost use Rattle.ts_ext.specs.ExtensionView.{standings_in};
+ghost use Rattle.ts_name.specs.Shape.{no_rules};
+ghost use Rattle.ts_ext.specs.Inner.{inner_fault};
+ghost use Rattle.ts_ext.specs.Extension.{Extension as Stated, AreExplicit, explicit_extensions, standing_in, standings_of, explicit_standings_of};
+ghost use Rattle.ts_ext.specs.ExtensionView.{standings_in, extensions_in};
 ghost use Rattle.ts_ext.specs.ValueRules.{values_fault, list_fault};
 
 use crate::extension::Extension;
-use crate::extensions::{Extensions, broken_value};
+use crate::extensions::Extensions;
 use crate::fields::SEQUENCE;
 use crate::known::Holder;
 use ts_der::{DerFault, Element, Fault};
@@ -21,17 +24,27 @@ use ts_name::{CertFault, CertRule, Ends, Keyed, first_repeated, next_item, tagge
 #[derive(Clone, Copy)]
 pub struct Judged<'a> {
     pub extensions: Extensions<'a>,
-    /// What `Extensions::first_fault` finds.
+    /// `DuplicateExtension` at the first extension that stands twice, else the first rule that a value breaks, as
+    /// `Extensions::broken_rule` finds it.
     pub fault: Option<CertFault>,
 }
 
 impl<'a> Judged<'a> {
-    /// The list that the one SEQUENCE within an explicit tag is, as `Extensions::read_explicit` reads it, and the first
-    /// rule that it breaks in a holder, as `Extensions::first_fault` finds it. A list is walked once, if its object
-    /// identifiers end in octets of their own; else it is then searched for one that stands twice.
+    /// The list that the one SEQUENCE within an explicit tag is, and the first rule that it breaks in a holder. A list is
+    /// walked once, if its object identifiers end in octets of their own; else it is then searched for one that stands
+    /// twice.
+    ///
+    /// # Errors
+    ///
+    /// The first rule of the shape that is broken, with its place: the header and the tag of the SEQUENCE, the rules of
+    /// `Extensions::read`, and `Trailing`.
     pub fn read_explicit(element: Element<'a>, holder: Holder) -> Result<Judged<'a>, Fault>
+        ensures found { IfOk result (λ j. AreExplicit element.entry.content.now (extensions_in j.extensions)) }
+        ensures only { (xs : List Stated) → AreExplicit element.entry.content.now xs → IsOkAnd result (λ j. extensions_in j.extensions ≡ xs) }
+        ensures fault { option_map about (refusal result) ≡ inner_fault explicit_extensions no_rules (now element.entry) }
+        // The same with the place of each.
         ensures placed { Answers (λ j. standings_in j.extensions) result (explicit_standings_of (now element.entry)) }
-        ensures fault { IfOk result (λ j. j.fault ≡ list_fault holder (standings_in j.extensions)) }
+        ensures judged { IfOk result (λ j. j.fault ≡ list_fault holder (standings_in j.extensions)) }
     {
         judge_explicit(element, holder)
     }
@@ -41,7 +54,7 @@ impl<'a> Judged<'a> {
 #[inline(always)]
 fn judge_explicit<'a>(element: Element<'a>, holder: Holder) -> Result<Judged<'a>, Fault>
     ensures placed { Answers (λ j. standings_in j.extensions) result (explicit_standings_of (now element.entry)) }
-    ensures fault { IfOk result (λ j. j.fault ≡ list_fault holder (standings_in j.extensions)) }
+    ensures judged { IfOk result (λ j. j.fault ≡ list_fault holder (standings_in j.extensions)) }
 {
     let mut rest = element.reader();
     let judged = judge(tagged_as(rest.next()?, SEQUENCE)?, holder)?;
@@ -53,7 +66,7 @@ fn judge_explicit<'a>(element: Element<'a>, holder: Holder) -> Result<Judged<'a>
 #[inline(always)]
 fn judge<'a>(element: Element<'a>, holder: Holder) -> Result<Judged<'a>, Fault>
     ensures placed { Answers (λ j. standings_in j.extensions) result (standings_of (now element.entry)) }
-    ensures fault { IfOk result (λ j. j.fault ≡ list_fault holder (standings_in j.extensions)) }
+    ensures judged { IfOk result (λ j. j.fault ≡ list_fault holder (standings_in j.extensions)) }
 {
     let fault = fault_of_list(element, holder)?;
     Ok(Judged {
@@ -134,7 +147,7 @@ impl Findings {
         Findings {
             fault: match self.fault {
                 Some(fault) => Some(fault),
-                None => broken_value(holder, extension),
+                None => extension.first_fault(holder),
             },
             have_ends_of_their_own: is_new && self.have_ends_of_their_own,
         }

@@ -9,6 +9,7 @@ mod basic_constraints;
 #[cfg(test)]
 mod bit_tests;
 mod certificate_policies;
+mod checks;
 #[cfg(test)]
 mod constraint_tests;
 mod crl_number;
