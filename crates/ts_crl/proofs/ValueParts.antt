@@ -1,22 +1,16 @@
 -- The value of an extension is the same wherever it stands.
-use Rattle.std.proofs.Common.{◌≡◌, List, Option, Some, None, Result, Ok, Err, ℕ, refl, sym, ap, subst, ◌∙◌}
+use Rattle.std.proofs.Common.{◌≡◌, List, Option, Result, Ok, Err, ℕ, refl, sym, ap, subst, ◌∙◌}
 use Rattle.std.specs.Prelude.{option_map}
 use Rattle.std.specs.Result.{result_ok}
 use Rattle.ts_der.specs.declared.fault.Fault.{Fault}
 use Rattle.ts_der.specs.Octets.{AreOctets}
-use Rattle.ts_der.specs.Answer.{Answers, refusal}
+use Rattle.ts_der.specs.Answer.{Answers}
 use Rattle.ts_der.specs.Element.{Tlv, spelled_at}
-use Rattle.ts_name.specs.Fault.{about}
-use Rattle.ts_name.specs.Shape.{◌or_else◌}
-use Rattle.ts_name.proofs.Judging.{about-judged}
 use Rattle.ts_ext.specs.declared.ext.Ext.{Ext}
 use Rattle.ts_ext.specs.declared.known.Known.{Known}
-use Rattle.ts_ext.specs.declared.known.Known.TheVariants.{ReasonCode as ReasonExtension}
-use Rattle.ts_ext.specs.declared.reason_code.ReasonCode.{ReasonCode}
-use Rattle.ts_ext.specs.Ext.{ExtValue, IsExt, reasonCode, ext_of, ext_fault}
+use Rattle.ts_ext.specs.Ext.{ExtValue, IsExt, ext_of}
 use Rattle.ts_ext.specs.ExtView.{ext_in}
-use Rattle.ts_ext.specs.ValueRules.{content_fault}
-use Rattle.ts_ext.proofs.Exts.{ext-found, ext-again, ext-judged}
+use Rattle.ts_ext.proofs.Exts.{ext-found, ext-again}
 use Rattle.ts_crl.specs.Values.{ok_of, value_in_octets}
 
 -- what is read at one place is read at another

@@ -1,5 +1,5 @@
 -- The first rule that a value breaks, found of one that is not kept.
-use Rattle.std.proofs.Common.{◌≡◌, ℕ, Option, Some, None, Result, Ok, Err, refl, sym, ap, ◌∙◌}
+use Rattle.std.proofs.Common.{◌≡◌, ℕ, Option, Some, Result, Ok, Err, sym, ap}
 use Rattle.std.specs.Prelude.{option_map}
 use Rattle.ts_der.specs.declared.fault.Fault.{Fault}
 use Rattle.ts_der.specs.Answer.{Answers}
@@ -11,7 +11,6 @@ use Rattle.ts_name.specs.Shape.{◌or_else◌}
 use Rattle.ts_name.proofs.Judging.{Judged}
 use Rattle.ts_ext.specs.declared.known.Known.{Known}
 use Rattle.ts_ext.specs.Ext.{ExtValue, ext_of, ext_fault}
-use Rattle.ts_ext.specs.Rules.{broken_rule}
 use Rattle.ts_ext.specs.ValueRules.{rule_of, content_fault}
 use Rattle.ts_ext.proofs.Exts.{ext-judged}
 

@@ -29,6 +29,22 @@ const FIVE: &[u8] =
 const ISSUER_FIVE: &[u8] =
     b"\x30\x12\x30\x10\x06\x03\x55\x1d\x12\x04\x09\x30\x07\x87\x05\x0a\x00\x00\x01\x02";
 
+/// The host `a` within an explicit tag.
+const TAGGED_HOST: &[u8] =
+    b"\xa3\x10\x30\x0e\x30\x0c\x06\x03\x55\x1d\x11\x04\x05\x30\x03\x82\x01\x61";
+
+/// The same, and then NULL.
+const MORE_THAN_HOST: &[u8] =
+    b"\xa3\x12\x30\x0e\x30\x0c\x06\x03\x55\x1d\x11\x04\x05\x30\x03\x82\x01\x61\x05\x00";
+
+/// An unknown extension twice, within an explicit tag.
+const TAGGED_TWICE: &[u8] =
+    b"\xa3\x14\x30\x12\x30\x07\x06\x03\x55\x1d\x62\x04\x00\x30\x07\x06\x03\x55\x1d\x62\x04\x00";
+
+/// `FIVE` within an explicit tag.
+const TAGGED_FIVE: &[u8] =
+    b"\xa3\x1d\x30\x1b\x30\x07\x06\x03\x55\x1d\x63\x04\x00\x30\x10\x06\x03\x55\x1d\x11\x04\x09\x30\x07\x87\x05\x0a\x00\x00\x01\x02";
+
 /// The subject's alternative name, without a name.
 const NO_NAME: &[u8] = b"\x30\x0b\x30\x09\x06\x03\x55\x1d\x11\x04\x02\x30\x00";
 
@@ -165,26 +181,16 @@ fn judged(octets: &[u8]) -> Result<Option<(CertRule, usize)>, Fault> {
 #[test]
 fn a_list_is_read_and_judged(rt: HostRuntime) -> Result<(), Fail> {
     for (octets, wanted) in [
-        (
-            b"\xa3\x10\x30\x0e\x30\x0c\x06\x03\x55\x1d\x11\x04\x05\x30\x03\x82\x01\x61",
-            None,
-        ),
-        // An unknown extension that stands twice.
-        (
-            b"\xa3\x14\x30\x12\x30\x07\x06\x03\x55\x1d\x62\x04\x00\x30\x07\x06\x03\x55\x1d\x62\x04\x00",
-            Some((CertRule::DuplicateExtension, 13)),
-        ),
-        // An unknown extension, and then an address of 5 octets.
-        (
-            b"\xa3\x1d\x30\x1b\x30\x07\x06\x03\x55\x1d\x63\x04\x00\x30\x10\x06\x03\x55\x1d\x11\x04\x09\x30\x07\x87\x05\x0a\x00\x00\x01\x02",
-            Some((CertRule::AddressLength, 13)),
-        ),
+        (TAGGED_HOST, None),
+        (TAGGED_TWICE, Some((CertRule::DuplicateExtension, 13))),
+        (TAGGED_FIVE, Some((CertRule::AddressLength, 13))),
     ] {
         assert_eq!(rt; judged(octets)?, wanted);
     }
-    // Something behind the list.
-    let more = b"\xa3\x12\x30\x0e\x30\x0c\x06\x03\x55\x1d\x11\x04\x05\x30\x03\x82\x01\x61\x05\x00";
-    assert_eq!(rt; refusal(judged(more)), Some((DerFault::Trailing, 18)));
+    assert_eq!(rt;
+        refusal(judged(MORE_THAN_HOST)),
+        Some((DerFault::Trailing, 18))
+    );
     Ok(())
 }
 
