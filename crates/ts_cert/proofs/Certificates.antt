@@ -204,12 +204,12 @@ together content first second third v n a i p u k l version begins goes ends =
     }
 
 -- what is signed, as it was read
-record FoundTbs (content : List ℕ) (t : TbsStanding) : Type 0 where
+pub record FoundTbs (content : List ℕ) (t : TbsStanding) : Type 0 where
   pub is : IsTbs content t.fields
   pub octets : AllOctets (standings t.late)
   pub has : Has t.fields t.late
 
-tbs-found : (e : Tlv) (t : TbsStanding) → AreOctets e.content → tbs_of e ≡ Ok t → FoundTbs e.content t
+pub tbs-found : (e : Tlv) (t : TbsStanding) → AreOctets e.content → tbs_of e ≡ Ok t → FoundTbs e.content t
 unfolding tbs_of made_of
 tbs-found e t fits read =
     let v = bind_ok (version_at (inside e)) _ t read in

@@ -1,6 +1,7 @@
 pub mod KeyParts
 pub mod Periods
 pub mod FieldRules
+pub mod Beside
 pub mod Certificates
 pub mod OneSpelling
 pub mod Judging

@@ -1,10 +1,14 @@
 //! Algorithm identifiers.
 
+ghost use Rattle.std.specs.Prelude.{◌≡◌, ℕ, List};
 ghost use Rattle.std.specs.Option.{option_copied};
 ghost use Rattle.ts_der.specs.Answer.{Answers};
+ghost use Rattle.ts_der.specs.Element.{Fits, spell};
 ghost use Rattle.ts_der.specs.View.{now};
+ghost use Rattle.ts_name.specs.Fields.{Within};
 ghost use Rattle.ts_name.specs.Steps.{Takes};
 ghost use Rattle.ts_cert.specs.Reading.{parameters_at, algorithm_of, algorithm_at};
+ghost use Rattle.ts_cert.specs.Spelling.{IsAlgorithm};
 ghost use Rattle.ts_cert.specs.View.{algorithm_in};
 
 use crate::fields::{SEQUENCE, next_oid};
@@ -48,6 +52,24 @@ pub fn read_algorithm<'a>(element: Element<'a>) -> Result<AlgorithmIdentifier<'a
         parameters,
         whole: element.whole,
     })
+}
+
+/// The same of an element beside an identifier that was read. Where it has the octets of that one, as the one beside a
+/// signature has those of the one that is signed, it is not read again.
+#[inline(always)]
+pub(crate) fn read_algorithm_beside<'a>(
+    element: Element<'a>,
+    other: AlgorithmIdentifier<'a>,
+) -> Result<AlgorithmIdentifier<'a>, Fault>
+    requires fits { Fits 0x30 element.content.now }
+    requires spelled { element.whole.now ≡ spell 0x30 element.content.now }
+    requires read { (octets : List ℕ) × Within 0x30 IsAlgorithm octets (algorithm_in other) }
+    ensures { Answers algorithm_in result (algorithm_of (now element.entry)) }
+{
+    if element.whole == other.whole {
+        return Ok(other);
+    }
+    read_algorithm(element)
 }
 
 /// The algorithm identifier that stands next, which the reader has then passed.

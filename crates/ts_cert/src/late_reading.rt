@@ -38,6 +38,7 @@ fn next_unique_id<'a>(fields: &mut Reader<'a>, tag: u8) -> Result<Option<Bits<'a
 
 /// The SEQUENCE of the extensions, where they stand, and the first rule that they break.
 #[tactic(auto, unfolding(ts_name::specs::Fields::optional_of, ts_der::specs::Reading::optional_at, ts_name::specs::Repeats::first_repeated))]
+#[inline(always)]
 fn next_extensions<'a>(
     fields: &mut Reader<'a>,
 ) -> Result<(Option<Element<'a>>, Option<CertFault>), Fault>

@@ -6,7 +6,7 @@ ghost use Rattle.ts_der.specs.View.{now};
 ghost use Rattle.ts_cert.specs.Reading.{signed_of, agreed, whole_of};
 ghost use Rattle.ts_cert.specs.CertView.{unagreed_in, cert_in};
 
-use crate::algorithm::read_algorithm;
+use crate::algorithm::read_algorithm_beside;
 use crate::certificate::Cert;
 use crate::fields::{SEQUENCE, next_bits};
 use crate::rules::broken_rule;
@@ -23,7 +23,7 @@ fn read_signed<'a>(element: Element<'a>) -> Result<Cert<'a>, CertFault>
     let tbs = fields.element(SEQUENCE)?;
     let signed = read_tbs(tbs)?;
     let identifier = fields.element(SEQUENCE)?;
-    let signature_algorithm = read_algorithm(identifier)?;
+    let signature_algorithm = read_algorithm_beside(identifier, signed.signature)?;
     let signature_value = next_bits(&mut fields)?;
     fields.end()?;
     Ok(Cert {

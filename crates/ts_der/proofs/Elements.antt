@@ -23,7 +23,7 @@ pub record Splits (octets : List ℕ) : Type 0 where
 take_two : (j k t f : ℕ) (more : List ℕ) → j ≡ suc (suc k) → take j (t ∷ f ∷ more) ≡ t ∷ f ∷ take k more
 take_two j k t f more e = rw e refl
 
-drop_two : (j k t f : ℕ) (more : List ℕ) → j ≡ suc (suc k) → drop j (t ∷ f ∷ more) ≡ drop k more
+pub drop_two : (j k t f : ℕ) (more : List ℕ) → j ≡ suc (suc k) → drop j (t ∷ f ∷ more) ≡ drop k more
 drop_two j k t f more e = rw e refl
 
 splits_short : (t f : ℕ) (more : List ℕ) → f < 128 → Splits (t ∷ f ∷ more)

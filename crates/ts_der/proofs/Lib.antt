@@ -5,6 +5,7 @@ pub mod OctetLists
 pub mod Headers
 pub mod Lengths
 pub mod Elements
+pub mod ShortForms
 pub mod Laws
 pub mod Integers
 pub mod BitStrings

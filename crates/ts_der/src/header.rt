@@ -102,5 +102,11 @@ pub fn read_header(rest: &[u8]) -> Result<Header, DerFault>
     if *form < 0x80 {
         return Header::before(more, *tag, 2, *form as usize);
     }
-    read_long_form(*tag, *form, more)
+    // Its parts, so that a short form is handed on without a place in memory.
+    let Header { size, length, .. } = read_long_form(*tag, *form, more)?;
+    Ok(Header {
+        tag: *tag,
+        size,
+        length,
+    })
 }

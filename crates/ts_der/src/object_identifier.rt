@@ -46,15 +46,15 @@ fn are_few_subidentifiers(octets: &[u8]) -> bool
     requires { length octets.now ≤ 18 }
     ensures { result ≡ list_all is_subidentifier (series_of octets.now) }
 {
-    let mut is_open = false;
+    // The octet before, which ends a subidentifier where it is below 80, as the start does.
+    let mut before = 0;
     for octet in octets {
-        let is_padded = !is_open && *octet == 0x80;
-        if is_padded {
+        if *octet == 0x80 && before < 0x80 {
             return false;
         }
-        is_open = *octet >= 0x80;
+        before = *octet;
     }
-    !is_open
+    before < 0x80
 }
 
 /// Whether octets are three below 80, each of which is a number, as in the types of attributes and extensions.

@@ -1,6 +1,6 @@
 //! Elements one after another, front to back.
 
-ghost use Rattle.std.specs.Prelude.{◌≡◌, ◌≢◌, ◌%◌, Bool, true, false, Ok, ℕ, ◌+◌, ◌<◌, ◌^◌, List, [], ◌++◌, length, ◌==◌, if◌then◌else◌, is_some, option_map, IfOk, IfErr, OnErr, IsOk, IsOkAnd, ◌↔◌, None};
+ghost use Rattle.std.specs.Prelude.{◌≡◌, ◌≢◌, ◌%◌, Bool, true, false, Ok, ℕ, ◌+◌, ◌<◌, ◌^◌, List, [], ◌++◌, length, ◌==◌, if◌then◌else◌, is_some, option_map, IfSome, IfOk, IfErr, OnErr, IsOk, IsOkAnd, ◌↔◌, None};
 ghost use Rattle.ts_der.specs.Octets.{AreOctets};
 
 use crate::fault::{DerFault, Fault, located};
@@ -146,6 +146,7 @@ impl<'a> Reader<'a> {
 
     /// A BOOLEAN DEFAULT FALSE of this tag: true if it is present. One that is present and false is `DefaultEncoded`
     /// at it, since a value equal to its default is never encoded (X.690 11.5). At a fault the reader has not moved.
+    #[inline(always)]
     pub fn flag(&mut self, tag: u8) -> Result<bool, Fault>
         ensures found { IfOk result (λ value. IsFlag tag self.old value self.new) }
         ensures absent { begins_with tag self.old.rest ≡ false → result ≡ Ok false }
@@ -211,6 +212,36 @@ impl<'a> Reader<'a> {
         Ok(element)
     }
 
+    /// The same, where it has this tag and a length of one octet, as most have. Where nothing is answered, nothing is said.
+    #[inline(always)]
+    fn split_short(&self, tag: u8) -> Option<(Element<'a>, Reader<'a>)>
+        ensures octets { AreOctets self.now.rest }
+        ensures short { IfSome result (λ x. element_at tag self.now ≡ Ok (now x.0, x.1)) }
+    {
+        let [first, form, ..] = self.rest else {
+            return None;
+        };
+        let (_, body) = self.rest.split_at(2);
+        let length = *form as usize;
+        if *first != tag || tag % 0x20 == 0x1f || length >= 0x80 || body.len() < length {
+            return None;
+        }
+        let (content, rest) = body.split_at(length);
+        let start = self.at + 2;
+        let element = Element {
+            tag,
+            content,
+            whole: &self.rest[..2 + length],
+            at: self.at,
+            start,
+        };
+        let after = Reader {
+            rest,
+            at: start + length,
+        };
+        Some((element, after))
+    }
+
     /// The same, where it has this tag.
     #[tactic(auto, unfolding(crate::specs::Reading::element_at))]
     #[inline(always)]
@@ -218,6 +249,9 @@ impl<'a> Reader<'a> {
         ensures octets { AreOctets self.now.rest }
         ensures exact { Answers (λ x. (now x.0, x.1)) result (element_at tag self.now) }
     {
+        if let Some(parts) = self.split_short(tag) {
+            return Ok(parts);
+        }
         let (element, after) = self.split()?;
         if element.tag != tag {
             return Err(Fault {
@@ -247,6 +281,7 @@ impl<'a> Reader<'a> {
     }
 
     #[tactic(auto, unfolding(crate::specs::Default::flag_at, crate::specs::Reading::optional_at, crate::specs::Reading::element_at))]
+    #[inline(always)]
     fn take_flag(&mut self, tag: u8) -> Result<bool, Fault>
         ensures octets { AreOctets self.old.rest }
         ensures exact { Gives (λ value. value) self.old self.new result (flag_at tag self.old) }

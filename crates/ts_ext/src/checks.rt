@@ -19,6 +19,7 @@ use ts_name::{CertFault, CertRule, tagged_as};
 
 /// The rule beside those of DER that the value breaks which an element's content is. The values that stand in most roots
 /// and entries can break none, so that no room is made for them.
+#[inline(always)]
 fn check_content(known: Known, element: Element<'_>) -> Result<Option<CertRule>, Fault>
     ensures { Answers (λ rule. rule) result (rule_of (content_of known (now element.entry))) }
 {

@@ -37,6 +37,7 @@ impl<'a> FromElement<'a> for PolicyInformation<'a> {
     ghost key_of = { λ p. p.policyIdentifier };
 
     #[tactic(auto, unfolding(ts_name::specs::Items::of_tag))]
+    #[inline(always)]
     fn read(element: Element<'a>) -> Result<PolicyInformation<'a>, Fault> {
         read_policy_information(tagged_as(element, SEQUENCE)?)
     }
@@ -51,6 +52,7 @@ impl<'a> Keyed<'a> for PolicyInformation<'a> {
 
 /// The policy that a SEQUENCE is.
 #[tactic(auto, unfolding(crate::specs::Reading::policy_information_of))]
+#[inline(always)]
 fn read_policy_information<'a>(element: Element<'a>) -> Result<PolicyInformation<'a>, Fault>
     ensures { Answers information_in result (policy_information_of (now element.entry)) }
 {
@@ -66,6 +68,7 @@ fn read_policy_information<'a>(element: Element<'a>) -> Result<PolicyInformation
 
 /// The qualifiers, where a SEQUENCE stands.
 #[tactic(auto, unfolding(ts_name::specs::Fields::optional_of, ts_der::specs::Reading::optional_at))]
+#[inline(always)]
 fn next_qualifiers_if_any<'a>(
     fields: &mut Reader<'a>,
 ) -> Result<Option<SequenceOf<'a, PolicyQualifier<'a>>>, Fault>

@@ -6,6 +6,7 @@ pub mod Inserts
 pub mod Equal
 pub mod Walks
 pub mod Codecs
+pub mod ShortNames
 pub mod Shapes
 pub mod Items
 pub mod NameLists

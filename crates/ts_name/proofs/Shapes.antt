@@ -182,7 +182,7 @@ not_end : (attributes : List Attr) → attributes ≢ [] → is_end (flat_map sp
 not_end [] ne = absurd (ne refl)
 not_end (a ∷ attributes) ne = refl
 
-rdn-again : (e : Tlv) (attributes : List Attr) → IsRdn attributes → e.content ≡ rdn_content attributes → rdn_of e ≡ Ok attributes
+pub rdn-again : (e : Tlv) (attributes : List Attr) → IsRdn attributes → e.content ≡ rdn_content attributes → rdn_of e ≡ Ok attributes
 unfolding rdn_of rdn_content set_of_at
 rdn-again e attributes is whole =
     let items = many-again 0x30 attribute_of attribute_content IsAttribute attribute-codec (inside e) attributes (record { each = is.each; whole = whole }) in

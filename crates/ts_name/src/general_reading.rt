@@ -50,6 +50,7 @@ fn read_directory<'a>(element: Element<'a>) -> Result<Name<'a>, Fault>
 
 /// The general name that an element is, by its tag.
 #[tactic(auto, unfolding(crate::specs::General::general_of))]
+#[inline(always)]
 fn read_general<'a>(element: Element<'a>) -> Result<General<'a>, Fault>
     ensures { Answers general_in result (general_of (now element.entry)) }
 {
@@ -74,6 +75,7 @@ impl<'a> General<'a> {
     /// The general name that an element is, or the first rule that is broken, at its place: a tag of none of the nine
     /// forms (`WrongTag`); of a mail address, a host's name and a URI the text (`TextForm`); of a registered id its
     /// form (`OidForm`); of a directory name those of `Name::read`, and `Trailing`.
+    #[inline(always)]
     pub fn read(element: Element<'a>) -> Result<General<'a>, Fault>
         ensures found { IfOk result (λ name. IsForm element.entry.tag element.entry.content.now (general_in name)) }
         ensures only { (name : GeneralName) → IsForm element.entry.tag element.entry.content.now name
@@ -119,6 +121,7 @@ impl<'a> FromElement<'a> for General<'a> {
 
     ghost key_of = { λ _. [] };
 
+    #[inline(always)]
     fn read(element: Element<'a>) -> Result<General<'a>, Fault> {
         read_general(element)
     }

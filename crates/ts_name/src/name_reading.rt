@@ -1,7 +1,8 @@
 //! Reading a distinguished name.
 
-ghost use Rattle.std.specs.Prelude.{◌≡◌, ◌∷◌, [], List, true, Ok, IfOk, IsOkAnd, option_map};
+ghost use Rattle.std.specs.Prelude.{◌≡◌, ◌∷◌, [], List, true, None, Ok, IfOk, IsOkAnd, option_map};
 ghost use Rattle.ts_der.specs.Answer.{Answers, refusal};
+ghost use Rattle.ts_der.specs.Rules.{first_broken};
 ghost use Rattle.ts_der.specs.Element.{inside};
 ghost use Rattle.ts_der.specs.View.{now};
 ghost use Rattle.ts_der.specs.Reading.{value_at, many};
@@ -18,6 +19,7 @@ ghost use Rattle.ts_name.specs.View.{attr_of};
 use crate::attribute::{Attribute, IA5_STRING, PRINTABLE_STRING, UTF8_STRING};
 use crate::name::Name;
 use crate::rdn::Rdn;
+use std::str;
 use ts_der::{DerFault, Element, Fault, Reader};
 
 const OBJECT_IDENTIFIER: u8 = 0x06;
@@ -81,9 +83,59 @@ fn check_attributes(set: Element<'_>) -> Result<bool, Fault>
     Ok(is_single)
 }
 
+/// Whether octets are in the character set that a tag has.
+#[tactic(auto, using(ts_der::proofs::Texts::is_utf8_is))]
+#[inline(always)]
+fn are_in_character_set(tag: u8, octets: &[u8]) -> bool
+    ensures { result ≡ true → first_broken (text_rules tag) octets.now ≡ None }
+{
+    match tag {
+        UTF8_STRING => match str::from_utf8(octets) {
+            Ok(_) => true,
+            Err(_) => false,
+        },
+        PRINTABLE_STRING | IA5_STRING => octets.is_ascii(),
+        _ => true,
+    }
+}
+
+/// Whether the content of a set is one attribute, with lengths of one octet and a type of three numbers below 128, as in
+/// most names. Where it is not, nothing is said.
+#[inline(always)]
+fn is_one_short_attribute(content: &[u8]) -> bool
+    ensures { result ≡ true → (x : Attr) × IsRdnContent content.now (x ∷ []) }
+{
+    let [
+        sequence,
+        length,
+        identifier,
+        three,
+        a,
+        b,
+        c,
+        tag,
+        size,
+        value @ ..,
+    ] = content
+    else {
+        return false;
+    };
+    if *sequence != SEQUENCE || *identifier != OBJECT_IDENTIFIER || *three != 3 {
+        return false;
+    }
+    let count = value.len();
+    if count > 120 || *size as usize != count || *length as usize != 7 + count {
+        return false;
+    }
+    if *a >= 0x80 || *b >= 0x80 || *c >= 0x80 || *tag % 0x20 == 0x1f {
+        return false;
+    }
+    are_in_character_set(*tag, value)
+}
+
 /// What stands in a set that is a relative distinguished name, and its order.
 #[tactic(auto, unfolding(crate::specs::Names::rdn_of))]
-fn check_rdn(set: Element<'_>) -> Result<(), Fault>
+fn check_any_rdn(set: Element<'_>) -> Result<(), Fault>
     ensures { refusal result ≡ refusal (rdn_of (now set.entry)) }
 {
     // One attribute, as in most names, is in order.
@@ -98,6 +150,17 @@ fn check_rdn(set: Element<'_>) -> Result<(), Fault>
     }
     set.set_of()?;
     Ok(())
+}
+
+/// The same, with a short way for what stands in most names.
+#[inline(always)]
+fn check_rdn(set: Element<'_>) -> Result<(), Fault>
+    ensures { refusal result ≡ refusal (rdn_of (now set.entry)) }
+{
+    if is_one_short_attribute(set.content) {
+        return Ok(());
+    }
+    check_any_rdn(set)
 }
 
 /// The next relative distinguished name, which the reader has then passed.
@@ -128,6 +191,7 @@ impl<'a> Name<'a> {
     /// header (a SEQUENCE), its type (`OidForm`), its value's header and, of a UTF8String, PrintableString or
     /// IA5String, its text (`TextForm`), and `Trailing`; then that the set is not empty (`Empty`) and in order
     /// (`SetOrder`).
+    #[inline(always)]
     pub fn read(element: Element<'a>) -> Result<Name<'a>, Fault>
         ensures found { IfOk result (λ name. IsName element.entry.content.now (rdns_in name)) }
         ensures only { (rdns : List (List Attr)) → IsName element.entry.content.now rdns → IsOkAnd result (λ name. rdns_in name ≡ rdns) }
@@ -139,6 +203,7 @@ impl<'a> Name<'a> {
 
     /// The name that another element's content is, as `read` reads it. Where that has the octets of this name, as the
     /// subject of a self-signed certificate has those of its issuer, they are not read again.
+    #[inline(always)]
     pub fn read_beside(self, element: Element<'a>) -> Result<Name<'a>, Fault>
         ensures exact { Answers rdns_in result (name_of (now element.entry)) }
     {

@@ -26,6 +26,7 @@ const MINIMUM: u8 = 0x80;
 const MAXIMUM: u8 = 0x81;
 
 /// A minimum that is encoded, and so is not the default 0.
+#[inline(always)]
 fn read_minimum<'a>(element: Element<'a>) -> Result<Integer<'a>, Fault>
     ensures { Answers (λ i. i.octets.now) result (minimum_of (now element.entry)) }
 {
@@ -41,6 +42,7 @@ fn read_minimum<'a>(element: Element<'a>) -> Result<Integer<'a>, Fault>
 
 /// The minimum, if one stands next, which the reader has then passed.
 #[tactic(auto, using(crate::proofs::OptionalReads::optional_fails, crate::proofs::OptionalReads::optional_is_absent, crate::proofs::OptionalReads::optional_reads, crate::proofs::OptionalReads::optional_refuses))]
+#[inline(always)]
 fn next_minimum<'a>(fields: &mut Reader<'a>) -> Result<Option<Integer<'a>>, Fault>
     ensures { Takes (λ m. option_map (λ i. i.octets.now) m) fields.new result (optional_of 0x80 minimum_of fields.old) }
 {
@@ -52,6 +54,7 @@ fn next_minimum<'a>(fields: &mut Reader<'a>) -> Result<Option<Integer<'a>>, Faul
 
 /// The maximum, if one stands next, which the reader has then passed.
 #[tactic(auto, using(crate::proofs::OptionalReads::optional_fails, crate::proofs::OptionalReads::optional_is_absent, crate::proofs::OptionalReads::optional_reads, crate::proofs::OptionalReads::optional_refuses))]
+#[inline(always)]
 fn next_maximum<'a>(fields: &mut Reader<'a>) -> Result<Option<Integer<'a>>, Fault>
     ensures { Takes (λ m. option_map (λ i. i.octets.now) m) fields.new result (optional_of 0x81 maximum_of fields.old) }
 {
@@ -63,6 +66,7 @@ fn next_maximum<'a>(fields: &mut Reader<'a>) -> Result<Option<Integer<'a>>, Faul
 
 /// The subtree that a SEQUENCE is.
 #[tactic(auto, unfolding(crate::specs::Subtree::subtree_of, crate::specs::Items::each))]
+#[inline(always)]
 fn read_subtree<'a>(element: Element<'a>) -> Result<Subtree<'a>, Fault>
     ensures { Answers subtree_in result (subtree_of (now element.entry)) }
 {
@@ -179,6 +183,7 @@ impl<'a> FromElement<'a> for Subtree<'a> {
     ghost key_of = { λ _. [] };
 
     #[tactic(auto, unfolding(crate::specs::Items::of_tag))]
+    #[inline(always)]
     fn read(element: Element<'a>) -> Result<Subtree<'a>, Fault> {
         read_subtree(tagged_as(element, SEQUENCE)?)
     }

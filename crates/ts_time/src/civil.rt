@@ -23,6 +23,7 @@ impl CivilTime {
     ghost use Rattle.ts_time.specs.Civil.{Exists, moment_of, IsInYears};
 
     /// The moment that this time names, if there is such a time in the years 0 to 9999.
+    #[inline(always)]
     pub(crate) fn moment(self) -> Option<Moment>
         ensures { SomeIff result (Exists self) (moment_of self) }
     {

@@ -9,6 +9,7 @@ use crate::digits::{print_two, read_two};
 
 /// The time in that year that the octets write; none where they have another form. Whether there is such a time is
 /// not looked at.
+#[inline(always)]
 pub(crate) fn read_in_year(year: u16, content: &[u8]) -> Option<CivilTime>
     ensures found { IfSome result (IsInYear year content.now) }
     ensures only { (t : CivilTime) → IsInYear year content.now t → result ≡ Some t }

@@ -30,6 +30,7 @@ pub fn read_utc(content: &[u8]) -> Result<Moment, DerFault>
 }
 
 /// The same, without a fault.
+#[inline(always)]
 fn find_utc(content: &[u8]) -> Option<Moment>
     ensures found { IfSome result (IsUtc content.now) }
     ensures only { (m : ℤ) → IsUtc content.now m → result ≡ Some m }

@@ -1,9 +1,9 @@
-use Rattle.std.proofs.Common.{refl}
+use Rattle.std.proofs.Common.{◌∷◌, [], refl}
 use Rattle.ts_der.specs.View.{now}
-use Rattle.ts_name.proofs.Shapes.{rdn-single}
+use Rattle.ts_name.proofs.Shapes.{rdn-again}
 use Rattle.ts_name.proofs.name_reading.check_rdn.Goals as goal
 
-pub returns-then-branch : goal.returns-then-branch
-returns-then-branch c =
-    let one = c.in_ok-check_attributes.ensures.single c.if-branch.true in
-    rw (rdn-single (now c.args.set) one.0 c.args.set.octets one.1) refl
+pub returns-then-is_one_short_attribute : goal.returns-then-is_one_short_attribute
+returns-then-is_one_short_attribute c =
+    let one = c.if-is_one_short_attribute.ensures refl in
+    rw (rdn-again (now c.args.set) (one.0 ∷ []) one.1.1 one.1.0) refl
