@@ -1,7 +1,8 @@
 -- A header breaks no rule exactly where an element stands behind it, spelled so.
-use Rattle.std.proofs.Common.{◌≡◌, ◌≢◌, ℕ, ◌+◌, ◌%◌, ◌≤◌, Bool, true, false, cond, eqb, ltb, ◌&&◌, ◌||◌, List, length, get_or, Option, Some, None, refl, arith, inl, inr, ◌⊎◌}
-use Rattle.std.proofs.lemmas.Bool.{ltb-false, le-ltb, eqb-false, ne_eqb, and_cases, and_left, and_right, or_parts, or_from}
+use Rattle.std.proofs.Common.{◌≡◌, ◌≢◌, ℕ, ◌+◌, ◌%◌, ◌<◌, ◌≤◌, Bool, true, false, cond, eqb, ltb, ◌&&◌, ◌||◌, List, length, get_or, Option, Some, None, refl, arith, inl, inr, ◌⊎◌}
+use Rattle.std.proofs.lemmas.Bool.{ltb-false, lt-ltb, le-ltb, eqb-false, ne_eqb, and_cases, and_left, and_right, or_parts, or_from}
 use Rattle.ts_der.specs.declared.fault.DerFault.{DerFault}
+use Rattle.ts_der.specs.declared.fault.DerFault.TheVariants.{Truncated}
 use Rattle.ts_der.specs.Rules.{first_broken}
 use Rattle.ts_der.specs.Header.{tag_of, form_of, header_size, length_of, header_rules}
 
@@ -57,3 +58,11 @@ no_rule_broken octets h =
     let two : 2 ≤ length octets = h.two in
     let some : ltb (length octets) 1 ≡ false = le-ltb (length octets) 1 (omega arith) in
     rw (some, ne_eqb _ _ h.low, le-ltb _ _ h.two, ne_eqb _ _ h.definite, le-ltb _ _ h.few, le-ltb _ _ h.digits, short_test _ _ _ h.shortest, le-ltb _ _ h.whole) refl
+
+-- what ends before its content does, and breaks no rule before that
+pub cut_off : (octets : List ℕ) → tag_of octets % 32 ≢ 31 → 2 ≤ length octets → form_of octets ≢ 128 → form_of octets ≤ 132 → header_size octets ≤ length octets
+    → (form_of octets ≤ 128) ⊎ ((get_or octets 2 0 ≢ 0) × (128 ≤ length_of octets)) → length octets < header_size octets + length_of octets → first_broken header_rules octets ≡ Some Truncated
+unfolding header_rules
+cut_off octets low two definite few digits shortest cut =
+    let some : ltb (length octets) 1 ≡ false = le-ltb (length octets) 1 (omega arith) in
+    rw (some, ne_eqb _ _ low, le-ltb _ _ two, ne_eqb _ _ definite, le-ltb _ _ few, le-ltb _ _ digits, short_test _ _ _ shortest, lt-ltb _ _ cut) refl

@@ -5,7 +5,7 @@ pub mod OctetLists
 pub mod Headers
 pub mod Lengths
 pub mod Elements
-pub mod ShortForms
+pub mod TwoOctets
 pub mod Laws
 pub mod Integers
 pub mod BitStrings

@@ -15,7 +15,7 @@ pub is_utf8_is_not : (octets : List ℕ) → (IsUtf8 octets → ⊥) → is_utf8
 is_utf8_is_not octets h = false_from_ne_true (is_utf8 octets) (λ e. h (IsUtf8-from_is_utf8 octets e))
 
 -- octets that are all below 80, and octets of which one is not
-below-all : (octets : List ℕ) → IsAscii octets → is_ascii octets ≡ true
+pub below-all : (octets : List ℕ) → IsAscii octets → is_ascii octets ≡ true
 below-all [] h = refl
 below-all (x ∷ octets) h = and_from (nat_lt x 128) (is_ascii octets) (lt-ltb x 128 (h 0)) (below-all octets (λ i. h (suc i)))
 

@@ -53,6 +53,7 @@ pub fn number_of(octets: &[u8]) -> usize
 
 /// The header of a length in the long form (X.690 8.1.3.5), by its tag, its first length octet and what follows.
 #[tactic(auto, unfolding(crate::specs::Header::header_rules, crate::specs::Header::length_of))]
+#[inline(never)]
 fn read_long_form(tag: u8, form: u8, more: &[u8]) -> Result<Header, DerFault>
     requires low { (tag % 32 == 31) ≡ false }
     requires long { 0x80 ≤ form }
@@ -93,7 +94,7 @@ pub fn read_header(rest: &[u8]) -> Result<Header, DerFault>
     let [tag, after @ ..] = rest else {
         return Err(DerFault::Truncated);
     };
-    if *tag & 0x1f == 0x1f {
+    if *tag % 0x20 == 0x1f {
         return Err(DerFault::HighTag);
     }
     let [form, more @ ..] = after else {
@@ -101,6 +102,13 @@ pub fn read_header(rest: &[u8]) -> Result<Header, DerFault>
     };
     if *form < 0x80 {
         return Header::before(more, *tag, 2, *form as usize);
+    }
+    // Two octets behind the first, as in most certificates.
+    if let [_, first, high, low, content @ ..] = rest
+        && *first == 0x82
+        && *high != 0
+    {
+        return Header::before(content, *tag, 4, *high as usize * 0x100 + *low as usize);
     }
     // Its parts, so that a short form is handed on without a place in memory.
     let Header { size, length, .. } = read_long_form(*tag, *form, more)?;

@@ -49,8 +49,9 @@ fn are_few_subidentifiers(octets: &[u8]) -> bool
     // The octet before, which ends a subidentifier where it is below 80, as the start does.
     let mut before = 0;
     for octet in octets {
-        if *octet == 0x80 && before < 0x80 {
-            return false;
+        // It may stand within a subidentifier, and not begin one. Most identifiers have none.
+        if *octet == 0x80 {
+            return are_subidentifiers(octets);
         }
         before = *octet;
     }

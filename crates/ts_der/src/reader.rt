@@ -1,10 +1,13 @@
 //! Elements one after another, front to back.
 
-ghost use Rattle.std.specs.Prelude.{◌≡◌, ◌≢◌, ◌%◌, Bool, true, false, Ok, ℕ, ◌+◌, ◌<◌, ◌^◌, List, [], ◌++◌, length, ◌==◌, if◌then◌else◌, is_some, option_map, IfSome, IfOk, IfErr, OnErr, IsOk, IsOkAnd, ◌↔◌, None};
+ghost use Rattle.std.specs.Prelude.{◌≡◌, ◌≢◌, ◌%◌, Bool, true, false, Ok, ℕ, ◌+◌, ◌<◌, ◌^◌, List, [], ◌++◌, length, take, drop, ◌≤◌, ◌==◌, if◌then◌else◌, is_some, option_map, IfSome, IfOk, IfErr, OnErr, IsOk, IsOkAnd, ◌↔◌, Some, None};
 ghost use Rattle.ts_der.specs.Octets.{AreOctets};
+ghost use Rattle.ts_der.specs.Header.{header_rules as rules_of_headers};
+ghost use Rattle.ts_der.specs.Reading.{fault_at as fault_there};
+ghost use Rattle.ts_der.specs.Rules.{first_broken as first_rule};
 
 use crate::fault::{DerFault, Fault, located};
-use crate::header::read_header;
+use crate::header::{Header, read_header};
 use std::marker::Model;
 
 /// An element of an input: one tag, its content, and where both stand. It lends the input's octets.
@@ -176,6 +179,40 @@ impl<'a> Reader<'a> {
         }
     }
 
+    /// The element that has this header, and a reader of what is behind it.
+    #[inline(always)]
+    fn parts(&self, header: Header) -> (Element<'a>, Reader<'a>)
+        requires { header.size + header.length ≤ length self.now.rest }
+        ensures element { now result.0 ≡ record {
+          tag = header.tag;
+          content = take header.length (drop header.size self.now.rest);
+          whole = take (header.size + header.length) self.now.rest;
+          at = self.now.at;
+          start = self.now.at + header.size;
+        } }
+        ensures after { result.1 ≡ record {
+          rest = drop header.length (drop header.size self.now.rest);
+          at = self.now.at + header.size + header.length;
+        } }
+    {
+        let Header { tag, size, length } = header;
+        let (_, body) = self.rest.split_at(size);
+        let (content, rest) = body.split_at(length);
+        let start = self.at + size;
+        let element = Element {
+            tag,
+            content,
+            whole: &self.rest[..size + length],
+            at: self.at,
+            start,
+        };
+        let after = Reader {
+            rest,
+            at: start + length,
+        };
+        (element, after)
+    }
+
     /// The element at the front, and a reader of what is behind it.
     #[tactic(auto, unfolding(crate::specs::Reading::next_at, crate::specs::Reading::element_of, crate::specs::Reading::behind))]
     #[inline(always)]
@@ -184,22 +221,7 @@ impl<'a> Reader<'a> {
         ensures exact { Answers (λ x. (now x.0, x.1)) result (next_at self.now) }
     {
         let header = located(read_header(self.rest), self.at)?;
-        let whole = &self.rest[..header.size + header.length];
-        let (_, body) = self.rest.split_at(header.size);
-        let (content, rest) = body.split_at(header.length);
-        let start = self.at + header.size;
-        let element = Element {
-            tag: header.tag,
-            content,
-            whole,
-            at: self.at,
-            start,
-        };
-        let after = Reader {
-            rest,
-            at: start + header.length,
-        };
-        Ok((element, after))
+        Ok(self.parts(header))
     }
 
     #[inline(always)]
@@ -212,54 +234,29 @@ impl<'a> Reader<'a> {
         Ok(element)
     }
 
-    /// The same, where it has this tag and a length of one octet, as most have. Where nothing is answered, nothing is said.
-    #[inline(always)]
-    fn split_short(&self, tag: u8) -> Option<(Element<'a>, Reader<'a>)>
-        ensures octets { AreOctets self.now.rest }
-        ensures short { IfSome result (λ x. element_at tag self.now ≡ Ok (now x.0, x.1)) }
-    {
-        let [first, form, ..] = self.rest else {
-            return None;
-        };
-        let (_, body) = self.rest.split_at(2);
-        let length = *form as usize;
-        if *first != tag || tag % 0x20 == 0x1f || length >= 0x80 || body.len() < length {
-            return None;
-        }
-        let (content, rest) = body.split_at(length);
-        let start = self.at + 2;
-        let element = Element {
-            tag,
-            content,
-            whole: &self.rest[..2 + length],
-            at: self.at,
-            start,
-        };
-        let after = Reader {
-            rest,
-            at: start + length,
-        };
-        Some((element, after))
-    }
-
-    /// The same, where it has this tag.
-    #[tactic(auto, unfolding(crate::specs::Reading::element_at))]
+    /// The same, where it has this tag. That is looked at first, so that little is left to ask of a header with a tag that
+    /// is known when this is compiled.
     #[inline(always)]
     fn split_tag(&self, tag: u8) -> Result<(Element<'a>, Reader<'a>), Fault>
         ensures octets { AreOctets self.now.rest }
         ensures exact { Answers (λ x. (now x.0, x.1)) result (element_at tag self.now) }
     {
-        if let Some(parts) = self.split_short(tag) {
-            return Ok(parts);
+        if !self.begins_with(tag) {
+            return Err(fault_without(self.rest, self.at));
         }
-        let (element, after) = self.split()?;
-        if element.tag != tag {
-            return Err(Fault {
-                kind: DerFault::WrongTag,
-                at: element.at,
-            });
+        self.split()
+    }
+
+    /// Whether the next octet is this tag.
+    #[inline(always)]
+    fn begins_with(&self, tag: u8) -> bool
+        ensures octets { AreOctets self.now.rest }
+        ensures begins { result ≡ begins_with tag self.now.rest }
+    {
+        match self.rest {
+            [first, ..] => *first == tag,
+            [] => false,
         }
-        Ok((element, after))
     }
 
     #[inline(always)]
@@ -286,20 +283,18 @@ impl<'a> Reader<'a> {
         ensures octets { AreOctets self.old.rest }
         ensures exact { Gives (λ value. value) self.old self.new result (flag_at tag self.old) }
     {
-        match self.rest {
-            [first, ..] if *first == tag => {
-                let (element, after) = self.split_tag(tag)?;
-                if !element.boolean()? {
-                    return Err(Fault {
-                        kind: DerFault::DefaultEncoded,
-                        at: element.at,
-                    });
-                }
-                *self = after;
-                Ok(true)
-            }
-            _ => Ok(false),
+        if !self.begins_with(tag) {
+            return Ok(false);
         }
+        let (element, after) = self.split_tag(tag)?;
+        if !element.boolean()? {
+            return Err(Fault {
+                kind: DerFault::DefaultEncoded,
+                at: element.at,
+            });
+        }
+        *self = after;
+        Ok(true)
     }
 
     #[tactic(auto, unfolding(crate::specs::Reading::optional_at))]
@@ -308,11 +303,24 @@ impl<'a> Reader<'a> {
         ensures octets { AreOctets self.old.rest }
         ensures exact { Gives (option_map now) self.old self.new result (optional_at tag self.old) }
     {
-        match self.rest {
-            [first, ..] if *first == tag => Ok(Some(self.take_tag(tag)?)),
-            _ => Ok(None),
+        if !self.begins_with(tag) {
+            return Ok(None);
         }
+        Ok(Some(self.take_tag(tag)?))
     }
+}
+
+/// The fault of an element with another tag than the one that it is to have: that of its header, if it has one.
+#[inline(never)]
+fn fault_without(rest: &[u8], at: usize) -> Fault
+    ensures broken { (kind : DerFault) → first_rule rules_of_headers rest.now ≡ Some kind → result ≡ fault_there at kind }
+    ensures other { first_rule rules_of_headers rest.now ≡ None → result ≡ fault_there at DerFault.WrongTag }
+{
+    let kind = match read_header(rest) {
+        Ok(_) => DerFault::WrongTag,
+        Err(kind) => kind,
+    };
+    Fault { kind, at }
 }
 
 impl<'a> Element<'a> {

@@ -52,7 +52,7 @@ extension-found e x fits read =
     let s = bind_ok (standing_of e) (λ y. Ok (said y)) x read in
     subst (λ (y : Extension). IsExtension e.content y) (ok_is {A = Extension} {E = Fault} (said s.0) x s.2) (standing-found e s.0 fits s.1)
 
-extension-again : (e : Tlv) (x : Extension) → IsExtension e.content x → extension_of e ≡ Ok x
+pub extension-again : (e : Tlv) (x : Extension) → IsExtension e.content x → extension_of e ≡ Ok x
 unfolding standing_of
 extension-again e x is =
     let low : 1 % 32 ≢ 31 = λ h. omega arith in

@@ -14,4 +14,6 @@ pub mod ValueFaults
 pub mod ExtensionParts
 pub mod Said
 pub mod Soundness
+pub mod UsualValues
+pub mod Walked
 pub mod OneSpelling

@@ -116,7 +116,7 @@ sound-if holder x fits e = by_value (ext_of k x.value) refl (neither (ext_fault 
         some-none : (y : CertFault) → Some y ≡ None → ⊥
         some-none y h = cc
 
-sound-then : (holder : Holder) (x : Standing) → IsSound holder (said x) → value_fault holder x ≡ None
+pub sound-then : (holder : Holder) (x : Standing) → IsSound holder (said x) → value_fault holder x ≡ None
 sound-then holder x is =
     let k = known_at holder x.extnID in
     let read = ext-again k x.value is.0 is.1 in

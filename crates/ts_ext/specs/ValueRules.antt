@@ -10,6 +10,7 @@ use Rattle.ts_name.specs.Fault.{breaks}
 use Rattle.ts_name.specs.Repeats.{first_repeated}
 use Rattle.ts_name.specs.Shape.{◌or_else◌}
 use Rattle.ts_ext.specs.declared.known.Holder.{Holder}
+use Rattle.ts_ext.specs.declared.known.Known.{Known}
 use Rattle.ts_ext.specs.declared.known.Holder.TheVariants.{Certificate}
 use Rattle.ts_ext.specs.Ext.{ExtValue, IsExt, ext_of, ext_fault}
 use Rattle.ts_ext.specs.Extension.{Extension, Standing}
@@ -49,9 +50,12 @@ list_fault holder xs = repeated_fault xs or_else values_fault holder xs
 
 -- ---- lists whose values break no rule
 
--- the value of an extension is spelled as that extension asks, and breaks none of the other rules
+-- octets are a value as that extension asks, which breaks none of the other rules
+abbrev pub IsSoundValue : Option Known → List ℕ → Type 0
+IsSoundValue known octets = (value : ExtValue) × IsExt known octets value × (broken_rule value ≡ None)
+
 abbrev pub IsSound : Holder → Extension → Type 0
-IsSound holder x = (value : ExtValue) × IsExt (known_at holder x.extnID) x.extnValue value × (broken_rule value ≡ None)
+IsSound holder x = IsSoundValue (known_at holder x.extnID) x.extnValue
 
 abbrev pub AreSound : Holder → List Extension → Type 0
 AreSound holder [] = Unit {0}

@@ -15,7 +15,7 @@ use crate::fields::next_names_if_any;
 use ts_der::{Element, Fault, Integer, Reader};
 use ts_name::GeneralNames;
 
-const KEY_IDENTIFIER: u8 = 0x80;
+pub(crate) const KEY_IDENTIFIER: u8 = 0x80;
 
 const AUTHORITY_CERT_ISSUER: u8 = 0xA1;
 

@@ -13,12 +13,13 @@ ghost use Rattle.ts_ext.specs.Extension.{Extension as Stated, AreExplicit, expli
 ghost use Rattle.ts_ext.specs.ExtensionView.{standings_in, extensions_in};
 ghost use Rattle.ts_ext.specs.ValueRules.{values_fault, list_fault};
 
-use crate::extension::Extension;
+use crate::extension::{Extension, next_extension};
 use crate::extensions::Extensions;
 use crate::fields::SEQUENCE;
 use crate::known::Holder;
+use crate::usual::next_usual;
 use ts_der::{DerFault, Element, Fault};
-use ts_name::{CertFault, CertRule, Ends, Keyed, first_repeated, next_item, tagged_as};
+use ts_name::{CertFault, CertRule, Ends, Keyed, first_repeated, tagged_as};
 
 /// Extensions that were read, and the first rule that they break.
 #[derive(Clone, Copy)]
@@ -116,8 +117,13 @@ fn walk(element: Element<'_>, holder: Holder) -> Result<Findings, Fault>
         have_ends_of_their_own: true,
     };
     while !rest.is_at_end() {
-        let extension = next_item::<Extension<'_>>(&mut rest)?;
-        found = found.with(&mut ends, holder, extension);
+        found = match next_usual(&mut rest, holder) {
+            Some(arc) => found.with_key(&mut ends, &[0x55, 0x1D, arc]),
+            None => {
+                let extension = next_extension(&mut rest)?;
+                found.with(&mut ends, holder, extension)
+            }
+        };
     }
     if element.content.is_empty() {
         return Err(Fault {
@@ -135,6 +141,21 @@ impl Findings {
     ghost use Rattle.ts_ext.specs.ExtensionView.{standing_as};
     ghost use Rattle.ts_ext.specs.ValueRules.{value_fault};
 
+    /// What is found with one extension more, of this object identifier, whose value breaks no rule.
+    #[inline(always)]
+    fn with_key(self, ends: &mut Ends, key: &[u8]) -> Findings
+        ensures fault { result.fault ≡ self.fault }
+        ensures before { result.have_ends_of_their_own ≡ true → self.have_ends_of_their_own ≡ true }
+        ensures new { (keys : List (List ℕ)) → HaveEnds keys ends.old → result.have_ends_of_their_own ≡ true → is_among key.now keys ≡ false }
+        ensures met { (keys : List (List ℕ)) → HaveEnds keys ends.old → HaveEnds (key.now ∷ keys) ends.new }
+    {
+        let is_new = ends.is_new(key);
+        Findings {
+            have_ends_of_their_own: is_new && self.have_ends_of_their_own,
+            ..self
+        }
+    }
+
     /// What is found with one extension more.
     #[inline(always)]
     fn with(self, ends: &mut Ends, holder: Holder, extension: Extension<'_>) -> Findings
@@ -143,13 +164,13 @@ impl Findings {
         ensures new { (keys : List (List ℕ)) → HaveEnds keys ends.old → result.have_ends_of_their_own ≡ true → is_among (standing_as extension.entry).extnID keys ≡ false }
         ensures met { (keys : List (List ℕ)) → HaveEnds keys ends.old → HaveEnds ((standing_as extension.entry).extnID ∷ keys) ends.new }
     {
-        let is_new = ends.is_new(extension.key());
+        let found = self.with_key(ends, extension.key());
         Findings {
-            fault: match self.fault {
+            fault: match found.fault {
                 Some(fault) => Some(fault),
                 None => extension.first_fault(holder),
             },
-            have_ends_of_their_own: is_new && self.have_ends_of_their_own,
+            ..found
         }
     }
 }

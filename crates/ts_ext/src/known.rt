@@ -1,13 +1,11 @@
 //! Which extensions are read, and where each may stand.
 
 ghost use Rattle.std.specs.Prelude.{◌≡◌};
-ghost use Rattle.ts_ext.specs.Known.{arc_of, certificate_extension, list_extension, entry_extension, known_at};
+ghost use Rattle.ts_ext.specs.Known.{arc_of, certificate_extension, list_extension, entry_extension, extension_of, known_at};
 ghost use Rattle.ts_ext.specs.Ext.{layout_of};
 
-use crate::fields::{INTEGER, OCTET_STRING, SEQUENCE};
+use crate::fields::{BIT_STRING, INTEGER, OCTET_STRING, SEQUENCE};
 use ts_der::OidRef;
-
-const BIT_STRING: u8 = 0x03;
 
 const ENUMERATED: u8 = 0x0A;
 
@@ -111,10 +109,18 @@ impl Known {
         let [0x55, 0x1D, arc] = oid.content else {
             return None;
         };
+        Known::with_arc(holder, *arc)
+    }
+
+    /// The extension that has this arc in a holder, if it is one that is read there.
+    #[inline(always)]
+    pub(crate) fn with_arc(holder: Holder, arc: u8) -> Option<Known>
+        ensures { result ≡ extension_of holder arc }
+    {
         match holder {
-            Holder::Certificate => of_certificate(*arc),
-            Holder::List => of_list(*arc),
-            Holder::Entry => of_entry(*arc),
+            Holder::Certificate => of_certificate(arc),
+            Holder::List => of_list(arc),
+            Holder::Entry => of_entry(arc),
         }
     }
 

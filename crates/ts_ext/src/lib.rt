@@ -49,6 +49,7 @@ mod rules;
 mod skip_certs;
 #[cfg(test)]
 mod tests;
+mod usual;
 
 pub use alternative_names::AlternativeNames;
 pub use authority_key_identifier::AuthorityKeyIdentifier;

@@ -34,7 +34,7 @@ each-consumes {A} value here x after read =
     subst (λ (p : Place). length p.rest < length here.rest) (ap (λ (p : A × Place). p.1) same) (next-consumes here e.0.0 e.0.1 e.1)
 
 -- an element of one tag, each way
-each-tag : {A : Type 0} (tag : ℕ) (value : Tlv → Result A Fault) (here : Place) → each (of_tag tag value) here ≡ within tag value here
+pub each-tag : {A : Type 0} (tag : ℕ) (value : Tlv → Result A Fault) (here : Place) → each (of_tag tag value) here ≡ within tag value here
 unfolding each of_tag tagged_as within element_at
 each-tag {A} tag value here = by_next (next_at here)
   where

@@ -1,13 +1,26 @@
 -- A relative distinguished name of one attribute with lengths of one octet.
-use Rattle.std.proofs.Common.{◌≡◌, ◌≢◌, ℕ, ◌+◌, ◌%◌, ◌<◌, ◌≤◌, List, [], ◌∷◌, length, drop, get_or, None, refl, sym, ap, ◌∙◌, arith}
+use Rattle.std.proofs.Common.{◌≡◌, ◌≢◌, ℕ, ◌+◌, ◌%◌, ◌<◌, ◌≤◌, Bool, true, false, cond, eqb, ◌||◌, List, [], ◌∷◌, length, drop, get_or, None, refl, sym, ap, ◌∙◌, arith}
+use Rattle.std.specs.Str.{IsAscii}
+use Rattle.std.proofs.lemmas.Str.{IsUtf8-from_ascii}
 use Rattle.std.proofs.lemmas.List.{append-nil}
 use Rattle.ts_der.specs.Rules.{first_broken}
 use Rattle.ts_der.specs.Element.{length_octets, spell, Fits}
+use Rattle.ts_der.specs.Text.{utf8_rules, ascii_rules}
 use Rattle.ts_der.proofs.FewOctets.{three_go}
 use Rattle.ts_der.proofs.Lengths.{length_octets-short}
+use Rattle.ts_der.proofs.Texts.{is_utf8_is, below-all}
 use Rattle.ts_name.specs.Canon.{Attr}
 use Rattle.ts_name.specs.Names.{text_rules}
 use Rattle.ts_name.specs.NameSpelling.{attribute_content, rdn_content, IsAttribute, IsRdnContent}
+
+-- octets of ASCII break no rule of text
+pub ascii-text : (tag : ℕ) (octets : List ℕ) → IsAscii octets → first_broken (text_rules tag) octets ≡ None
+ascii-text tag octets ascii = by_tag (eqb tag 0x0C) (eqb tag 0x13 || eqb tag 0x16)
+  where
+    by_tag : (utf8 ia5 : Bool) → first_broken (cond utf8 utf8_rules (cond ia5 ascii_rules [])) octets ≡ None
+    by_tag true ia5 = rw (is_utf8_is octets (IsUtf8-from_ascii octets ascii)) refl
+    by_tag false true = rw (below-all octets ascii) refl
+    by_tag false false = refl
 
 -- what stands in front of the value
 pub record Front (content : List ℕ) : Type 0 where

@@ -89,12 +89,16 @@ fn check_attributes(set: Element<'_>) -> Result<bool, Fault>
 fn are_in_character_set(tag: u8, octets: &[u8]) -> bool
     ensures { result ≡ true → first_broken (text_rules tag) octets.now ≡ None }
 {
+    // Those of ASCII are in each.
+    if octets.is_ascii() {
+        return true;
+    }
     match tag {
         UTF8_STRING => match str::from_utf8(octets) {
             Ok(_) => true,
             Err(_) => false,
         },
-        PRINTABLE_STRING | IA5_STRING => octets.is_ascii(),
+        PRINTABLE_STRING | IA5_STRING => false,
         _ => true,
     }
 }

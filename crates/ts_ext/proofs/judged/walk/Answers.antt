@@ -1,58 +1,78 @@
-use Rattle.std.proofs.Common.{◌≡◌, List, ◌∷◌, ◌++◌, [], Option, Some, None, refl, sym, ap, ◌∙◌}
+use Rattle.std.proofs.Common.{◌≡◌, ℕ, false, List, ◌∷◌, Option, Some, None, Result, refl, sym, ap, subst, ◌∙◌}
 use Rattle.std.proofs.lemmas.Result.{err_from_is_err_and}
-use Rattle.ts_der.specs.Element.{inside}
+use Rattle.ts_der.specs.declared.fault.Fault.{Fault}
+use Rattle.ts_der.specs.Element.{Place, inside}
 use Rattle.ts_der.specs.Reading.{many}
 use Rattle.ts_der.specs.View.{now}
-use Rattle.ts_der.proofs.Many.{goes_on, breaks_off, is_done}
+use Rattle.ts_der.proofs.Many.{breaks_off, is_done}
 use Rattle.ts_name.specs.declared.fault.CertFault.{CertFault}
-use Rattle.ts_name.specs.Items.{each, some_of, items_at}
+use Rattle.ts_name.specs.Names.{within}
+use Rattle.ts_name.specs.Items.{each, some_of}
 use Rattle.ts_name.specs.Shape.{◌or_else◌}
-use Rattle.ts_name.proofs.FirstRepeats.{seen-next, seen-end}
-use Rattle.ts_name.proofs.ItemParts.{each-consumes, some-is, none-is, walk-step, walk-end}
-use Rattle.ts_ext.specs.Extension.{Standing, standing_in}
+use Rattle.ts_name.proofs.FirstRepeats.{seen-end}
+use Rattle.ts_name.specs.Repeats.{is_among, HaveEnds}
+use Rattle.ts_name.proofs.Walks.{within-consumes}
+use Rattle.ts_name.proofs.ItemParts.{each-tag, each-consumes, some-is, none-is, walk-end}
+use Rattle.ts_ext.specs.Extension.{Standing, standing_of, standing_in}
 use Rattle.ts_ext.specs.ExtensionView.{standing_as}
-use Rattle.ts_ext.specs.ValueRules.{value_fault, values_fault}
+use Rattle.ts_ext.specs.ValueRules.{values_fault}
+use Rattle.ts_ext.proofs.Walked.{Finds, walked-on}
 use Rattle.ts_ext.proofs.judged.walk.Goals as goal
 
-grouped : (a b c : Option CertFault) → ((a or_else b) or_else c) ≡ (a or_else (b or_else c))
-grouped None b c = refl
-grouped (Some f) b c = refl
+-- what stands next, where the reader has stayed
+stayed : {r : Result (Standing × Place) Fault} (here there : Place) → there ≡ here → within 0x30 standing_of there ≡ r → within 0x30 standing_of here ≡ r
+stayed {r} here there same e = subst (λ (p : Place). within 0x30 standing_of p ≡ r) same e
 
 alone : (a : Option CertFault) → (a or_else None) ≡ a
 alone None = refl
 alone (Some f) = refl
 
-pub returns-in_err-extension-clause-shape : goal.returns-in_err-extension-clause-shape
+pub returns-in_err-extension-in-None-clause-shape : goal.returns-in_err-extension-in-None-clause-shape
 unfolding some_of
-returns-in_err-extension-clause-shape c =
+returns-in_err-extension-in-None-clause-shape c =
     let p = err_from_is_err_and c.from_residual.result c.from_residual.ensures.1 in
     let i = c.loop-rest.invariant.0 in
-    let total = breaks_off (each standing_in) (each-consumes standing_in) i.0 c.loop-rest.rest c.in_err-extension.field-0.0 (many (each standing_in) (inside (now c.args.element))) (sym c.is_at_end.ensures ∙ c.loop-rest-test.true) c.in_err-extension.ensures i.1 in
+    let here = c.loop-rest.rest in
+    let read = each-tag 0x30 standing_of here ∙ stayed here c.next_usual.new.rest (c.next_usual.ensures.stays c.in-None.is) c.in_err-extension-in-None.ensures in
+    let total = breaks_off (each standing_in) (each-consumes standing_in) i.0 here c.in_err-extension-in-None.field-0.0 (many (each standing_in) (inside (now c.args.element))) (sym c.is_at_end.ensures ∙ c.loop-rest-test.true) read i.1 in
     rw (p.1, p.2, total) refl
 
+pub loop-rest-smaller-in-Some : goal.loop-rest-smaller-in-Some
+loop-rest-smaller-in-Some c =
+    let x = c.in-Some.ensures.passed in
+    within-consumes 0x30 standing_of c.loop-rest.rest x.0 c.next_usual.new.rest x.1
+
 pub loop-rest-smaller : goal.loop-rest-smaller
-loop-rest-smaller c = each-consumes standing_in c.loop-rest.rest (standing_as c.in_ok-extension.extension) c.next_item.new.rest c.in_ok-extension.ensures
+loop-rest-smaller c =
+    let here = c.loop-rest.rest in
+    within-consumes 0x30 standing_of here (standing_as c.in_ok-extension-in-None.extension) c.next_extension.new.rest (stayed here c.next_usual.new.rest (c.next_usual.ensures.stays c.in-None.is) c.in_ok-extension-in-None.ensures)
+
+pub loop-rest-preserved-in-Some : goal.loop-rest-preserved-in-Some
+loop-rest-preserved-in-Some c =
+    let x = c.in-Some.ensures.passed in
+    let had = c.loop-rest.found.fault in
+    let found = c.with_key-found.ensures in
+    let named = λ (P : List ℕ → Type 0). subst P (sym x.2) in
+    let one : Finds c.args.holder x.0 had c.with_key-found.result.fault c.loop-rest.found.have_ends_of_their_own c.with_key-found.result.have_ends_of_their_own c.loop-rest.ends c.with_key-found.new.ends =
+    record {
+      fault = found.fault ∙ (sym (alone had) ∙ ap (λ (o : Option CertFault). had or_else o) (sym x.3));
+      before = found.before;
+      new = λ keys have own. named (λ (k : List ℕ). is_among k keys ≡ false) (found.new keys have own);
+      met = λ keys have. named (λ (k : List ℕ). HaveEnds (k ∷ keys) c.with_key-found.new.ends) (found.met keys have);
+    } in
+    walked-on c.args.holder (inside (now c.args.element)) c.loop-rest.rest c.next_usual.new.rest x.0 had c.with_key-found.result.fault c.loop-rest.found.have_ends_of_their_own c.with_key-found.result.have_ends_of_their_own c.loop-rest.ends c.with_key-found.new.ends
+    (sym c.is_at_end.ensures ∙ c.loop-rest-test.true) x.1 one c.loop-rest.invariant
 
 pub loop-rest-preserved : goal.loop-rest-preserved
 loop-rest-preserved c =
-    let x = standing_as c.in_ok-extension.extension in
     let here = c.loop-rest.rest in
-    let after = c.next_item.new.rest in
-    let i = c.loop-rest.invariant in
-    let more = sym c.is_at_end.ensures ∙ c.loop-rest-test.true in
-    let step = walk-step standing_in here x after more c.in_ok-extension.ensures in
-    let one = c.with-found.ensures in
-    let others = values_fault c.args.holder (items_at standing_in after) in (
-      (i.0.0 ++ x ∷ [], goes_on (each standing_in) (each-consumes standing_in) i.0.0 here x after (many (each standing_in) (inside (now c.args.element))) more c.in_ok-extension.ensures i.0.1),
-      ap (λ (o : Option CertFault). o or_else others) one.fault
-          ∙ (grouped c.loop-rest.found.fault (value_fault c.args.holder x) others ∙ (ap (λ (xs : List Standing). c.loop-rest.found.fault or_else values_fault c.args.holder xs) (sym step) ∙ i.1)),
-      λ own.
-          let before = i.2 (one.before own) in (
-            x.extnID ∷ before.0,
-            one.met before.0 before.1,
-            before.2 ∙ seen-next (λ (y : Standing). y.extnID) before.0 _ x (items_at standing_in after) step (one.new before.0 before.1 own),
-          ),
-    )
+    let x = standing_as c.in_ok-extension-in-None.extension in
+    let found = c.with-found.ensures in
+    let read = stayed here c.next_usual.new.rest (c.next_usual.ensures.stays c.in-None.is) c.in_ok-extension-in-None.ensures in
+    let one : Finds c.args.holder x c.loop-rest.found.fault c.with-found.result.fault c.loop-rest.found.have_ends_of_their_own c.with-found.result.have_ends_of_their_own c.loop-rest.ends c.with-found.new.ends =
+    record { fault = found.fault; before = found.before; new = found.new; met = found.met } in
+    walked-on c.args.holder (inside (now c.args.element)) here c.next_extension.new.rest x c.loop-rest.found.fault c.with-found.result.fault c.loop-rest.found.have_ends_of_their_own c.with-found.result.have_ends_of_their_own c.loop-rest.ends c.with-found.new.ends
+    (sym c.is_at_end.ensures ∙ c.loop-rest-test.true) read one c.loop-rest.invariant
 
 pub returns-then-is_empty-clause-shape : goal.returns-then-is_empty-clause-shape
 returns-then-is_empty-clause-shape c =

@@ -1,0 +1,125 @@
+-- Extensions as most certificates have them.
+use Rattle.std.proofs.Common.{◌≡◌, ◌≢◌, ℕ, ◌%◌, ◌/◌, ◌<◌, ◌≤◌, Bool, true, false, eqb, List, [], ◌∷◌, ◌++◌, length, drop, get_or, Option, Some, None, Ok, refl, sym, ap, subst, arith}
+use Rattle.std.specs.Prelude.{IfSome, is_some}
+use Rattle.std.proofs.lemmas.Bool.{eq-eqb, ne_eqb}
+use Rattle.std.proofs.lemmas.List.{append-nil}
+use Rattle.ts_der.specs.BitString.{bits_of, bits_rules, last_octet, named_bits_rules}
+use Rattle.ts_der.specs.declared.fault.Fault.{Fault}
+use Rattle.ts_der.specs.Boolean.{boolean_content}
+use Rattle.ts_der.specs.Element.{Place, Tlv, Fits, spell, length_octets}
+use Rattle.ts_der.specs.Reading.{element_at}
+use Rattle.ts_der.proofs.BitStrings.{named-found}
+use Rattle.ts_der.proofs.FewOctets.{three_go}
+use Rattle.ts_der.proofs.Laws.{bind_ok, ok_is}
+use Rattle.ts_der.proofs.Lengths.{length_octets-short}
+use Rattle.ts_name.specs.Names.{within}
+use Rattle.ts_ext.specs.declared.known.Known.{Known}
+use Rattle.ts_ext.specs.declared.known.Holder.{Holder}
+use Rattle.ts_ext.specs.AuthorityKey.{IsAuthorityKey}
+use Rattle.ts_ext.specs.Ext.{ExtValue, layout_of, IsContent}
+use Rattle.ts_ext.specs.Extension.{Extension, Standing, said, standing_of, IsExtension}
+use Rattle.ts_ext.specs.Known.{known_at, extension_of}
+use Rattle.ts_ext.specs.Rules.{broken_rule}
+use Rattle.ts_ext.specs.Spelling.{IfTrue, IsBasicConstraints, IsKeyUsage}
+use Rattle.ts_ext.specs.ValueRules.{value_fault, IsSoundValue, IsSound}
+use Rattle.ts_ext.proofs.ExtensionParts.{extension-again}
+use Rattle.ts_ext.proofs.Soundness.{sound-then}
+
+pub some-of : {A : Type 0} (P : A → Type 0) (o : Option A) → IfSome o P → is_some o ≡ true → (x : A) × P x
+some-of P (Some x) p e = (x, p)
+some-of P None p e = absurd cc
+
+pub short-spelled : (tag : ℕ) (octets : List ℕ) → 2 ≤ length octets → tag < 256 → tag % 32 ≢ 31 → get_or octets 0 0 ≡ tag → get_or octets 1 0 < 128 → length (drop 2 octets) ≡ get_or octets 1 0
+    → Fits tag (drop 2 octets) × (octets ≡ spell tag (drop 2 octets))
+short-spelled tag (t ∷ f ∷ content) two octet low first short count =
+    let form : length_octets (length content) ≡ length content ∷ [] = length_octets-short (length content) (omega (arith, short, count)) in
+    (record { octet = octet; low = low; short = omega (arith, short, count) }, rw (form, first, count) refl)
+short-spelled tag [] two octet low first short count = absurd (omega arith)
+short-spelled tag (t ∷ []) two octet low first short count = absurd (omega arith)
+
+pub of-authority : (content : List ℕ) → length content ≡ 3 → get_or content 0 0 ≡ 0x01 → get_or content 1 0 ≡ 1 → get_or content 2 0 ≡ 0xFF → IsBasicConstraints content (record { ca = true; path_len_constraint = None })
+of-authority (a ∷ b ∷ c ∷ []) three x y z =
+    record {
+      authority = a ∷ b ∷ c ∷ [];
+      length = [];
+      cA = rw (length_octets-short 1 (omega arith), x, y, z) refl;
+      pathLenConstraint = refl;
+      fields = refl;
+    }
+of-authority [] three x y z = absurd cc
+of-authority (a ∷ []) three x y z = absurd cc
+of-authority (a ∷ b ∷ []) three x y z = absurd cc
+of-authority (a ∷ b ∷ c ∷ d ∷ more) three x y z = absurd cc
+
+pub crl-sign-last : (content : List ℕ) → length content ≡ 2 → get_or content 0 0 ≡ 1 → get_or content 1 0 % 4 ≡ 2 → (bits : List Bool) × IsKeyUsage content bits
+unfolding named_bits_rules bits_rules last_octet
+crl-sign-last (u ∷ o ∷ []) two x y =
+    let unused : eqb (o % 2) 0 ≡ true = eq-eqb (o % 2) 0 (omega (arith, y)) in
+    let last : eqb (o / 2 % 2) 0 ≡ false = ne_eqb (o / 2 % 2) 0 (λ e. omega (arith, y, e)) in
+    let n = named-found (u ∷ o ∷ []) (1, o ∷ []) (rw x (rw (unused, last) refl)) in
+    (bits_of 1 (o ∷ []), record { spelled = n.0; shortest = n.1 })
+crl-sign-last [] two x y = absurd cc
+crl-sign-last (u ∷ []) two x y = absurd cc
+crl-sign-last (u ∷ o ∷ p ∷ more) two x y = absurd cc
+
+-- the identifier of a key, and nothing else
+pub key-alone : (content identifier : List ℕ) → Fits 0x80 identifier → content ≡ spell 0x80 identifier → IsAuthorityKey content (record { keyIdentifier = Some identifier; authorityCertIssuer = None; authorityCertSerialNumber = None })
+key-alone content identifier fits spelled =
+    record {
+      key = content;
+      issuer = [];
+      serial = [];
+      keyIdentifier = record { content = identifier; fits = fits; spelled = spelled; value = refl };
+      authorityCertIssuer = refl;
+      authorityCertSerialNumber = refl;
+      fields = sym (append-nil content);
+    }
+
+pub sound-value : (known : Known) (octets content : List ℕ) (x : ExtValue) → Fits (layout_of known).tag content → octets ≡ spell (layout_of known).tag content → IsContent known content x → broken_rule x ≡ None
+    → IsSoundValue (Some known) octets
+sound-value known octets content x fits spelled is none = (x, record { content = content; fits = fits; spelled = spelled; value = is }, none)
+
+pub true-flag : (fields : List ℕ) → 3 ≤ length fields → get_or fields 0 0 ≡ 0x01 → get_or fields 1 0 ≡ 1 → get_or fields 2 0 ≡ 0xFF → fields ≡ spell 0x01 (boolean_content true) ++ drop 3 fields
+true-flag (a ∷ b ∷ c ∷ more) three x y z = rw (length_octets-short 1 (omega arith), x, y, z) refl
+true-flag [] three x y z = absurd (omega arith)
+true-flag (a ∷ []) three x y z = absurd (omega arith)
+true-flag (a ∷ b ∷ []) three x y z = absurd (omega arith)
+
+pub short-extension : (content flag behind value : List ℕ) (critical : Bool) → 5 ≤ length content → get_or content 0 0 ≡ 0x06 → get_or content 1 0 ≡ 3 → get_or content 2 0 ≡ 0x55 → get_or content 3 0 ≡ 0x1D → get_or content 4 0 < 128
+    → IfTrue 0x01 flag critical → drop 5 content ≡ flag ++ behind → Fits 0x04 value → behind ≡ spell 0x04 value
+    → IsExtension content (record { extnID = 0x55 ∷ 0x1D ∷ get_or content 4 0 ∷ []; critical = critical; extnValue = value })
+short-extension (t ∷ l ∷ j ∷ k ∷ a ∷ fields) flag behind value critical five tag size joint ce small is split fits spelled =
+    record {
+      id = 0x06 ∷ 3 ∷ 0x55 ∷ 0x1D ∷ a ∷ [];
+      flag = flag;
+      value = behind;
+      extnID = record {
+        content = 0x55 ∷ 0x1D ∷ a ∷ [];
+        fits = record { octet = omega arith; low = λ e. omega arith; short = omega arith };
+        spelled = rw (length_octets-short 3 (omega arith)) refl;
+        value = (refl, three_go (0x55 ∷ 0x1D ∷ a ∷ []) refl (omega arith) (omega arith) small);
+      };
+      critical = is;
+      extnValue = record { content = value; fits = fits; spelled = spelled; value = refl };
+      fields = rw (tag, size, joint, ce) (ap (λ (o : List ℕ). 0x06 ∷ 3 ∷ 0x55 ∷ 0x1D ∷ a ∷ o) split);
+    }
+short-extension [] flag behind value critical five tag size joint ce small is split fits spelled = absurd (omega arith)
+short-extension (t ∷ []) flag behind value critical five tag size joint ce small is split fits spelled = absurd (omega arith)
+short-extension (t ∷ l ∷ []) flag behind value critical five tag size joint ce small is split fits spelled = absurd (omega arith)
+short-extension (t ∷ l ∷ j ∷ []) flag behind value critical five tag size joint ce small is split fits spelled = absurd (omega arith)
+short-extension (t ∷ l ∷ j ∷ k ∷ []) flag behind value critical five tag size joint ce small is split fits spelled = absurd (omega arith)
+
+stands : (here : Place) (e : Tlv) (after : Place) (x : Standing) → element_at 0x30 here ≡ Ok (e, after) → standing_of e ≡ Ok x → within 0x30 standing_of here ≡ Ok (x, after)
+unfolding within
+stands here e after x element read = rw (element, read) refl
+
+-- an element that spells an extension with a sound value is one, where it stands
+pub sound-stands : (holder : Holder) (here : Place) (e : Tlv) (after : Place) (arc : ℕ) (critical : Bool) (value : List ℕ) → element_at 0x30 here ≡ Ok (e, after)
+    → IsExtension e.content (record { extnID = 0x55 ∷ 0x1D ∷ arc ∷ []; critical = critical; extnValue = value }) → IsSoundValue (extension_of holder arc) value
+    → (x : Standing) × (within 0x30 standing_of here ≡ Ok (x, after)) × (x.extnID ≡ 0x55 ∷ 0x1D ∷ arc ∷ []) × (value_fault holder x ≡ None)
+unfolding known_at
+sound-stands holder here e after arc critical value element is sound =
+    let y : Extension = record { extnID = 0x55 ∷ 0x1D ∷ arc ∷ []; critical = critical; extnValue = value } in
+    let s = bind_ok (standing_of e) (λ x. Ok (said x)) y (extension-again e y is) in
+    let same : said s.0 ≡ y = ok_is {A = Extension} {E = Fault} (said s.0) y s.2 in
+    (s.0, stands here e after s.0 element s.1, ap (λ (z : Extension). z.extnID) same, sound-then holder s.0 (subst (λ (z : Extension). IsSound holder z) (sym same) sound))

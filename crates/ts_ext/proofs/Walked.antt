@@ -1,0 +1,51 @@
+-- A walk over extensions that judges them on its way.
+use Rattle.std.proofs.Common.{◌≡◌, ℕ, Bool, true, false, List, [], ◌∷◌, ◌++◌, Option, Some, None, Ok, refl, sym, ap, ◌∙◌}
+use Rattle.ts_der.specs.Element.{Place}
+use Rattle.ts_der.specs.Reading.{is_end, many}
+use Rattle.ts_der.proofs.Many.{with_front, goes_on}
+use Rattle.ts_name.specs.declared.fault.CertFault.{CertFault}
+use Rattle.ts_name.specs.Items.{each, items_at}
+use Rattle.ts_name.specs.Names.{within}
+use Rattle.ts_name.specs.Repeats.{first_repeated, HaveEnds, is_among}
+use Rattle.ts_name.specs.Shape.{◌or_else◌}
+use Rattle.ts_name.proofs.FirstRepeats.{seen-next}
+use Rattle.ts_name.proofs.ItemParts.{each-tag, each-consumes, walk-step}
+use Rattle.ts_ext.specs.declared.known.Holder.{Holder}
+use Rattle.ts_ext.specs.Extension.{Standing, standing_of, standing_in}
+use Rattle.ts_ext.specs.ValueRules.{value_fault, values_fault}
+
+-- what was found up to here, of the extensions at a first place
+abbrev pub Walked : Holder → Place → Place → Option CertFault → Bool → List Bool → Type 0
+Walked holder first here fault own ends =
+    ((front : List Standing) × (with_front front (many (each standing_in) here) ≡ many (each standing_in) first))
+    × ((fault or_else values_fault holder (items_at standing_in here)) ≡ values_fault holder (items_at standing_in first))
+    × (own ≡ true → (keys : List (List ℕ)) × HaveEnds keys ends
+    × (first_repeated (λ x. x.extnID) [] (items_at standing_in first) ≡ first_repeated (λ x. x.extnID) keys (items_at standing_in here)))
+
+-- what is found of one extension more
+pub record Finds (holder : Holder) (x : Standing) (had has : Option CertFault) (own still : Bool) (ends others : List Bool) : Type 0 where
+  pub fault : has ≡ (had or_else value_fault holder x)
+  pub before : still ≡ true → own ≡ true
+  pub new : (keys : List (List ℕ)) → HaveEnds keys ends → still ≡ true → is_among x.extnID keys ≡ false
+  pub met : (keys : List (List ℕ)) → HaveEnds keys ends → HaveEnds (x.extnID ∷ keys) others
+
+grouped : (a b c : Option CertFault) → ((a or_else b) or_else c) ≡ (a or_else (b or_else c))
+grouped None b c = refl
+grouped (Some f) b c = refl
+
+pub walked-on : (holder : Holder) (first here after : Place) (x : Standing) (fault next : Option CertFault) (own still : Bool) (ends others : List Bool) → is_end here.rest ≡ false
+    → within 0x30 standing_of here ≡ Ok (x, after) → Finds holder x fault next own still ends others → Walked holder first here fault own ends → Walked holder first after next still others
+walked-on holder first here after x fault next own still ends others more next-is one i =
+    let read = each-tag 0x30 standing_of here ∙ next-is in
+    let step = walk-step standing_in here x after more read in
+    let later = values_fault holder (items_at standing_in after) in (
+      (i.0.0 ++ x ∷ [], goes_on (each standing_in) (each-consumes standing_in) i.0.0 here x after (many (each standing_in) first) more read i.0.1),
+      ap (λ (o : Option CertFault). o or_else later) one.fault
+          ∙ (grouped fault (value_fault holder x) later ∙ (ap (λ (xs : List Standing). fault or_else values_fault holder xs) (sym step) ∙ i.1)),
+      λ is.
+          let before = i.2 (one.before is) in (
+            x.extnID ∷ before.0,
+            one.met before.0 before.1,
+            before.2 ∙ seen-next (λ (y : Standing). y.extnID) before.0 _ x (items_at standing_in after) step (one.new before.0 before.1 is),
+          ),
+    )

@@ -1,0 +1,132 @@
+//! Extensions as most certificates have them, told at a glance.
+
+ghost use Rattle.std.specs.Prelude.{◌≡◌, ◌++◌, ◌∷◌, [], true, ℕ, List, Bool, Ok, Some, None, IfSome};
+ghost use Rattle.ts_der.specs.Element.{Fits, spell};
+ghost use Rattle.ts_name.specs.Names.{within};
+ghost use Rattle.ts_ext.specs.Extension.{Standing, standing_of, IsExtension};
+ghost use Rattle.ts_ext.specs.Spelling.{IfTrue, IsBasicConstraints, IsKeyUsage};
+ghost use Rattle.ts_ext.specs.ValueRules.{IsSoundValue, value_fault};
+
+use crate::authority_key_identifier::KEY_IDENTIFIER;
+use crate::fields::{BIT_STRING, BOOLEAN, OBJECT_IDENTIFIER, OCTET_STRING, SEQUENCE};
+use crate::known::{Holder, Known};
+use ts_der::Reader;
+
+/// The content of the one element that octets are, where it has this tag and a length of one octet. Where nothing is
+/// answered, nothing is said.
+#[inline(always)]
+fn short_content(tag: u8, octets: &[u8]) -> Option<&[u8]>
+    ensures { IfSome result (λ content. Fits tag content.now × (octets.now ≡ spell tag content.now)) }
+{
+    let [first, length, content @ ..] = octets else {
+        return None;
+    };
+    let count = content.len();
+    if *first != tag || tag % 0x20 == 0x1f || *length >= 0x80 || count != *length as usize {
+        return None;
+    }
+    Some(content)
+}
+
+/// Whether basic constraints are those of an authority without a bound: cA alone (RFC 5280 4.2.1.9).
+#[inline(always)]
+fn are_of_authority(content: &[u8]) -> bool
+    ensures { result ≡ true → IsBasicConstraints content.now (record { ca = true; path_len_constraint = None }) }
+{
+    let [tag, length, ca] = content else {
+        return false;
+    };
+    if *tag != BOOLEAN || *length != 1 || *ca != 0xFF {
+        return false;
+    }
+    true
+}
+
+/// Whether a key usage has one octet and ends with cRLSign, bit 6 (RFC 5280 4.2.1.3).
+#[inline(always)]
+fn ends_with_crl_sign(content: &[u8]) -> bool
+    ensures { result ≡ true → (bits : List Bool) × IsKeyUsage content.now bits }
+{
+    let [unused, octet] = content else {
+        return false;
+    };
+    if *unused != 1 || *octet % 4 != 2 {
+        return false;
+    }
+    true
+}
+
+/// Whether octets are a value of this extension as most certificates have it, which breaks no rule: the identifier of a
+/// key, alone where it is the authority's; the basic constraints of an authority; a key usage that ends with cRLSign.
+/// Where they are not, nothing is said.
+#[inline(always)]
+fn is_usual(known: Known, octets: &[u8]) -> bool
+    ensures { result ≡ true → IsSoundValue (Some known) octets.now }
+{
+    match known {
+        Known::SubjectKeyIdentifier => short_content(OCTET_STRING, octets).is_some(),
+        Known::BasicConstraints => match short_content(SEQUENCE, octets) {
+            Some(content) => are_of_authority(content),
+            None => false,
+        },
+        Known::KeyUsage => match short_content(BIT_STRING, octets) {
+            Some(content) => ends_with_crl_sign(content),
+            None => false,
+        },
+        Known::AuthorityKeyIdentifier => match short_content(SEQUENCE, octets) {
+            Some(content) => short_content(KEY_IDENTIFIER, content).is_some(),
+            None => false,
+        },
+        _ => false,
+    }
+}
+
+/// What stands behind critical, where that is TRUE, and else all.
+#[inline(always)]
+fn behind_critical(fields: &[u8]) -> &[u8]
+    ensures { (flag : List ℕ) × (critical : Bool) × IfTrue 0x01 flag critical × (fields.now ≡ flag ++ result.now) }
+{
+    let [tag, length, octet, value @ ..] = fields else {
+        return fields;
+    };
+    if *tag != BOOLEAN || *length != 1 || *octet != 0xFF {
+        return fields;
+    }
+    value
+}
+
+/// The last arc of an extension under 2.5.29, and its value, where each of its lengths has one octet. Where nothing is
+/// answered, nothing is said.
+#[inline(always)]
+fn short_parts(content: &[u8]) -> Option<(u8, &[u8])>
+    ensures { IfSome result (λ parts. (critical : Bool) × IsExtension content.now (record { extnID = 0x55 ∷ 0x1D ∷ parts.0 ∷ []; critical = critical; extnValue = parts.1.now })) }
+{
+    let [tag, length, joint, ce, arc, fields @ ..] = content else {
+        return None;
+    };
+    if *tag != OBJECT_IDENTIFIER || *length != 3 || *joint != 0x55 || *ce != 0x1D || *arc >= 0x80 {
+        return None;
+    }
+    let value = short_content(OCTET_STRING, behind_critical(fields))?;
+    Some((*arc, value))
+}
+
+/// The last arc, under 2.5.29, of the extension that stands next, where it is one of most certificates with a usual value;
+/// the reader has then passed it. Else nothing is said, and the reader stays.
+#[inline(always)]
+pub(crate) fn next_usual(rest: &mut Reader<'_>, holder: Holder) -> Option<u8>
+    ensures passed { IfSome result (λ arc. (x : Standing) × (within 0x30 standing_of rest.old ≡ Ok (x, rest.new)) × (x.extnID ≡ 0x55 ∷ 0x1D ∷ arc ∷ []) × (value_fault holder x ≡ None)) }
+    ensures stays { result ≡ None → rest.new ≡ rest.old }
+{
+    let mut after = rest.fork();
+    let Ok(element) = after.element(SEQUENCE) else {
+        return None;
+    };
+    let (arc, value) = short_parts(element.content)?;
+    let known = Known::with_arc(holder, arc)?;
+    if !is_usual(known, value) {
+        return None;
+    }
+    *rest = after;
+    Some(arc)
+}
