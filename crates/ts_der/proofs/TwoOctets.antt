@@ -1,6 +1,6 @@
 -- A header whose length has two octets behind the first, and elements by their first octet.
-use Rattle.std.proofs.Common.{◌≡◌, ◌≢◌, ℕ, ◌+◌, ◌-◌, ◌*◌, ◌%◌, ◌≤◌, Bool, true, false, cond, eqb, ltb, List, [], ◌∷◌, length, get_or, Option, Some, None, Result, Ok, Err, refl, sym, ap, arith, inr}
-use Rattle.std.proofs.lemmas.Bool.{ltb-true, ltb-false}
+use Rattle.std.proofs.Common.{◌≡◌, ◌≢◌, ℕ, ◌+◌, ◌-◌, ◌*◌, ◌%◌, ◌≤◌, Bool, true, false, cond, eqb, ltb, ◌&&◌, List, [], ◌∷◌, length, get_or, Option, Some, None, Result, Ok, Err, refl, sym, ap, ◌∙◌, arith, inr}
+use Rattle.std.proofs.lemmas.Bool.{lt-ltb, ltb-true, ltb-false}
 use Rattle.ts_der.specs.declared.fault.DerFault.{DerFault}
 use Rattle.ts_der.specs.declared.fault.DerFault.TheVariants.{Truncated, WrongTag}
 use Rattle.ts_der.specs.declared.fault.Fault.{Fault}
@@ -9,7 +9,7 @@ use Rattle.ts_der.specs.Rules.{first_broken}
 use Rattle.ts_der.specs.Element.{Place, Tlv, number}
 use Rattle.ts_der.specs.Header.{header_rules, length_of}
 use Rattle.ts_der.specs.Reading.{fault_at, unless, element_of, behind, begins_with, next_at, element_at}
-use Rattle.ts_der.proofs.Headers.{no_rule_broken, cut_off}
+use Rattle.ts_der.proofs.Headers.{no_rule_broken, has_header, cut_off}
 
 -- ---- a length of two octets
 
@@ -48,6 +48,13 @@ has_two (t ∷ f ∷ h ∷ []) four low form some = absurd (omega arith)
 
 -- ---- the tag first
 
+pub both : (a b : Bool) → (a && b) ≡ true → b ≡ true
+both true b e = e
+both false b e = absurd cc
+
+pub not_both : (n : ℕ) (b : Bool) → (ltb 1 n && b) ≡ false → 2 ≤ n → b ≡ false
+not_both n b e two = ap (λ (a : Bool). a && b) (sym (lt-ltb 1 n (omega arith))) ∙ e
+
 pub this_tag : (tag : ℕ) (here : Place) → begins_with tag here.rest ≡ true → element_at tag here ≡ next_at here
 unfolding element_at next_at element_of
 this_tag tag here begins = by_list here.rest begins
@@ -62,17 +69,19 @@ this_tag tag here begins = by_list here.rest begins
     by_list [] b = absurd cc
     by_list (t ∷ more) b = by_rule t more b (first_broken header_rules (t ∷ more))
 
-pub other_tag : (tag : ℕ) (here : Place) (f : Fault) → begins_with tag here.rest ≡ false → ((kind : DerFault) → first_broken header_rules here.rest ≡ Some kind → f ≡ fault_at here.at kind)
+-- no element of a tag, where another begins or only one octet is left
+pub other_tag : (tag : ℕ) (here : Place) (f : Fault) → (2 ≤ length here.rest → begins_with tag here.rest ≡ false) → ((kind : DerFault) → first_broken header_rules here.rest ≡ Some kind → f ≡ fault_at here.at kind)
     → (first_broken header_rules here.rest ≡ None → f ≡ fault_at here.at WrongTag) → element_at tag here ≡ Err f
-unfolding element_at next_at element_of header_rules
-other_tag tag here f begins = by_list here.rest begins
+unfolding element_at next_at element_of
+other_tag tag here f begins header other = by_rule (first_broken header_rules here.rest) refl
   where
-    by_rule : (t : ℕ) (more : List ℕ) → eqb t tag ≡ false → (o : Option DerFault) → ((kind : DerFault) → o ≡ Some kind → f ≡ fault_at here.at kind) → (o ≡ None → f ≡ fault_at here.at WrongTag)
-        → (unless o here.at (element_of (record { rest = t ∷ more; at = here.at }), behind (record { rest = t ∷ more; at = here.at })) >>= λ x. cond {A = Result (Tlv × Place) Fault} (eqb x.0.tag tag) (Ok x) (Err (fault_at x.0.at WrongTag))) ≡ Err f
-    by_rule t more not None broken other = rw (not, other refl) refl
-    by_rule t more not (Some kind) broken other = ap (λ (g : Fault). Err g) (sym (broken kind refl))
+    by_tag : (rest : List ℕ) → begins_with tag rest ≡ false → 2 ≤ length rest → eqb (get_or rest 0 0) tag ≡ false
+    by_tag [] b two = absurd (omega arith)
+    by_tag (t ∷ more) b two = b
 
-    by_list : (rest : List ℕ) → begins_with tag rest ≡ false → ((kind : DerFault) → first_broken header_rules rest ≡ Some kind → f ≡ fault_at here.at kind)
-        → (first_broken header_rules rest ≡ None → f ≡ fault_at here.at WrongTag) → element_at tag (record { rest = rest; at = here.at }) ≡ Err f
-    by_list [] b broken other = ap (λ (g : Fault). Err g) (sym (broken Truncated refl))
-    by_list (t ∷ more) b broken other = by_rule t more b (first_broken header_rules (t ∷ more)) broken other
+    by_rule : (o : Option DerFault) → first_broken header_rules here.rest ≡ o
+        → (unless o here.at (element_of here, behind here) >>= λ x. cond {A = Result (Tlv × Place) Fault} (eqb x.0.tag tag) (Ok x) (Err (fault_at x.0.at WrongTag))) ≡ Err f
+    by_rule None e =
+        let two = (has_header here.rest e).two in
+        rw (by_tag here.rest (begins two) two, other e) refl
+    by_rule (Some kind) e = ap (λ (g : Fault). Err g) (sym (header kind e))

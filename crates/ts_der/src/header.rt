@@ -110,11 +110,21 @@ pub fn read_header(rest: &[u8]) -> Result<Header, DerFault>
     {
         return Header::before(content, *tag, 4, *high as usize * 0x100 + *low as usize);
     }
-    // Its parts, so that a short form is handed on without a place in memory.
-    let Header { size, length, .. } = read_long_form(*tag, *form, more)?;
-    Ok(Header {
-        tag: *tag,
-        size,
-        length,
-    })
+    long_header(*tag, *form, more)
+}
+
+/// The same of a length in the long form, built again of its parts. Standing by itself, it makes no room in memory where the
+/// form is short.
+#[inline(always)]
+fn long_header(tag: u8, form: u8, more: &[u8]) -> Result<Header, DerFault>
+    requires low { (tag % 32 == 31) ≡ false }
+    requires long { 0x80 ≤ form }
+    ensures fault { refusal result ≡ first_broken header_rules (tag ∷ form ∷ more.now) }
+    ensures tag { IfOk result (λ h. h.tag ≡ tag) }
+    ensures size { IfOk result (λ h. h.size ≡ header_size (tag ∷ form ∷ more.now)) }
+    ensures length { IfOk result (λ h. h.length ≡ length_of (tag ∷ form ∷ more.now)) }
+    ensures whole { IfOk result (λ h. h.size + h.length ≤ 2 + length more.now) }
+{
+    let Header { size, length, .. } = read_long_form(tag, form, more)?;
+    Ok(Header { tag, size, length })
 }

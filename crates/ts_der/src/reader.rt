@@ -1,6 +1,6 @@
 //! Elements one after another, front to back.
 
-ghost use Rattle.std.specs.Prelude.{◌≡◌, ◌≢◌, ◌%◌, Bool, true, false, Ok, ℕ, ◌+◌, ◌<◌, ◌^◌, List, [], ◌++◌, length, take, drop, ◌≤◌, ◌==◌, if◌then◌else◌, is_some, option_map, IfSome, IfOk, IfErr, OnErr, IsOk, IsOkAnd, ◌↔◌, Some, None};
+ghost use Rattle.std.specs.Prelude.{◌≡◌, ◌≢◌, ◌%◌, Bool, true, false, Ok, ℕ, ◌+◌, ◌<◌, ◌^◌, List, [], ◌++◌, length, take, drop, ◌≤◌, ◌==◌, ◌&&◌, nat_lt, if◌then◌else◌, is_some, option_map, IfSome, IfOk, IfErr, OnErr, IsOk, IsOkAnd, ◌↔◌, Some, None};
 ghost use Rattle.ts_der.specs.Octets.{AreOctets};
 ghost use Rattle.ts_der.specs.Header.{header_rules as rules_of_headers};
 ghost use Rattle.ts_der.specs.Reading.{fault_at as fault_there};
@@ -241,10 +241,22 @@ impl<'a> Reader<'a> {
         ensures octets { AreOctets self.now.rest }
         ensures exact { Answers (λ x. (now x.0, x.1)) result (element_at tag self.now) }
     {
-        if !self.begins_with(tag) {
+        if !self.begins_header(tag) {
             return Err(fault_without(self.rest, self.at));
         }
         self.split()
+    }
+
+    /// Whether the next octet is this tag, and not the last.
+    #[inline(always)]
+    fn begins_header(&self, tag: u8) -> bool
+        ensures octets { AreOctets self.now.rest }
+        ensures begins { result ≡ (nat_lt 1 (length self.now.rest) && begins_with tag self.now.rest) }
+    {
+        match self.rest {
+            [first, _, ..] => *first == tag,
+            _ => false,
+        }
     }
 
     /// Whether the next octet is this tag.

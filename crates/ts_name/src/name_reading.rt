@@ -1,6 +1,7 @@
 //! Reading a distinguished name.
 
 ghost use Rattle.std.specs.Prelude.{◌≡◌, ◌∷◌, [], List, true, None, Ok, IfOk, IsOkAnd, option_map};
+ghost use Rattle.std.specs.Str.{is_utf8};
 ghost use Rattle.ts_der.specs.Answer.{Answers, refusal};
 ghost use Rattle.ts_der.specs.Rules.{first_broken};
 ghost use Rattle.ts_der.specs.Element.{inside};
@@ -83,8 +84,19 @@ fn check_attributes(set: Element<'_>) -> Result<bool, Fault>
     Ok(is_single)
 }
 
-/// Whether octets are in the character set that a tag has.
+/// Whether octets are text in UTF-8.
 #[tactic(auto, using(ts_der::proofs::Texts::is_utf8_is))]
+#[inline(never)]
+fn is_utf8(octets: &[u8]) -> bool
+    ensures { result ≡ true → is_utf8 octets.now ≡ true }
+{
+    match str::from_utf8(octets) {
+        Ok(_) => true,
+        Err(_) => false,
+    }
+}
+
+/// Whether octets are in the character set that a tag has.
 #[inline(always)]
 fn are_in_character_set(tag: u8, octets: &[u8]) -> bool
     ensures { result ≡ true → first_broken (text_rules tag) octets.now ≡ None }
@@ -94,10 +106,7 @@ fn are_in_character_set(tag: u8, octets: &[u8]) -> bool
         return true;
     }
     match tag {
-        UTF8_STRING => match str::from_utf8(octets) {
-            Ok(_) => true,
-            Err(_) => false,
-        },
+        UTF8_STRING => is_utf8(octets),
         PRINTABLE_STRING | IA5_STRING => false,
         _ => true,
     }
