@@ -85,10 +85,10 @@ fn check_attributes(set: Element<'_>) -> Result<bool, Fault>
 }
 
 /// Whether octets are text in UTF-8.
-#[tactic(auto, using(ts_der::proofs::Texts::is_utf8_is))]
+#[tactic(auto, using(ts_der::proofs::Texts::is_utf8_is, ts_der::proofs::Texts::is_utf8_is_not))]
 #[inline(never)]
 fn is_utf8(octets: &[u8]) -> bool
-    ensures { result ≡ true → is_utf8 octets.now ≡ true }
+    ensures { result ≡ is_utf8 octets.now }
 {
     match str::from_utf8(octets) {
         Ok(_) => true,
