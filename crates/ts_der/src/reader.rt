@@ -2,9 +2,6 @@
 
 ghost use Rattle.std.specs.Prelude.{◌≡◌, ◌≢◌, ◌%◌, Bool, true, false, Ok, ℕ, ◌+◌, ◌<◌, ◌^◌, List, [], ◌++◌, length, take, drop, ◌≤◌, ◌==◌, ◌&&◌, nat_lt, if◌then◌else◌, is_some, option_map, IfSome, IfOk, IfErr, OnErr, IsOk, IsOkAnd, ◌↔◌, Some, None};
 ghost use Rattle.ts_der.specs.Octets.{AreOctets};
-ghost use Rattle.ts_der.specs.Header.{header_rules as rules_of_headers};
-ghost use Rattle.ts_der.specs.Reading.{fault_at as fault_there};
-ghost use Rattle.ts_der.specs.Rules.{first_broken as first_rule};
 
 use crate::fault::{DerFault, Fault, located};
 use crate::header::{Header, read_header};
@@ -242,9 +239,22 @@ impl<'a> Reader<'a> {
         ensures exact { Answers (λ x. (now x.0, x.1)) result (element_at tag self.now) }
     {
         if !self.begins_header(tag) {
-            return Err(fault_without(self.rest, self.at));
+            return Err(Reader::fault_without(self.rest, self.at));
         }
         self.split()
+    }
+
+    /// The fault of an element with another tag than the one that it is to have: that of its header, if it has one.
+    #[inline(never)]
+    fn fault_without(rest: &[u8], at: usize) -> Fault
+        ensures broken { (kind : DerFault) → first_broken header_rules rest.now ≡ Some kind → result ≡ fault_at at kind }
+        ensures other { first_broken header_rules rest.now ≡ None → result ≡ fault_at at DerFault.WrongTag }
+    {
+        let kind = match read_header(rest) {
+            Ok(_) => DerFault::WrongTag,
+            Err(kind) => kind,
+        };
+        Fault { kind, at }
     }
 
     /// Whether the next octet is this tag, and not the last.
@@ -320,19 +330,6 @@ impl<'a> Reader<'a> {
         }
         Ok(Some(self.take_tag(tag)?))
     }
-}
-
-/// The fault of an element with another tag than the one that it is to have: that of its header, if it has one.
-#[inline(never)]
-fn fault_without(rest: &[u8], at: usize) -> Fault
-    ensures broken { (kind : DerFault) → first_rule rules_of_headers rest.now ≡ Some kind → result ≡ fault_there at kind }
-    ensures other { first_rule rules_of_headers rest.now ≡ None → result ≡ fault_there at DerFault.WrongTag }
-{
-    let kind = match read_header(rest) {
-        Ok(_) => DerFault::WrongTag,
-        Err(kind) => kind,
-    };
-    Fault { kind, at }
 }
 
 impl<'a> Element<'a> {
