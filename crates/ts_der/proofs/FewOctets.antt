@@ -48,19 +48,30 @@ passes-goes begun value (o ∷ octets) lt =
 pub goes_all : (octets : List ℕ) → length octets ≤ 18 → goes false octets ≡ list_all is_subidentifier (series_of octets)
 goes_all octets few = sym (passes-goes false 0 octets (room-few (length octets) few)) ∙ passes_all octets
 
--- three octets below 128 are three numbers
+-- an octet below 128 goes by itself
+below : (o : ℕ) → o < 128 → (octets : List ℕ) → goes false (o ∷ octets) ≡ goes false octets
+below o lt octets =
+    let other : eqb o 128 ≡ false = ne_eqb o 128 (λ e. omega arith) in
+    let ends : ltb o 128 ≡ true = lt-ltb o 128 lt in
+    rw (other, ends) refl
+
+-- two or three octets below 128 are as many numbers
+pub two_go : (octets : List ℕ) → length octets ≡ 2 → get_or octets 0 0 < 128 → get_or octets 1 0 < 128 → is_oid octets ≡ true
+unfolding is_oid
+two_go (a ∷ b ∷ []) two x y =
+    let octets = a ∷ b ∷ [] in
+    let all : list_all is_subidentifier (series_of octets) ≡ true = sym (goes_all octets (omega arith)) ∙ (below a x (b ∷ []) ∙ below b y []) in
+    rw all refl
+two_go [] two x y = absurd cc
+two_go (a ∷ []) two x y = absurd cc
+two_go (a ∷ b ∷ c ∷ more) two x y = absurd cc
+
 pub three_go : (octets : List ℕ) → length octets ≡ 3 → get_or octets 0 0 < 128 → get_or octets 1 0 < 128 → get_or octets 2 0 < 128 → is_oid octets ≡ true
 unfolding is_oid
 three_go (a ∷ b ∷ c ∷ []) three x y z =
     let octets = a ∷ b ∷ c ∷ [] in
     let all : list_all is_subidentifier (series_of octets) ≡ true = sym (goes_all octets (omega arith)) ∙ (below a x (b ∷ c ∷ []) ∙ (below b y (c ∷ []) ∙ below c z [])) in
     rw all refl
-  where
-    below : (o : ℕ) → o < 128 → (octets : List ℕ) → goes false (o ∷ octets) ≡ goes false octets
-    below o lt octets =
-        let other : eqb o 128 ≡ false = ne_eqb o 128 (λ e. omega arith) in
-        let ends : ltb o 128 ≡ true = lt-ltb o 128 lt in
-        rw (other, ends) refl
 three_go [] three x y z = absurd cc
 three_go (a ∷ []) three x y z = absurd cc
 three_go (a ∷ b ∷ []) three x y z = absurd cc

@@ -58,13 +58,14 @@ fn are_few_subidentifiers(octets: &[u8]) -> bool
     before < 0x80
 }
 
-/// Whether octets are three below 80, each of which is a number, as in the types of attributes and extensions.
+/// Whether octets are two or three below 80, each of which is a number, as in the types of attributes and extensions.
 #[inline(always)]
-fn are_three_numbers(octets: &[u8]) -> bool
+fn are_small_numbers(octets: &[u8]) -> bool
     ensures { result ≡ true → is_oid octets.now ≡ true }
 {
     match octets {
         [a, b, c] => *a < 0x80 && *b < 0x80 && *c < 0x80,
+        [a, b] => *a < 0x80 && *b < 0x80,
         _ => false,
     }
 }
@@ -74,7 +75,7 @@ fn are_three_numbers(octets: &[u8]) -> bool
 fn is_object_identifier(content: &[u8]) -> bool
     ensures { result ≡ is_oid content.now }
 {
-    if are_three_numbers(content) {
+    if are_small_numbers(content) {
         return true;
     }
     if content.len() <= FEW {

@@ -6,13 +6,11 @@ use Rattle.std.proofs.lemmas.List.{append-nil}
 use Rattle.ts_der.specs.BitString.{bits_of, bits_rules, last_octet, named_bits_rules}
 use Rattle.ts_der.specs.declared.fault.Fault.{Fault}
 use Rattle.ts_der.specs.Boolean.{boolean_content}
-use Rattle.ts_der.specs.Element.{Place, Tlv, Fits, spell, length_octets}
-use Rattle.ts_der.specs.Reading.{element_at}
+use Rattle.ts_der.specs.Element.{Tlv, Fits, spell, length_octets}
 use Rattle.ts_der.proofs.BitStrings.{named-found}
 use Rattle.ts_der.proofs.FewOctets.{three_go}
 use Rattle.ts_der.proofs.Laws.{bind_ok, ok_is}
 use Rattle.ts_der.proofs.Lengths.{length_octets-short}
-use Rattle.ts_name.specs.Names.{within}
 use Rattle.ts_ext.specs.declared.known.Known.{Known}
 use Rattle.ts_ext.specs.declared.known.Holder.{Holder}
 use Rattle.ts_ext.specs.AuthorityKey.{IsAuthorityKey}
@@ -109,17 +107,12 @@ short-extension (t ∷ l ∷ []) flag behind value critical five tag size joint 
 short-extension (t ∷ l ∷ j ∷ []) flag behind value critical five tag size joint ce small is split fits spelled = absurd (omega arith)
 short-extension (t ∷ l ∷ j ∷ k ∷ []) flag behind value critical five tag size joint ce small is split fits spelled = absurd (omega arith)
 
-stands : (here : Place) (e : Tlv) (after : Place) (x : Standing) → element_at 0x30 here ≡ Ok (e, after) → standing_of e ≡ Ok x → within 0x30 standing_of here ≡ Ok (x, after)
-unfolding within
-stands here e after x element read = rw (element, read) refl
-
--- an element that spells an extension with a sound value is one, where it stands
-pub sound-stands : (holder : Holder) (here : Place) (e : Tlv) (after : Place) (arc : ℕ) (critical : Bool) (value : List ℕ) → element_at 0x30 here ≡ Ok (e, after)
-    → IsExtension e.content (record { extnID = 0x55 ∷ 0x1D ∷ arc ∷ []; critical = critical; extnValue = value }) → IsSoundValue (extension_of holder arc) value
-    → (x : Standing) × (within 0x30 standing_of here ≡ Ok (x, after)) × (x.extnID ≡ 0x55 ∷ 0x1D ∷ arc ∷ []) × (value_fault holder x ≡ None)
+-- an element that spells an extension with a sound value is one
+pub sound-extension : (holder : Holder) (e : Tlv) (arc : ℕ) (critical : Bool) (value : List ℕ) → IsExtension e.content (record { extnID = 0x55 ∷ 0x1D ∷ arc ∷ []; critical = critical; extnValue = value })
+    → IsSoundValue (extension_of holder arc) value → (x : Standing) × (standing_of e ≡ Ok x) × (x.extnID ≡ 0x55 ∷ 0x1D ∷ arc ∷ []) × (value_fault holder x ≡ None)
 unfolding known_at
-sound-stands holder here e after arc critical value element is sound =
+sound-extension holder e arc critical value is sound =
     let y : Extension = record { extnID = 0x55 ∷ 0x1D ∷ arc ∷ []; critical = critical; extnValue = value } in
     let s = bind_ok (standing_of e) (λ x. Ok (said x)) y (extension-again e y is) in
     let same : said s.0 ≡ y = ok_is {A = Extension} {E = Fault} (said s.0) y s.2 in
-    (s.0, stands here e after s.0 element s.1, ap (λ (z : Extension). z.extnID) same, sound-then holder s.0 (subst (λ (z : Extension). IsSound holder z) (sym same) sound))
+    (s.0, s.1, ap (λ (z : Extension). z.extnID) same, sound-then holder s.0 (subst (λ (z : Extension). IsSound holder z) (sym same) sound))

@@ -1,8 +1,9 @@
 -- A walk over extensions that judges them on its way.
-use Rattle.std.proofs.Common.{◌≡◌, ℕ, Bool, true, false, List, [], ◌∷◌, ◌++◌, Option, Some, None, Ok, refl, sym, ap, ◌∙◌}
-use Rattle.ts_der.specs.Element.{Place}
-use Rattle.ts_der.specs.Reading.{is_end, many}
-use Rattle.ts_der.proofs.Many.{with_front, goes_on}
+use Rattle.std.proofs.Common.{◌≡◌, ℕ, Bool, true, false, List, [], ◌∷◌, ◌++◌, Option, Some, None, Ok, Err, refl, sym, ap, ◌∙◌}
+use Rattle.ts_der.specs.Element.{Place, Tlv}
+use Rattle.ts_der.specs.Reading.{element_at, is_end, many}
+use Rattle.ts_der.proofs.Many.{with_front, goes_on, breaks_off}
+use Rattle.ts_der.specs.declared.fault.Fault.{Fault}
 use Rattle.ts_name.specs.declared.fault.CertFault.{CertFault}
 use Rattle.ts_name.specs.Items.{each, items_at}
 use Rattle.ts_name.specs.Names.{within}
@@ -49,3 +50,22 @@ walked-on holder first here after x fault next own still ends others more next-i
             before.2 ∙ seen-next (λ (y : Standing). y.extnID) before.0 _ x (items_at standing_in after) step (one.new before.0 before.1 is),
           ),
     )
+
+-- what stands next, of an element with the tag of an extension
+pub stands : (here : Place) (e : Tlv) (after : Place) (x : Standing) → element_at 0x30 here ≡ Ok (e, after) → standing_of e ≡ Ok x → within 0x30 standing_of here ≡ Ok (x, after)
+unfolding within
+stands here e after x element read = rw (element, read) refl
+
+pub no-element : (here : Place) (f : Fault) → element_at 0x30 here ≡ Err f → within 0x30 standing_of here ≡ Err f
+unfolding within
+no-element here f element = rw element refl
+
+pub no-extension : (here : Place) (e : Tlv) (after : Place) (f : Fault) → element_at 0x30 here ≡ Ok (e, after) → standing_of e ≡ Err f → within 0x30 standing_of here ≡ Err f
+unfolding within
+no-extension here e after f element read = rw (element, read) refl
+
+-- all is broken where what stands next is
+pub broken-off : (first here : Place) (f : Fault) (front : (front : List Standing) × (with_front front (many (each standing_in) here) ≡ many (each standing_in) first)) → is_end here.rest ≡ false
+    → within 0x30 standing_of here ≡ Err f → many (each standing_in) first ≡ Err f
+broken-off first here f front more read =
+    breaks_off (each standing_in) (each-consumes standing_in) front.0 here f (many (each standing_in) first) more (each-tag 0x30 standing_of here ∙ read) front.1

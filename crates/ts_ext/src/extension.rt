@@ -2,13 +2,11 @@
 
 ghost use Rattle.ts_der.specs.Answer.{Answers};
 ghost use Rattle.ts_der.specs.View.{now};
-ghost use Rattle.ts_name.specs.Names.{within};
-ghost use Rattle.ts_name.specs.Steps.{Takes};
 ghost use Rattle.ts_ext.specs.Extension.{standing_of};
 ghost use Rattle.ts_ext.specs.ExtensionView.{standing_as};
 
 use crate::fields::{BOOLEAN, OCTET_STRING, SEQUENCE, next_oid};
-use ts_der::{Element, Fault, OidRef, Reader};
+use ts_der::{Element, Fault, OidRef};
 use ts_name::{FromElement, Keyed, tagged_as};
 
 /// An extension of a certificate, of a list or of an entry, as it lies in the source (RFC 5280 4.1, 4.2).
@@ -52,7 +50,7 @@ impl<'a> Keyed<'a> for Extension<'a> {
 /// The extension that a SEQUENCE is.
 #[tactic(auto, unfolding(crate::specs::Extension::standing_of))]
 #[inline(always)]
-fn read_extension<'a>(element: Element<'a>) -> Result<Extension<'a>, Fault>
+pub(crate) fn read_extension<'a>(element: Element<'a>) -> Result<Extension<'a>, Fault>
     ensures { Answers standing_as result (standing_of (now element.entry)) }
 {
     let mut fields = element.reader();
@@ -66,13 +64,4 @@ fn read_extension<'a>(element: Element<'a>) -> Result<Extension<'a>, Fault>
         critical,
         value,
     })
-}
-
-/// The extension that stands next, which the reader has then passed.
-#[tactic(auto, unfolding(ts_name::specs::Names::within))]
-#[inline(always)]
-pub(crate) fn next_extension<'a>(rest: &mut Reader<'a>) -> Result<Extension<'a>, Fault>
-    ensures { Takes standing_as rest.new result (within 0x30 standing_of rest.old) }
-{
-    read_extension(rest.element(SEQUENCE)?)
 }

@@ -13,11 +13,11 @@ ghost use Rattle.ts_ext.specs.Extension.{Extension as Stated, AreExplicit, expli
 ghost use Rattle.ts_ext.specs.ExtensionView.{standings_in, extensions_in};
 ghost use Rattle.ts_ext.specs.ValueRules.{values_fault, list_fault};
 
-use crate::extension::{Extension, next_extension};
+use crate::extension::{Extension, read_extension};
 use crate::extensions::Extensions;
 use crate::fields::SEQUENCE;
 use crate::known::Holder;
-use crate::usual::next_usual;
+use crate::usual::usual_arc;
 use ts_der::{DerFault, Element, Fault};
 use ts_name::{CertFault, CertRule, Ends, Keyed, first_repeated, tagged_as};
 
@@ -105,30 +105,31 @@ struct Findings {
 }
 
 /// Walks the extensions of a list.
-fn walk(element: Element<'_>, holder: Holder) -> Result<Findings, Fault>
-    ensures shape { refusal result ≡ refusal (standings_of (now element.entry)) }
-    ensures fault { IfOk result (λ found. found.fault ≡ values_fault holder (items_at standing_in (inside (now element.entry)))) }
-    ensures ends { IfOk result (λ found. found.have_ends_of_their_own ≡ true → first_repeated_of (λ x. x.extnID) [] (items_at standing_in (inside (now element.entry))) ≡ None) }
+fn walk(list: Element<'_>, holder: Holder) -> Result<Findings, Fault>
+    ensures shape { refusal result ≡ refusal (standings_of (now list.entry)) }
+    ensures fault { IfOk result (λ found. found.fault ≡ values_fault holder (items_at standing_in (inside (now list.entry)))) }
+    ensures ends { IfOk result (λ found. found.have_ends_of_their_own ≡ true → first_repeated_of (λ x. x.extnID) [] (items_at standing_in (inside (now list.entry))) ≡ None) }
 {
-    let mut rest = element.reader();
+    let mut rest = list.reader();
     let mut ends = Ends::new();
     let mut found = Findings {
         fault: None,
         have_ends_of_their_own: true,
     };
     while !rest.is_at_end() {
-        found = match next_usual(&mut rest, holder) {
+        let element = rest.element(SEQUENCE)?;
+        found = match usual_arc(element, holder) {
             Some(arc) => found.with_key(&mut ends, &[0x55, 0x1D, arc]),
             None => {
-                let extension = next_extension(&mut rest)?;
+                let extension = read_extension(element)?;
                 found.with(&mut ends, holder, extension)
             }
         };
     }
-    if element.content.is_empty() {
+    if list.content.is_empty() {
         return Err(Fault {
             kind: DerFault::Empty,
-            at: element.at,
+            at: list.at,
         });
     }
     Ok(found)

@@ -2,7 +2,7 @@
 
 ghost use Rattle.std.specs.Prelude.{◌≡◌, ◌++◌, ◌∷◌, [], true, ℕ, List, Bool, Ok, Some, None, IfSome};
 ghost use Rattle.ts_der.specs.Element.{Fits, spell};
-ghost use Rattle.ts_name.specs.Names.{within};
+ghost use Rattle.ts_der.specs.View.{now};
 ghost use Rattle.ts_ext.specs.Extension.{Standing, standing_of, IsExtension};
 ghost use Rattle.ts_ext.specs.Spelling.{IfTrue, IsBasicConstraints, IsKeyUsage};
 ghost use Rattle.ts_ext.specs.ValueRules.{IsSoundValue, value_fault};
@@ -10,7 +10,7 @@ ghost use Rattle.ts_ext.specs.ValueRules.{IsSoundValue, value_fault};
 use crate::authority_key_identifier::KEY_IDENTIFIER;
 use crate::fields::{BIT_STRING, BOOLEAN, OBJECT_IDENTIFIER, OCTET_STRING, SEQUENCE};
 use crate::known::{Holder, Known};
-use ts_der::Reader;
+use ts_der::Element;
 
 /// The content of the one element that octets are, where it has this tag and a length of one octet. Where nothing is
 /// answered, nothing is said.
@@ -111,22 +111,16 @@ fn short_parts(content: &[u8]) -> Option<(u8, &[u8])>
     Some((*arc, value))
 }
 
-/// The last arc, under 2.5.29, of the extension that stands next, where it is one of most certificates with a usual value;
-/// the reader has then passed it. Else nothing is said, and the reader stays.
+/// The last arc, under 2.5.29, of the extension that a SEQUENCE is, where it is one of most certificates with a usual value.
+/// Else nothing is said.
 #[inline(always)]
-pub(crate) fn next_usual(rest: &mut Reader<'_>, holder: Holder) -> Option<u8>
-    ensures passed { IfSome result (λ arc. (x : Standing) × (within 0x30 standing_of rest.old ≡ Ok (x, rest.new)) × (x.extnID ≡ 0x55 ∷ 0x1D ∷ arc ∷ []) × (value_fault holder x ≡ None)) }
-    ensures stays { result ≡ None → rest.new ≡ rest.old }
+pub(crate) fn usual_arc(element: Element<'_>, holder: Holder) -> Option<u8>
+    ensures { IfSome result (λ arc. (x : Standing) × (standing_of (now element.entry) ≡ Ok x) × (x.extnID ≡ 0x55 ∷ 0x1D ∷ arc ∷ []) × (value_fault holder x ≡ None)) }
 {
-    let mut after = rest.fork();
-    let Ok(element) = after.element(SEQUENCE) else {
-        return None;
-    };
     let (arc, value) = short_parts(element.content)?;
     let known = Known::with_arc(holder, arc)?;
     if !is_usual(known, value) {
         return None;
     }
-    *rest = after;
     Some(arc)
 }

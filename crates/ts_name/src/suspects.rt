@@ -127,12 +127,14 @@ fn first_met_again<'a, T: Keyed<'a>, const N: usize, const M: usize>(
     let mut items = SequenceItems::<T>::within(list);
     let mut before = 0;
     while before < end {
+        let mut here = items.fork();
         let Some(item) = items.next() else {
             return None;
         };
         if let Some(place) = place_of(item.key(), table, &flags, factor) {
             if met[place] {
-                return Some(item);
+                // Read once more, so that the walk keeps no more of an item than its key.
+                return here.next();
             }
             met[place] = true;
         }

@@ -1,4 +1,6 @@
-use Rattle.std.proofs.Common.{◌≡◌, ◌+◌, ◌-◌, ◌∷◌, ℕ, suc, Bool, true, false, List, [], length, take, refl, sym, ap, subst, ◌∙◌, arith}
+use Rattle.std.proofs.Common.{◌≡◌, ◌+◌, ◌-◌, ◌∷◌, ℕ, suc, Bool, true, false, List, [], Option, Some, None, length, take, refl, sym, ap, subst, ◌∙◌, arith}
+use Rattle.std.specs.Iterator.{YieldsFirstBy}
+use Rattle.std.specs.Prelude.{option_map}
 use Rattle.ts_der.specs.Element.{Place}
 use Rattle.ts_name.specs.Items.{items_at}
 use Rattle.ts_name.specs.Repeats.{first_repeated, keys_in, is_among}
@@ -10,6 +12,16 @@ use Rattle.ts_der.specs.Element.{inside}
 use Rattle.ts_der.specs.View.{now}
 use Rattle.ts_name.proofs.suspects.first_met_again.Goals.{in-Some-place_of+else-met-place, in_default-place_of}
 use Rattle.ts_name.proofs.suspects.first_met_again.Goals as goal
+
+front : {A : Type 0} → List A → Option A
+front [] = None
+front (x ∷ xs) = Some x
+
+-- what yields an item first yields it again from the same place
+same-again : {T A : Type 0} (view : T → A) (here there : List A) (result : Option T) (x : A) (xs : List A) → YieldsFirstBy view (λ (left : List A). left) here result there → here ≡ x ∷ xs → option_map view result ≡ Some x
+unfolding front
+same-again view here there (Some y) x xs first is = ap front (sym first ∙ is)
+same-again view here there None x xs first is = absurd cc
 
 pub returns-then-is_empty : goal.returns-then-is_empty
 returns-then-is_empty g c =
@@ -63,7 +75,9 @@ returns-then-met-place g c =
     let i = c.loop-before.invariant in
     let here = sym (c.place_of.ensures ∙ ap (λ (k : List ℕ). place_of k keys) c.key.ensures) ∙ c.in-Some-place_of.is in
     let met = sym (i.4 _ _ here) ∙ c.if-met-place.true in
-    sym (i.6 ∙ next-met key i.0 _ _ _ (c.args.end - c.loop-before.before) (c.args.end - c.loop-before.before - 1) c.in-Some.ensures.steps (omega arith) met)
+    let read = λ (p : Place). items_at g.T.FromElement.reading p in
+    let again = same-again g.T.FromElement.record_of _ _ c.next-then-met-place.result _ _ c.next-then-met-place.ensures.steps (ap read c.fork-here.ensures ∙ c.in-Some.ensures.steps) in
+    again ∙ sym (i.6 ∙ next-met key i.0 _ _ _ (c.args.end - c.loop-before.before) (c.args.end - c.loop-before.before - 1) c.in-Some.ensures.steps (omega arith) met)
 
 pub returns : goal.returns
 returns g c =

@@ -13,3 +13,6 @@ invariant-loop-before g l =
     × AreSuspects g.T.FromElement.key_of (keys_in l.table) seen (take (l.end - l.before) (items_at g.T.FromElement.reading l.items.rest))
     × (first_repeated g.T.FromElement.key_of [] (take l.end (items_at g.T.FromElement.reading (inside (now l.list))))
     ≡ first_repeated g.T.FromElement.key_of seen (take (l.end - l.before) (items_at g.T.FromElement.reading l.items.rest)))
+
+abbrev pub decreases-loop-before : goal.decreases-loop-before
+decreases-loop-before g l = l.end - l.before
