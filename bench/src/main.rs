@@ -33,8 +33,8 @@ fn main() -> Result<(), Box<dyn Error>> {
     println!("Roots: {}", roots.len());
     tell_refused::<Ours>(&roots);
     tell_refused::<Webpki>(&roots);
-    let of_roots = tell_times(&roots);
-    tell_shapes(of_roots);
+    let timed = tell_times(&roots);
+    tell_shapes(&timed);
     Ok(())
 }
 
@@ -49,9 +49,9 @@ fn tell_refused<R: Reader>(roots: &[Root]) {
     }
 }
 
-/// Prints how long the readers take for the roots that `Cert::read` and webpki read, or for all where there are none. The
-/// answer is the time of `Cert::read` for an octet, in nanoseconds.
-fn tell_times(roots: &[Root]) -> f64 {
+/// Prints how long the readers take for the roots that `Cert::read` and webpki read, or for all where there are none, which
+/// it answers.
+fn tell_times(roots: &[Root]) -> Vec<&[u8]> {
     let all: Vec<&[u8]> = roots.iter().map(Root::octets).collect();
     let both: Vec<&[u8]> = all.iter().copied().filter(|it| is_read(it)).collect();
     let (timed, which) = match both.is_empty() {
@@ -64,9 +64,13 @@ fn tell_times(roots: &[Root]) -> f64 {
         "Timed: {which}, {} certificates of {octets} octets; the median of {ROUNDS} rounds",
         timed.len()
     );
-    let [ours, webpki, walk] = race(&timed, [pass::<Ours>, pass::<Webpki>, pass::<Walk>]);
+    let [ours, webpki, walk] = race([
+        (pass::<Ours>, &timed),
+        (pass::<Webpki>, &timed),
+        (pass::<Walk>, &timed),
+    ]);
     // By itself: it leaves nothing of the others in the caches.
-    let [openssl] = race(&timed, [pass::<OpenSsl>]);
+    let [openssl] = race([(pass::<OpenSsl>, &timed)]);
     for (name, time) in [
         (Ours::NAME, ours),
         (Webpki::NAME, webpki),
@@ -77,7 +81,7 @@ fn tell_times(roots: &[Root]) -> f64 {
         let ratio = time / webpki;
         println!("{name:<12}{each:>10.1} ns a certificate{for_an_octet:>10.3} ns an octet{ratio:>10.2} times webpki");
     }
-    ours / octets as f64
+    timed
 }
 
 /// Whether both readers read it.
@@ -85,11 +89,12 @@ fn is_read(octets: &[u8]) -> bool {
     Ours::read(octets).is_ok() && Webpki::read(octets).is_ok()
 }
 
-/// Prints how long both readers take for the longest certificate of each shape.
-fn tell_shapes(of_roots: f64) {
+/// Prints how long both readers take for the longest certificate of each shape, and how many times as long `Cert::read`
+/// takes for an octet of it as for one of the roots, in the same rounds.
+fn tell_shapes(roots: &[&[u8]]) {
     println!();
     println!(
-        "Longest certificates by {}; 'ratio' is to the {of_roots:.3} ns an octet of the roots",
+        "Longest certificates by {}; 'ratio' is to an octet of the roots in the same rounds",
         Ours::NAME
     );
     println!(
@@ -97,16 +102,21 @@ fn tell_shapes(of_roots: f64) {
         "items", "count", "octets", "ns/octet", "ratio", "", "webpki"
     );
     for shape in &SHAPES {
-        tell_shape(shape, of_roots);
+        tell_shape(shape, roots);
     }
 }
 
-fn tell_shape(shape: &Shape, of_roots: f64) {
+fn tell_shape(shape: &Shape, roots: &[&[u8]]) {
     let longest = shape.longest();
     let octets = longest.octets.len();
-    let [ours, webpki] =
-        race(&[&longest.octets], [pass::<Ours>, pass::<Webpki>]).map(|time| time / octets as f64);
-    let ratio = ours / of_roots;
+    let inputs = [longest.octets.as_slice()];
+    let [ours, webpki, of_roots] = race([
+        (pass::<Ours>, &inputs),
+        (pass::<Webpki>, &inputs),
+        (pass::<Ours>, roots),
+    ]);
+    let (ours, webpki) = (ours / octets as f64, webpki / octets as f64);
+    let ratio = ours / (of_roots / roots.concat().len() as f64);
     let mark = if ratio > MARKED { "ABOVE 20" } else { "" };
     let answer = match Ours::read(&longest.octets) {
         Ok(()) => "read".to_owned(),

@@ -10,13 +10,18 @@ pub const ROUNDS: usize = 200;
 /// One pass over the inputs: the time of a reader, in nanoseconds.
 pub type Pass = fn(&[&[u8]]) -> f64;
 
-/// The median time of each pass. The readers take turns, and each round begins with the next of them.
-pub fn race<const N: usize>(inputs: &[&[u8]], passes: [Pass; N]) -> [f64; N] {
+/// A reader, and what it reads.
+pub type Entrant<'a> = (Pass, &'a [&'a [u8]]);
+
+/// The median time of each pass. The entrants take turns, and each round begins with the next of them, so that the clock of
+/// the machine is the same for all.
+pub fn race<const N: usize>(entrants: [Entrant<'_>; N]) -> [f64; N] {
     let mut times = [(); N].map(|()| Vec::with_capacity(ROUNDS));
     for round in 0..ROUNDS {
         for turn in 0..N {
-            let reader = (round + turn) % N;
-            times[reader].push(passes[reader](inputs));
+            let number = (round + turn) % N;
+            let (pass, inputs) = entrants[number];
+            times[number].push(pass(inputs));
         }
     }
     times.map(median)
