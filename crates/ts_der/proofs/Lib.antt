@@ -23,3 +23,4 @@ pub mod OidContents
 pub mod DottedArcs
 pub mod OidLaws
 pub mod ManyArcs
+pub mod Lanes

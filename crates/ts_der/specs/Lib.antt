@@ -18,3 +18,4 @@ pub mod Default
 pub mod Dotted
 pub mod DottedReading
 pub mod Printed
+pub mod Between

@@ -21,6 +21,7 @@ mod set_of;
 #[cfg(test)]
 mod tests;
 mod text;
+mod wide;
 mod writer;
 
 pub use bits::Bits;
@@ -30,4 +31,5 @@ pub use oid::OidRef;
 pub use oid_text::OidTextError;
 pub use owned_oid::Oid;
 pub use reader::{Element, Reader};
+pub use wide::{are_ascii, are_equal, lie_between};
 pub use writer::Writer;
