@@ -19,11 +19,11 @@ short_octets : (n : ℕ) → n < 128 → length_octets n ≡ n ∷ []
 unfolding length_octets
 short_octets n h = rw (lt-ltb n 128 h) refl
 
-one_octet : (a n : ℕ) → n ≡ a → 128 ≤ n → n < 256 → length_octets n ≡ 129 ∷ a ∷ []
+pub one_octet : (a n : ℕ) → n ≡ a → 128 ≤ n → n < 256 → length_octets n ≡ 129 ∷ a ∷ []
 unfolding length_octets
 one_octet a n e h k = rw (le-ltb n 128 h, lt-ltb n (2 ^ 8) k) (ap (λ (x : ℕ). 129 ∷ x ∷ []) e)
 
-two_octets : (a b n : ℕ) → n ≡ 256 * a + b → a ≢ 0 → a < 256 → b < 256 → length_octets n ≡ 130 ∷ a ∷ b ∷ []
+pub two_octets : (a b n : ℕ) → n ≡ 256 * a + b → a ≢ 0 → a < 256 → b < 256 → length_octets n ≡ 130 ∷ a ∷ b ∷ []
 unfolding length_octets
 two_octets a b n e h i j =
     let x : n / 2 ^ 8 ≡ a = omega arith in

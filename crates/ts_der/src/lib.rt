@@ -5,6 +5,7 @@
 mod bit_string;
 mod bits;
 mod boolean;
+mod bounds;
 mod dotted;
 mod fault;
 mod header;
@@ -25,6 +26,7 @@ mod wide;
 mod writer;
 
 pub use bits::Bits;
+pub use bounds::{Bounds, bounds_at};
 pub use fault::{DerFault, Fault, located};
 pub use integer::Integer;
 pub use oid::OidRef;

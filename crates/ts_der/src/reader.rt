@@ -65,6 +65,17 @@ impl<'a> Reader<'a> {
         }
     }
 
+    /// A reader of a whole input, at the octet that has this offset.
+    pub fn at(octets: &'a [u8], offset: usize) -> Reader<'a>
+        requires { offset ≤ length octets.now }
+        ensures { result ≡ record { rest = drop offset octets.now; at = offset } }
+    {
+        Reader {
+            rest: &octets[offset..],
+            at: offset,
+        }
+    }
+
     /// Another reader at the same place.
     pub fn fork(&self) -> Reader<'a>
         ensures { result ≡ self.now }

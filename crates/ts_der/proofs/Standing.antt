@@ -1,0 +1,45 @@
+-- Elements by the offsets at which they stand.
+use Rattle.std.proofs.Common.{◌≡◌, ◌≢◌, ℕ, suc, ◌+◌, ◌-◌, ◌%◌, ◌<◌, ◌≤◌, List, [], ◌∷◌, ◌++◌, length, get_or, take, drop, refl, sym, ap, ap₂, ◌∙◌, arith, append_assoc}
+use Rattle.std.proofs.lemmas.List.{length-take-le, length-drop, take-append-drop, take-append-le, drop-drop}
+use Rattle.ts_der.specs.Element.{Fits, length_octets, spell}
+use Rattle.ts_der.specs.Stands.{HavePart, HasElement}
+
+-- a part, and what is behind it
+pub part-taken : (octets : List ℕ) (from n : ℕ) → HavePart octets from (take n (drop from octets)) (from + n)
+part-taken octets from n = sym (take-append-drop n (drop from octets)) ∙ ap (λ (r : List ℕ). take n (drop from octets) ++ r) (drop-drop n from octets)
+
+-- octets of which there are four or more
+four : (r : List ℕ) → 4 ≤ length r → r ≡ get_or r 0 0 ∷ get_or r 1 0 ∷ get_or r 2 0 ∷ get_or r 3 0 ∷ drop 4 r
+four [] h = absurd (omega arith)
+four (a ∷ []) h = absurd (omega arith)
+four (a ∷ b ∷ []) h = absurd (omega arith)
+four (a ∷ b ∷ c ∷ []) h = absurd (omega arith)
+four (a ∷ b ∷ c ∷ d ∷ more) h = refl
+
+-- what follows a tag, of which the first octets are those of a length
+header-split : (octets more : List ℕ) (at tag size n a b c : ℕ) → drop at octets ≡ tag ∷ a ∷ b ∷ c ∷ more → take size (a ∷ b ∷ c ∷ []) ≡ length_octets n → size ≤ 3
+    → a ∷ b ∷ c ∷ more ≡ length_octets n ++ drop (at + 1 + size) octets
+header-split octets more at tag size n a b c here written few =
+    let after : drop size (a ∷ b ∷ c ∷ more) ≡ drop (at + 1 + size) octets = ap (λ (r : List ℕ). drop (suc size) r) (sym here) ∙ (drop-drop (suc size) at octets ∙ ap (λ k. drop k octets) (omega arith)) in
+    let front : take size (a ∷ b ∷ c ∷ more) ≡ length_octets n = take-append-le size (a ∷ b ∷ c ∷ []) more few ∙ written in
+    sym (take-append-drop size (a ∷ b ∷ c ∷ more)) ∙ ap₂ (λ (x y : List ℕ). x ++ y) front after
+
+-- a tag, the octets of a length, and as many octets as it says
+pub has-element : (octets r : List ℕ) (at tag size n : ℕ) → r ≡ drop at octets → 4 ≤ length r → get_or r 0 0 ≡ tag → take size (get_or r 1 0 ∷ get_or r 2 0 ∷ get_or r 3 0 ∷ []) ≡ length_octets n → size ≤ 3 → n < 65536 → tag < 256 → tag % 32 ≢ 31
+    → at + 1 + size + n ≤ length octets → HasElement octets at tag (record { start = at + 1 + size; end = at + 1 + size + n })
+has-element octets r at tag size n is long first written few short octet low fits =
+    let start : ℕ = at + 1 + size in
+    let end : ℕ = start + n in
+    let content : List ℕ = take (end - start) (drop start octets) in
+    let count : end - start ≡ n = omega arith in
+    let size_of : length content ≡ n = length-take-le (end - start) (drop start octets) (omega (arith, length-drop start octets)) ∙ count in
+    let behind : drop start octets ≡ content ++ drop end octets = part-taken octets start n ∙ ap (λ k. take k (drop start octets) ++ drop end octets) (sym count) in
+    let here : drop at octets ≡ tag ∷ get_or r 1 0 ∷ get_or r 2 0 ∷ get_or r 3 0 ∷ drop 4 r = sym is ∙ (four r long ∙ ap (λ t. t ∷ get_or r 1 0 ∷ get_or r 2 0 ∷ get_or r 3 0 ∷ drop 4 r) first) in
+    let header = header-split octets (drop 4 r) at tag size n (get_or r 1 0) (get_or r 2 0) (get_or r 3 0) here written few in
+    record {
+      fits = record { octet = octet; low = low; short = omega (arith, size_of) };
+      whole = here ∙ ap (λ (x : List ℕ). tag ∷ x) (header ∙ (ap (λ (x : List ℕ). length_octets n ++ x) behind ∙ (sym (append_assoc (length_octets n) content (drop end octets)) ∙ ap (λ k. (length_octets k ++ content) ++ drop end octets) (sym size_of))));
+      inner = behind;
+      ordered = omega arith;
+      within = fits;
+    }
