@@ -1,7 +1,8 @@
 -- What the lanes of a comparison say of lists of octets.
-use Rattle.std.proofs.Common.{◌≡◌, ℕ, suc, ◌+◌, ◌*◌, ◌%◌, ◌^◌, ◌≤◌, Bool, true, false, cond, ◌&&◌, not, eqb, ltb, leb, List, [], ◌∷◌, length, take, drop, map, refl, sym, ap, ap₂, ◌∙◌, ◌++◌, ◌-◌, arith, bit_or}
+use Rattle.std.proofs.Common.{◌≡◌, ℕ, zero, suc, ◌<◌, get_or, ◌+◌, ◌*◌, ◌%◌, ◌^◌, ◌≤◌, Bool, true, false, cond, ◌&&◌, not, eqb, ltb, leb, List, [], ◌∷◌, length, take, drop, map, refl, sym, ap, ap₂, ◌∙◌, ◌++◌, ◌-◌, arith, bit_or}
 use Rattle.std.specs.List.{list_all}
 use Rattle.std.specs.Simd.Lanes.{mask_l, zip2, top}
+use Rattle.std.proofs.lemmas.Bool.{leb-true}
 use Rattle.std.proofs.lemmas.Bool.Decides.{nat_tests}
 use Rattle.std.proofs.Math.Seq.{take-add}
 use Rattle.std.proofs.lemmas.List.{length-take-le, length-map, length-drop, take-append-drop, take_all, take-take, drop-take, drop-drop}
@@ -109,13 +110,6 @@ mask-ascii octets p =
     let few : length (map (top 7) high) ≤ 64 = omega (arith, length-map high (top 7), length-map octets (λ x. at_most 128 x)) in
     ap (λ (lanes : List ℕ). eqb (mask_l (map (top 7) lanes) % 2 ^ 64) 0) same ∙ ap (λ m. eqb m 0) (mask_l-mod (map (top 7) high) 64 few) ∙ lanes-ascii octets
 
--- ---- parts of lists, for a walk of many octets at a time
-
-same-test : (a b : Bool) → (a ≡ true → b ≡ true) → (b ≡ true → a ≡ true) → a ≡ b
-same-test true b there back = sym (there refl)
-same-test false true there back = back refl
-same-test false false there back = refl
-
 and-second : (a b : Bool) → a && b ≡ true → b ≡ true
 and-second true b h = h
 and-second false b h = absurd cc
@@ -123,6 +117,30 @@ and-second false b h = absurd cc
 and-first : (a b : Bool) → a && b ≡ true → a ≡ true
 and-first true b h = refl
 and-first false b h = absurd cc
+
+-- what lies between bounds, place by place
+pub between-at : (low high octets : List ℕ) (i : ℕ) → lie_between low high octets ≡ true → i < length low → (get_or low i 0 ≤ get_or octets i 0) × (get_or octets i 0 ≤ get_or high i 0)
+between-at [] high octets i h lt = absurd (omega arith)
+between-at (l ∷ low) [] octets i h lt = absurd cc
+between-at (l ∷ low) (b ∷ high) [] i h lt = absurd cc
+between-at (l ∷ low) (b ∷ high) (x ∷ octets) zero h lt =
+    let both = and-first (leb l x && leb x b) (lie_between low high octets) h in
+    (leb-true l x (and-first (leb l x) (leb x b) both), leb-true x b (and-second (leb l x) (leb x b) both))
+between-at (l ∷ low) (b ∷ high) (x ∷ octets) (suc i) h lt = between-at low high octets i (and-second (leb l x && leb x b) (lie_between low high octets) h) (omega arith)
+
+-- as many octets as there are bounds
+pub between-length : (low high octets : List ℕ) → lie_between low high octets ≡ true → length low ≤ length octets
+between-length [] high octets h = omega arith
+between-length (l ∷ low) [] octets h = absurd cc
+between-length (l ∷ low) (b ∷ high) [] h = absurd cc
+between-length (l ∷ low) (b ∷ high) (x ∷ octets) h = let rest = between-length low high octets (and-second (leb l x && leb x b) (lie_between low high octets) h) in omega arith
+
+-- ---- parts of lists, for a walk of many octets at a time
+
+same-test : (a b : Bool) → (a ≡ true → b ≡ true) → (b ≡ true → a ≡ true) → a ≡ b
+same-test true b there back = sym (there refl)
+same-test false true there back = back refl
+same-test false false there back = refl
 
 -- what is left of ASCII is ASCII
 ascii-drop : (octets : List ℕ) (n : ℕ) → is_ascii octets ≡ true → is_ascii (drop n octets) ≡ true

@@ -2,3 +2,4 @@ pub mod CalendarLemmas
 pub mod CivilLemmas
 pub mod ReadingLemmas
 pub mod TextLemmas
+pub mod UsualTimes

@@ -11,9 +11,11 @@ mod laws;
 mod moment;
 #[cfg(test)]
 mod tests;
+mod usual;
 mod utc;
 
 pub use general::{print_general, read_general};
 pub use laws::{general_is_one_to_one, utc_is_one_to_one};
 pub use moment::Moment;
+pub use usual::begins_with_utc;
 pub use utc::{print_utc, read_utc};

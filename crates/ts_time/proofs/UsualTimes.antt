@@ -1,0 +1,143 @@
+-- UTCTimes by the bounds of their octets.
+use Rattle.std.proofs.Common.{◌≡◌, ℕ, ◌+◌, ◌-◌, ◌*◌, ◌/◌, ◌%◌, ◌<◌, ◌≤◌, Bool, true, List, [], ◌∷◌, ◌++◌, length, get_or, take, drop, refl, sym, ap, ap₂, ◌∙◌, arith, ltb, leb, suc}
+use Rattle.std.proofs.lemmas.Bool.{ltb-true, leb-true}
+use Rattle.std.proofs.Math.Seq.{drop-cons}
+use Rattle.std.specs.Prelude.{ℤ}
+use Rattle.ts_der.specs.Between.{lie_between}
+use Rattle.ts_der.proofs.Lanes.{between-at, between-length}
+use Rattle.ts_time.specs.declared.civil.CivilTime.{CivilTime}
+use Rattle.ts_time.specs.Calendar.{IsDate, days_in_month}
+use Rattle.ts_time.specs.Civil.{Exists, moment_of}
+use Rattle.ts_time.specs.Text.{two_digits, text_in_year, year_of_two, IsUtc}
+
+-- the number that two digits write
+abbrev pub two : ℕ → ℕ → ℕ
+two tens ones = 10 * (tens - 48) + (ones - 48)
+
+-- a digit, of a number that has no greater one
+pub record IsDigitTo (greatest octet : ℕ) : Type 0 where
+  pub least : 48 ≤ octet
+  pub most : octet ≤ greatest
+
+year_of_two-most : (yy : ℕ) → yy < 100 → year_of_two yy ≤ 9999
+year_of_two-most yy h = grind arith
+
+-- no month is shorter
+pub twenty-eight : (year month : ℕ) → 28 ≤ days_in_month year month
+twenty-eight year month = grind arith
+
+digits-two : (tens ones : ℕ) → IsDigitTo 57 tens → IsDigitTo 57 ones → two_digits (two tens ones) ≡ tens ∷ ones ∷ []
+digits-two tens ones t o =
+    let a : 48 + two tens ones / 10 ≡ tens = omega arith in
+    let b : 48 + two tens ones % 10 ≡ ones = omega arith in
+    rw (a, b) refl
+
+-- two digits more
+more : (tens ones : ℕ) (left right : List ℕ) → IsDigitTo 57 tens → IsDigitTo 57 ones → left ≡ right → two_digits (two tens ones) ++ left ≡ tens ∷ ones ∷ right
+more tens ones left right t o e = ap₂ (λ (x y : List ℕ). x ++ y) (digits-two tens ones t o) e
+
+-- a digit up to 5 is one
+to-nine : (octet : ℕ) → IsDigitTo 53 octet → IsDigitTo 57 octet
+to-nine octet h = let most = h.most in record { least = h.least; most = omega arith }
+
+-- twelve digits, and Z
+utc-of-digits : (y z m n d e h i k l s t : ℕ)
+    → IsDigitTo 57 y → IsDigitTo 57 z → IsDigitTo 57 m → IsDigitTo 57 n → IsDigitTo 57 d → IsDigitTo 57 e → IsDigitTo 57 h → IsDigitTo 57 i → IsDigitTo 53 k → IsDigitTo 57 l → IsDigitTo 53 s → IsDigitTo 57 t
+    → 1 ≤ two m n → two m n ≤ 12 → 1 ≤ two d e → two d e ≤ days_in_month (year_of_two (two y z)) (two m n) → two h i ≤ 23
+    → (moment : ℤ) × IsUtc (y ∷ z ∷ m ∷ n ∷ d ∷ e ∷ h ∷ i ∷ k ∷ l ∷ s ∷ t ∷ 90 ∷ []) moment
+utc-of-digits y z m n d e h i k l s t y_is z_is m_is n_is d_is e_is h_is i_is k_is l_is s_is t_is some few first last hours = (
+  moment_of time,
+  record { yy = two y z; two = years; time = time; year = refl; exists = exists; spelled = sym spelled; named = refl },
+)
+  where
+    years : two y z < 100
+    years = let a = y_is.most in let b = z_is.most in omega arith
+
+    time : CivilTime
+    time =
+        record {
+          year = year_of_two (two y z);
+          month = two m n;
+          day = two d e;
+          hour = two h i;
+          minute = two k l;
+          second = two s t;
+        }
+
+    below : (tens ones : ℕ) → IsDigitTo 53 tens → IsDigitTo 57 ones → two tens ones ≤ 59
+    below tens ones a b = let x = a.most in let w = b.most in omega arith
+
+    exists : Exists time
+    exists =
+        record {
+          date = record { year_in = year_of_two-most (two y z) years; month_in = (some, few); day_in = (first, last) };
+          hour = hours;
+          minute = below k l k_is l_is;
+          second = below s t s_is t_is;
+        }
+
+    spelled : two_digits (two y z) ++ text_in_year time ≡ y ∷ z ∷ m ∷ n ∷ d ∷ e ∷ h ∷ i ∷ k ∷ l ∷ s ∷ t ∷ 90 ∷ []
+    spelled =
+        more y z _ _ y_is z_is
+        (more m n _ _ m_is n_is
+        (more d e _ _ d_is e_is (more h i _ _ h_is i_is (more k l _ _ (to-nine k k_is) l_is (more s t _ _ (to-nine s s_is) t_is refl)))))
+
+-- the octet at a place
+abbrev at : List ℕ → ℕ → ℕ
+at octets i = get_or octets i 0
+
+-- the octets that no place of a UTCTime exceeds on either side, and three that are not of it
+abbrev least : List ℕ
+least = 48 ∷ 48 ∷ 48 ∷ 48 ∷ 48 ∷ 48 ∷ 48 ∷ 48 ∷ 48 ∷ 48 ∷ 48 ∷ 48 ∷ 90 ∷ 0 ∷ 0 ∷ 0 ∷ []
+
+abbrev greatest : List ℕ
+greatest = 57 ∷ 57 ∷ 49 ∷ 57 ∷ 51 ∷ 57 ∷ 50 ∷ 57 ∷ 53 ∷ 57 ∷ 53 ∷ 57 ∷ 90 ∷ 255 ∷ 255 ∷ 255 ∷ []
+
+-- thirteen octets between their bounds, whose numbers are those of a time
+pub utc-between : (octets : List ℕ) (month day hour : ℕ) → lie_between least greatest octets ≡ true → month ≡ two (at octets 2) (at octets 3) → day ≡ two (at octets 4) (at octets 5)
+    → hour ≡ two (at octets 6) (at octets 7) → 1 ≤ month → month ≤ 12 → 1 ≤ day → ((yy : ℕ) → yy ≡ two (at octets 0) (at octets 1) → day ≤ days_in_month (year_of_two yy) month) → hour ≤ 23
+    → (moment : ℤ) × IsUtc (take 13 octets) moment
+utc-between octets month day hour h month_is day_is hour_is some few first_day last_day hours =
+    let found = utc-of-digits _ _ _ _ _ _ _ _ _ _ _ _ (nine 0 refl refl refl) (nine 1 refl refl refl) (nine 2 refl refl refl) (nine 3 refl refl refl) (nine 4 refl refl refl) (nine 5 refl refl refl) (nine 6 refl refl refl) (nine 7 refl refl refl)
+    (five 8 refl refl refl) (nine 9 refl refl refl) (five 10 refl refl refl) (nine 11 refl refl refl) (omega arith) (omega arith) (omega arith) last (omega arith) in
+    (found.0, rw spelled found.1)
+  where
+    last : two (at octets 4) (at octets 5) ≤ days_in_month (year_of_two (two (at octets 0) (at octets 1))) (two (at octets 2) (at octets 3))
+    last = rw (← day_is, ← month_is) (last_day (two (at octets 0) (at octets 1)) refl)
+
+    enough : 16 ≤ length octets
+    enough = between-length least greatest octets h
+
+    within : (i : ℕ) → i < 16 → (get_or least i 0 ≤ at octets i) × (at octets i ≤ get_or greatest i 0)
+    within i lt = between-at least greatest octets i h lt
+
+    nine : (i : ℕ) → ltb i 16 ≡ true → get_or least i 0 ≡ 48 → leb (get_or greatest i 0) 57 ≡ true → IsDigitTo 57 (at octets i)
+    nine i lt low high =
+        let b = within i (ltb-true i 16 lt) in
+        let most = leb-true (get_or greatest i 0) 57 high in
+        record { least = omega arith; most = omega arith }
+
+    five : (i : ℕ) → ltb i 16 ≡ true → get_or least i 0 ≡ 48 → get_or greatest i 0 ≡ 53 → IsDigitTo 53 (at octets i)
+    five i lt low high = let b = within i (ltb-true i 16 lt) in record { least = omega arith; most = omega arith }
+
+    first : (n k : ℕ) → ltb k 16 ≡ true → take (suc n) (drop k octets) ≡ at octets k ∷ take n (drop (suc k) octets)
+    first n k lt = ap (take (suc n)) (drop-cons octets k 0 (let few = ltb-true k 16 lt in let all = enough in omega arith))
+
+    z : at octets 12 ≡ 90
+    z = let b = within 12 (omega arith) in omega arith
+
+    spelled : take 13 octets ≡ at octets 0 ∷ at octets 1 ∷ at octets 2 ∷ at octets 3 ∷ at octets 4 ∷ at octets 5 ∷ at octets 6 ∷ at octets 7 ∷ at octets 8 ∷ at octets 9 ∷ at octets 10 ∷ at octets 11 ∷ 90 ∷ []
+    spelled =
+        (first 12 0 refl ∙ ap (λ (more : List ℕ). at octets 0 ∷ more)
+        (first 11 1 refl ∙ ap (λ (more : List ℕ). at octets 1 ∷ more)
+        (first 10 2 refl ∙ ap (λ (more : List ℕ). at octets 2 ∷ more)
+        (first 9 3 refl ∙ ap (λ (more : List ℕ). at octets 3 ∷ more)
+        (first 8 4 refl ∙ ap (λ (more : List ℕ). at octets 4 ∷ more)
+        (first 7 5 refl ∙ ap (λ (more : List ℕ). at octets 5 ∷ more)
+        (first 6 6 refl ∙ ap (λ (more : List ℕ). at octets 6 ∷ more)
+        (first 5 7 refl ∙ ap (λ (more : List ℕ). at octets 7 ∷ more)
+        (first 4 8 refl ∙ ap (λ (more : List ℕ). at octets 8 ∷ more)
+        (first 3 9 refl ∙ ap (λ (more : List ℕ). at octets 9 ∷ more)
+        (first 2 10 refl ∙ ap (λ (more : List ℕ). at octets 10 ∷ more)
+        (first 1 11 refl ∙ ap (λ (more : List ℕ). at octets 11 ∷ more)
+        (first 0 12 refl ∙ ap (λ (o : ℕ). o ∷ []) z)))))))))))))
