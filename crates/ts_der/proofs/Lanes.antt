@@ -143,12 +143,12 @@ same-test false true there back = back refl
 same-test false false there back = refl
 
 -- what is left of ASCII is ASCII
-ascii-drop : (octets : List ℕ) (n : ℕ) → is_ascii octets ≡ true → is_ascii (drop n octets) ≡ true
+pub ascii-drop : (octets : List ℕ) (n : ℕ) → is_ascii octets ≡ true → is_ascii (drop n octets) ≡ true
 ascii-drop octets n h =
     and-second (is_ascii (take n octets)) (is_ascii (drop n octets)) (sym (list_all-append (λ octet. ltb octet 128) (take n octets) (drop n octets)) ∙ (ap is_ascii (take-append-drop n octets) ∙ h))
 
 -- what ASCII begins with is ASCII
-ascii-take : (octets : List ℕ) (n : ℕ) → is_ascii octets ≡ true → is_ascii (take n octets) ≡ true
+pub ascii-take : (octets : List ℕ) (n : ℕ) → is_ascii octets ≡ true → is_ascii (take n octets) ≡ true
 ascii-take octets n h =
     and-first (is_ascii (take n octets)) (is_ascii (drop n octets)) (sym (list_all-append (λ octet. ltb octet 128) (take n octets) (drop n octets)) ∙ (ap is_ascii (take-append-drop n octets) ∙ h))
 

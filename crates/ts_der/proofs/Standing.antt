@@ -1,6 +1,7 @@
 -- Elements by the offsets at which they stand.
-use Rattle.std.proofs.Common.{◌≡◌, ◌≢◌, ℕ, suc, ◌+◌, ◌-◌, ◌%◌, ◌<◌, ◌≤◌, List, [], ◌∷◌, ◌++◌, length, get_or, take, drop, refl, sym, ap, ap₂, ◌∙◌, arith, append_assoc}
+use Rattle.std.proofs.Common.{◌≡◌, ◌≢◌, ℕ, zero, suc, ◌+◌, ◌-◌, ◌%◌, ◌<◌, ◌≤◌, List, [], ◌∷◌, ◌++◌, length, get_or, take, drop, refl, sym, ap, ap₂, ◌∙◌, arith, append_assoc}
 use Rattle.std.proofs.lemmas.List.{length-take-le, length-drop, take-append-drop, take-append-le, drop-drop}
+use Rattle.std.proofs.Math.Seq.{drop-cons}
 use Rattle.ts_der.specs.Element.{Fits, length_octets, spell}
 use Rattle.ts_der.specs.Stands.{HavePart, HasElement}
 
@@ -8,13 +9,15 @@ use Rattle.ts_der.specs.Stands.{HavePart, HasElement}
 pub part-taken : (octets : List ℕ) (from n : ℕ) → HavePart octets from (take n (drop from octets)) (from + n)
 part-taken octets from n = sym (take-append-drop n (drop from octets)) ∙ ap (λ (r : List ℕ). take n (drop from octets) ++ r) (drop-drop n from octets)
 
--- octets of which there are four or more
-four : (r : List ℕ) → 4 ≤ length r → r ≡ get_or r 0 0 ∷ get_or r 1 0 ∷ get_or r 2 0 ∷ get_or r 3 0 ∷ drop 4 r
-four [] h = absurd (omega arith)
-four (a ∷ []) h = absurd (omega arith)
-four (a ∷ b ∷ []) h = absurd (omega arith)
-four (a ∷ b ∷ c ∷ []) h = absurd (omega arith)
-four (a ∷ b ∷ c ∷ d ∷ more) h = refl
+-- octets from an offset on, one by one, and what is behind them
+abbrev pub one_by_one : List ℕ → ℕ → ℕ → List ℕ → List ℕ
+one_by_one octets from zero more = more
+one_by_one octets from (suc n) more = get_or octets from 0 ∷ one_by_one octets (suc from) n more
+
+pub spelled-out : (octets : List ℕ) (from n to : ℕ) → to ≡ from + n → to ≤ length octets → drop from octets ≡ one_by_one octets from n (drop to octets)
+spelled-out octets from zero to is few = ap (λ k. drop k octets) (omega arith)
+spelled-out octets from (suc n) to is few =
+    drop-cons octets from 0 (omega arith) ∙ ap (λ (more : List ℕ). get_or octets from 0 ∷ more) (spelled-out octets (suc from) n to (omega arith) few)
 
 -- what follows a tag, of which the first octets are those of a length
 header-split : (octets more : List ℕ) (at tag size n a b c : ℕ) → drop at octets ≡ tag ∷ a ∷ b ∷ c ∷ more → take size (a ∷ b ∷ c ∷ []) ≡ length_octets n → size ≤ 3
@@ -34,7 +37,7 @@ has-element octets r at tag size n is long first written few short octet low fit
     let count : end - start ≡ n = omega arith in
     let size_of : length content ≡ n = length-take-le (end - start) (drop start octets) (omega (arith, length-drop start octets)) ∙ count in
     let behind : drop start octets ≡ content ++ drop end octets = part-taken octets start n ∙ ap (λ k. take k (drop start octets) ++ drop end octets) (sym count) in
-    let here : drop at octets ≡ tag ∷ get_or r 1 0 ∷ get_or r 2 0 ∷ get_or r 3 0 ∷ drop 4 r = sym is ∙ (four r long ∙ ap (λ t. t ∷ get_or r 1 0 ∷ get_or r 2 0 ∷ get_or r 3 0 ∷ drop 4 r) first) in
+    let here : drop at octets ≡ tag ∷ get_or r 1 0 ∷ get_or r 2 0 ∷ get_or r 3 0 ∷ drop 4 r = sym is ∙ (spelled-out r 0 4 4 refl long ∙ ap (λ t. t ∷ get_or r 1 0 ∷ get_or r 2 0 ∷ get_or r 3 0 ∷ drop 4 r) first) in
     let header = header-split octets (drop 4 r) at tag size n (get_or r 1 0) (get_or r 2 0) (get_or r 3 0) here written few in
     record {
       fits = record { octet = octet; low = low; short = omega (arith, size_of) };

@@ -25,6 +25,7 @@ mod sameness;
 mod sequence_of;
 #[cfg(test)]
 mod sequence_tests;
+mod short_names;
 mod subtree;
 mod subtree_reading;
 #[cfg(test)]
@@ -44,4 +45,5 @@ pub use name_items::{Attributes, Rdns};
 pub use rdn::Rdn;
 pub use repeats::{Ends, Keyed, first_repeated};
 pub use sequence_of::{FromElement, SequenceItems, SequenceOf, next_item, tagged_as};
+pub use short_names::is_name;
 pub use subtree::Subtree;

@@ -20,10 +20,11 @@ ghost use Rattle.ts_name.specs.View.{attr_of};
 use crate::attribute::{Attribute, IA5_STRING, PRINTABLE_STRING, UTF8_STRING};
 use crate::name::Name;
 use crate::rdn::Rdn;
+use crate::short_names::are_short_rdns;
 use std::str;
 use ts_der::{DerFault, Element, Fault, Reader};
 
-const OBJECT_IDENTIFIER: u8 = 0x06;
+pub(crate) const OBJECT_IDENTIFIER: u8 = 0x06;
 
 pub(crate) const SEQUENCE: u8 = 0x30;
 
@@ -187,14 +188,25 @@ fn pass_rdn(rest: &mut Reader<'_>) -> Result<(), Fault>
 
 /// The relative distinguished names of a name, one after another.
 #[inline(always)]
-fn check_rdns(name: Element<'_>) -> Result<(), Fault>
-    ensures { refusal result ≡ refusal (name_of (now name.entry)) }
+pub(crate) fn check_rdns(rest: &mut Reader<'_>) -> Result<(), Fault>
+    ensures { refusal result ≡ refusal (many rdn_at rest.old) }
 {
-    let mut rest = name.reader();
     while !rest.is_at_end() {
-        pass_rdn(&mut rest)?;
+        pass_rdn(rest)?;
     }
     Ok(())
+}
+
+/// The relative distinguished names of a name, with a short way for what most names are.
+#[tactic(auto, unfolding(crate::specs::Names::name_of))]
+#[inline(always)]
+fn check_name(name: Element<'_>) -> Result<(), Fault>
+    ensures { refusal result ≡ refusal (name_of (now name.entry)) }
+{
+    if are_short_rdns(name.content) {
+        return Ok(());
+    }
+    check_rdns(&mut name.reader())
 }
 
 impl<'a> Name<'a> {
@@ -231,7 +243,7 @@ impl<'a> Name<'a> {
 fn read_name<'a>(element: Element<'a>) -> Result<Name<'a>, Fault>
     ensures { Answers rdns_in result (name_of (now element.entry)) }
 {
-    check_rdns(element)?;
+    check_name(element)?;
     Ok(Name { element })
 }
 

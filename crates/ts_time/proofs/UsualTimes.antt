@@ -4,6 +4,7 @@ use Rattle.std.proofs.lemmas.Bool.{ltb-true, leb-true}
 use Rattle.std.proofs.Math.Seq.{drop-cons}
 use Rattle.std.specs.Prelude.{ℤ}
 use Rattle.ts_der.specs.Between.{lie_between}
+use Rattle.ts_der.proofs.Standing.{one_by_one, spelled-out}
 use Rattle.ts_der.proofs.Lanes.{between-at, between-length}
 use Rattle.ts_time.specs.declared.civil.CivilTime.{CivilTime}
 use Rattle.ts_time.specs.Calendar.{IsDate, days_in_month}
@@ -120,24 +121,10 @@ utc-between octets month day hour h month_is day_is hour_is some few first_day l
     five : (i : ℕ) → ltb i 16 ≡ true → get_or least i 0 ≡ 48 → get_or greatest i 0 ≡ 53 → IsDigitTo 53 (at octets i)
     five i lt low high = let b = within i (ltb-true i 16 lt) in record { least = omega arith; most = omega arith }
 
-    first : (n k : ℕ) → ltb k 16 ≡ true → take (suc n) (drop k octets) ≡ at octets k ∷ take n (drop (suc k) octets)
-    first n k lt = ap (take (suc n)) (drop-cons octets k 0 (let few = ltb-true k 16 lt in let all = enough in omega arith))
-
     z : at octets 12 ≡ 90
     z = let b = within 12 (omega arith) in omega arith
 
-    spelled : take 13 octets ≡ at octets 0 ∷ at octets 1 ∷ at octets 2 ∷ at octets 3 ∷ at octets 4 ∷ at octets 5 ∷ at octets 6 ∷ at octets 7 ∷ at octets 8 ∷ at octets 9 ∷ at octets 10 ∷ at octets 11 ∷ 90 ∷ []
+    spelled : take 13 octets ≡ one_by_one octets 0 12 (90 ∷ [])
     spelled =
-        (first 12 0 refl ∙ ap (λ (more : List ℕ). at octets 0 ∷ more)
-        (first 11 1 refl ∙ ap (λ (more : List ℕ). at octets 1 ∷ more)
-        (first 10 2 refl ∙ ap (λ (more : List ℕ). at octets 2 ∷ more)
-        (first 9 3 refl ∙ ap (λ (more : List ℕ). at octets 3 ∷ more)
-        (first 8 4 refl ∙ ap (λ (more : List ℕ). at octets 4 ∷ more)
-        (first 7 5 refl ∙ ap (λ (more : List ℕ). at octets 5 ∷ more)
-        (first 6 6 refl ∙ ap (λ (more : List ℕ). at octets 6 ∷ more)
-        (first 5 7 refl ∙ ap (λ (more : List ℕ). at octets 7 ∷ more)
-        (first 4 8 refl ∙ ap (λ (more : List ℕ). at octets 8 ∷ more)
-        (first 3 9 refl ∙ ap (λ (more : List ℕ). at octets 9 ∷ more)
-        (first 2 10 refl ∙ ap (λ (more : List ℕ). at octets 10 ∷ more)
-        (first 1 11 refl ∙ ap (λ (more : List ℕ). at octets 11 ∷ more)
-        (first 0 12 refl ∙ ap (λ (o : ℕ). o ∷ []) z)))))))))))))
+        ap (take 13) (spelled-out octets 0 13 13 refl (let all = enough in omega arith))
+        ∙ ap (λ (o : ℕ). one_by_one octets 0 12 (o ∷ [])) z

@@ -6,8 +6,8 @@ use Rattle.ts_name.proofs.name_reading.read_name.Goals as goal
 
 pub invariant_of-result : goal.invariant_of-result
 unfolding name_of
-invariant_of-result c = record { form = not_refused (name_of (now c.args.element)) c.in_ok-check_rdns.ensures }
+invariant_of-result c = record { form = not_refused (name_of (now c.args.element)) c.in_ok-check_name.ensures }
 
 pub returns : goal.returns
 unfolding name_of
-returns c = not_refused_is (name_of (now c.args.element)) [] c.in_ok-check_rdns.ensures
+returns c = not_refused_is (name_of (now c.args.element)) [] c.in_ok-check_name.ensures
