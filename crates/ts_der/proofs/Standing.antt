@@ -1,9 +1,11 @@
 -- Elements by the offsets at which they stand.
 use Rattle.std.proofs.Common.{◌≡◌, ◌≢◌, ℕ, zero, suc, ◌+◌, ◌-◌, ◌%◌, ◌<◌, ◌≤◌, List, [], ◌∷◌, ◌++◌, length, get_or, take, drop, refl, sym, ap, ap₂, ◌∙◌, arith, append_assoc}
-use Rattle.std.proofs.lemmas.List.{length-take-le, length-drop, take-append-drop, take-append-le, drop-drop}
+use Rattle.std.proofs.lemmas.List.{length-take-le, length-drop, take-append-drop, take-append-le, drop-drop, append-nil}
 use Rattle.std.proofs.Math.Seq.{drop-cons}
 use Rattle.ts_der.specs.Element.{Fits, length_octets, spell}
-use Rattle.ts_der.specs.Stands.{HavePart, HasElement}
+use Rattle.ts_der.specs.declared.bounds.Bounds.{Bounds}
+use Rattle.ts_der.specs.Stands.{HavePart, between, HasElement}
+use Rattle.std.proofs.Math.ListN.{drop_of_length-le}
 
 -- a part, and what is behind it
 pub part-taken : (octets : List ℕ) (from n : ℕ) → HavePart octets from (take n (drop from octets)) (from + n)
@@ -46,3 +48,11 @@ has-element octets r at tag size n is long first written few short octet low fit
       ordered = omega arith;
       within = fits;
     }
+
+-- an element that is all of the octets
+pub element-alone : (octets : List ℕ) (tag : ℕ) (b : Bounds) → HasElement octets 0 tag b → b.end ≡ length octets → Fits tag (drop b.start octets) × (octets ≡ spell tag (drop b.start octets))
+element-alone octets tag b has whole =
+    let none : drop b.end octets ≡ [] = drop_of_length-le octets (omega arith) in
+    let content : drop b.start octets ≡ between octets b = has.inner ∙ (ap (λ (r : List ℕ). between octets b ++ r) none ∙ append-nil (between octets b)) in
+    let spelled : octets ≡ spell tag (between octets b) = has.whole ∙ (ap (λ (r : List ℕ). spell tag (between octets b) ++ r) none ∙ append-nil (spell tag (between octets b))) in
+    (rw content has.fits, spelled ∙ ap (λ (c : List ℕ). spell tag c) (sym content))

@@ -17,3 +17,4 @@ pub mod Soundness
 pub mod UsualValues
 pub mod Walked
 pub mod OneSpelling
+pub mod UriPoints

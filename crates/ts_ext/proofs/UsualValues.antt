@@ -1,12 +1,12 @@
 -- Extensions as most certificates have them.
 use Rattle.std.proofs.Common.{◌≡◌, ◌≢◌, ℕ, ◌%◌, ◌/◌, ◌<◌, ◌≤◌, Bool, true, false, eqb, List, [], ◌∷◌, ◌++◌, length, drop, get_or, Option, Some, None, Ok, refl, sym, ap, subst, arith}
 use Rattle.std.specs.Prelude.{IfSome, is_some}
-use Rattle.std.proofs.lemmas.Bool.{eq-eqb, ne_eqb}
+use Rattle.std.proofs.lemmas.Bool.{eq-eqb, ne_eqb, le-ltb}
 use Rattle.std.proofs.lemmas.List.{append-nil}
 use Rattle.ts_der.specs.BitString.{bits_of, bits_rules, last_octet, named_bits_rules}
 use Rattle.ts_der.specs.declared.fault.Fault.{Fault}
 use Rattle.ts_der.specs.Boolean.{boolean_content}
-use Rattle.ts_der.specs.Element.{Tlv, Fits, spell, length_octets}
+use Rattle.ts_der.specs.Element.{number, Tlv, Fits, spell, length_octets}
 use Rattle.ts_der.proofs.BitStrings.{named-found}
 use Rattle.ts_der.proofs.FewOctets.{three_go}
 use Rattle.ts_der.proofs.Laws.{bind_ok, ok_is}
@@ -27,14 +27,6 @@ pub some-of : {A : Type 0} (P : A → Type 0) (o : Option A) → IfSome o P → 
 some-of P (Some x) p e = (x, p)
 some-of P None p e = absurd cc
 
-pub short-spelled : (tag : ℕ) (octets : List ℕ) → 2 ≤ length octets → tag < 256 → tag % 32 ≢ 31 → get_or octets 0 0 ≡ tag → get_or octets 1 0 < 128 → length (drop 2 octets) ≡ get_or octets 1 0
-    → Fits tag (drop 2 octets) × (octets ≡ spell tag (drop 2 octets))
-short-spelled tag (t ∷ f ∷ content) two octet low first short count =
-    let form : length_octets (length content) ≡ length content ∷ [] = length_octets-short (length content) (omega (arith, short, count)) in
-    (record { octet = octet; low = low; short = omega (arith, short, count) }, rw (form, first, count) refl)
-short-spelled tag [] two octet low first short count = absurd (omega arith)
-short-spelled tag (t ∷ []) two octet low first short count = absurd (omega arith)
-
 pub of-authority : (content : List ℕ) → length content ≡ 3 → get_or content 0 0 ≡ 0x01 → get_or content 1 0 ≡ 1 → get_or content 2 0 ≡ 0xFF → IsBasicConstraints content (record { ca = true; path_len_constraint = None })
 of-authority (a ∷ b ∷ c ∷ []) three x y z =
     record {
@@ -48,6 +40,31 @@ of-authority [] three x y z = absurd cc
 of-authority (a ∷ []) three x y z = absurd cc
 of-authority (a ∷ b ∷ []) three x y z = absurd cc
 of-authority (a ∷ b ∷ c ∷ d ∷ more) three x y z = absurd cc
+
+-- and with a bound in one octet
+pub bounded-authority : (content : List ℕ) → length (drop 3 content) ≡ 3 → get_or content 0 0 ≡ 0x01 → get_or content 1 0 ≡ 1 → get_or content 2 0 ≡ 0xFF → get_or (drop 3 content) 0 0 ≡ 0x02 → get_or (drop 3 content) 1 0 ≡ 1 → get_or (drop 3 content) 2 0 < 128
+    → IsBasicConstraints content (record { ca = true; path_len_constraint = Some (get_or (drop 3 content) 2 0) })
+unfolding number
+bounded-authority (a ∷ b ∷ c ∷ d ∷ e ∷ f ∷ []) six x y z t one few =
+    record {
+      authority = a ∷ b ∷ c ∷ [];
+      length = d ∷ e ∷ f ∷ [];
+      cA = rw (length_octets-short 1 (omega arith), x, y, z) refl;
+      pathLenConstraint = record {
+        content = f ∷ [];
+        fits = record { octet = omega arith; low = λ h. omega arith; short = omega arith };
+        spelled = rw (length_octets-short 1 (omega arith), t, one) refl;
+        value = record { shortest = refl; natural = le-ltb _ _ (omega arith); value = omega arith; limit = omega arith };
+      };
+      fields = refl;
+    }
+bounded-authority [] six x y z t one few = absurd cc
+bounded-authority (a ∷ []) six x y z t one few = absurd cc
+bounded-authority (a ∷ b ∷ []) six x y z t one few = absurd cc
+bounded-authority (a ∷ b ∷ c ∷ []) six x y z t one few = absurd cc
+bounded-authority (a ∷ b ∷ c ∷ d ∷ []) six x y z t one few = absurd cc
+bounded-authority (a ∷ b ∷ c ∷ d ∷ e ∷ []) six x y z t one few = absurd cc
+bounded-authority (a ∷ b ∷ c ∷ d ∷ e ∷ f ∷ g ∷ more) six x y z t one few = absurd cc
 
 pub crl-sign-last : (content : List ℕ) → length content ≡ 2 → get_or content 0 0 ≡ 1 → get_or content 1 0 % 4 ≡ 2 → (bits : List Bool) × IsKeyUsage content bits
 unfolding named_bits_rules bits_rules last_octet

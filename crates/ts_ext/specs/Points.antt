@@ -1,5 +1,5 @@
 -- Distribution points (RFC 5280 4.2.1.13), and what a list covers (5.2.5).
-use Rattle.std.specs.Prelude.{◌≡◌, ℕ, ◌++◌, ◌==◌, Bool, List, Option, Result, Ok, Err, if◌then◌else◌}
+use Rattle.std.specs.Prelude.{◌≡◌, ℕ, ◌++◌, ◌==◌, Bool, List, [], ◌∷◌, Option, Some, None, Result, Ok, Err, if◌then◌else◌}
 use Rattle.ts_der.specs.declared.fault.DerFault.TheVariants.{WrongTag}
 use Rattle.ts_der.specs.declared.fault.Fault.{Fault}
 use Rattle.ts_der.specs.Answer.{◌>>=◌}
@@ -11,7 +11,7 @@ use Rattle.ts_name.specs.Names.{rdn_of}
 use Rattle.ts_name.specs.NameSpelling.{IsRdnContent}
 use Rattle.ts_name.specs.Fields.{Within, IfAny, optional_of}
 use Rattle.ts_name.specs.Items.{alone, of_tag, some_of, AreSome, IsChoice}
-use Rattle.ts_name.specs.General.{GeneralName}
+use Rattle.ts_name.specs.General.{GeneralName, uniformResourceIdentifier}
 use Rattle.ts_name.specs.Rows.{set_rules, attribute_type_and_value}
 use Rattle.ts_name.specs.Shape.{Row, Shape, tagged, no_other, optional, items, nothing, ◌then◌, ◌or◌, der_rules, no_rules, primitive, sequence}
 use Rattle.ts_ext.specs.Spelling.{IfTrue, AreReasonFlags}
@@ -73,6 +73,10 @@ pub record IsPoint (content : List ℕ) (p : Point) : Type 0 where
   pub reasons : IfAny 0x81 AreReasonFlags flags p.reasons
   pub cRLIssuer : IfAny 0xA2 AreGeneralNames issued_by p.cRLIssuer
   pub fields : content ≡ named ++ (flags ++ issued_by)
+
+-- a point that is known by one URI, and by nothing else
+abbrev pub point_of_uri : List ℕ → Point
+point_of_uri uri = record { distributionPoint = Some (fullName (uniformResourceIdentifier uri ∷ [])); reasons = None; cRLIssuer = None }
 
 unfoldable pub point_of : Tlv → Result Point Fault
 point_of e = do

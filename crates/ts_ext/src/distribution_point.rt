@@ -16,13 +16,13 @@ use crate::reason_flags::ReasonFlags;
 use ts_der::{DerFault, Element, Fault, Reader};
 use ts_name::{FromElement, GeneralNames, Rdn, SequenceOf, tagged_as};
 
-const POINT_NAME: u8 = 0xA0;
+pub(crate) const POINT_NAME: u8 = 0xA0;
 
 const REASONS: u8 = 0x81;
 
 const CRL_ISSUER: u8 = 0xA2;
 
-const FULL_NAME: u8 = 0xA0;
+pub(crate) const FULL_NAME: u8 = 0xA0;
 
 const RELATIVE_NAME: u8 = 0xA1;
 

@@ -50,6 +50,7 @@ mod skip_certs;
 #[cfg(test)]
 mod tests;
 mod usual;
+mod usual_points;
 
 pub use alternative_names::AlternativeNames;
 pub use authority_key_identifier::AuthorityKeyIdentifier;

@@ -4,39 +4,44 @@ ghost use Rattle.std.specs.Prelude.{◌≡◌, ◌++◌, ◌∷◌, [], true, �
 ghost use Rattle.ts_der.specs.Element.{Fits, spell};
 ghost use Rattle.ts_der.specs.View.{now};
 ghost use Rattle.ts_ext.specs.Extension.{Standing, standing_of, IsExtension};
+ghost use Rattle.ts_ext.specs.declared.basic_constraints.BasicConstraints.{BasicConstraints};
 ghost use Rattle.ts_ext.specs.Spelling.{IfTrue, IsBasicConstraints, IsKeyUsage};
 ghost use Rattle.ts_ext.specs.ValueRules.{IsSoundValue, value_fault};
 
 use crate::authority_key_identifier::KEY_IDENTIFIER;
-use crate::fields::{BIT_STRING, BOOLEAN, OBJECT_IDENTIFIER, OCTET_STRING, SEQUENCE};
+use crate::fields::{BIT_STRING, BOOLEAN, INTEGER, OBJECT_IDENTIFIER, OCTET_STRING, SEQUENCE};
 use crate::known::{Holder, Known};
-use ts_der::Element;
+use crate::usual_points::are_uris;
+use ts_der::{Element, bounds_at};
 
-/// The content of the one element that octets are, where it has this tag and a length of one octet. Where nothing is
-/// answered, nothing is said.
+/// The content of the one element that octets are, where it has this tag and the length has at most two octets behind the
+/// first. Where nothing is answered, nothing is said.
 #[inline(always)]
-fn short_content(tag: u8, octets: &[u8]) -> Option<&[u8]>
+fn content_of(tag: u8, octets: &[u8]) -> Option<&[u8]>
     ensures { IfSome result (λ content. Fits tag content.now × (octets.now ≡ spell tag content.now)) }
 {
-    let [first, length, content @ ..] = octets else {
-        return None;
-    };
-    let count = content.len();
-    if *first != tag || tag % 0x20 == 0x1f || *length >= 0x80 || count != *length as usize {
+    let bounds = bounds_at(octets, 0, tag)?;
+    if bounds.end != octets.len() {
         return None;
     }
-    Some(content)
+    Some(&octets[bounds.start..])
 }
 
-/// Whether basic constraints are those of an authority without a bound: cA alone (RFC 5280 4.2.1.9).
+/// Whether basic constraints are those of an authority, with no bound or one below 128 (RFC 5280 4.2.1.9).
 #[inline(always)]
 fn are_of_authority(content: &[u8]) -> bool
-    ensures { result ≡ true → IsBasicConstraints content.now (record { ca = true; path_len_constraint = None }) }
+    ensures { result ≡ true → (constraints : BasicConstraints) × IsBasicConstraints content.now constraints }
 {
-    let [tag, length, ca] = content else {
+    let [tag, length, ca, bound @ ..] = content else {
         return false;
     };
     if *tag != BOOLEAN || *length != 1 || *ca != 0xFF {
+        return false;
+    }
+    let [integer, one, number] = bound else {
+        return bound.is_empty();
+    };
+    if *integer != INTEGER || *one != 1 || *number >= 0x80 {
         return false;
     }
     true
@@ -57,24 +62,28 @@ fn ends_with_crl_sign(content: &[u8]) -> bool
 }
 
 /// Whether octets are a value of this extension as most certificates have it, which breaks no rule: the identifier of a
-/// key, alone where it is the authority's; the basic constraints of an authority; a key usage that ends with cRLSign.
-/// Where they are not, nothing is said.
+/// key, alone where it is the authority's; the basic constraints of an authority; a key usage that ends with cRLSign;
+/// distribution points that are URIs. Where they are not, nothing is said.
 #[inline(always)]
 fn is_usual(known: Known, octets: &[u8]) -> bool
     ensures { result ≡ true → IsSoundValue (Some known) octets.now }
 {
     match known {
-        Known::SubjectKeyIdentifier => short_content(OCTET_STRING, octets).is_some(),
-        Known::BasicConstraints => match short_content(SEQUENCE, octets) {
+        Known::SubjectKeyIdentifier => content_of(OCTET_STRING, octets).is_some(),
+        Known::BasicConstraints => match content_of(SEQUENCE, octets) {
             Some(content) => are_of_authority(content),
             None => false,
         },
-        Known::KeyUsage => match short_content(BIT_STRING, octets) {
+        Known::KeyUsage => match content_of(BIT_STRING, octets) {
             Some(content) => ends_with_crl_sign(content),
             None => false,
         },
-        Known::AuthorityKeyIdentifier => match short_content(SEQUENCE, octets) {
-            Some(content) => short_content(KEY_IDENTIFIER, content).is_some(),
+        Known::AuthorityKeyIdentifier => match content_of(SEQUENCE, octets) {
+            Some(content) => content_of(KEY_IDENTIFIER, content).is_some(),
+            None => false,
+        },
+        Known::CrlDistributionPoints => match content_of(SEQUENCE, octets) {
+            Some(content) => are_uris(content),
             None => false,
         },
         _ => false,
@@ -107,7 +116,7 @@ fn short_parts(content: &[u8]) -> Option<(u8, &[u8])>
     if *tag != OBJECT_IDENTIFIER || *length != 3 || *joint != 0x55 || *ce != 0x1D || *arc >= 0x80 {
         return None;
     }
-    let value = short_content(OCTET_STRING, behind_critical(fields))?;
+    let value = content_of(OCTET_STRING, behind_critical(fields))?;
     Some((*arc, value))
 }
 
