@@ -1,5 +1,5 @@
 -- The length octets of a length are read as it, and what is read is written so.
-use Rattle.std.proofs.Common.{◌≡◌, ◌≢◌, ℕ, ◌+◌, ◌*◌, ◌/◌, ◌%◌, ◌^◌, ◌<◌, ◌≤◌, List, [], ◌∷◌, length, get_or, refl, ap, arith, inl, inr}
+use Rattle.std.proofs.Common.{◌≡◌, ◌≢◌, ℕ, ◌+◌, ◌*◌, ◌/◌, ◌%◌, ◌^◌, ◌<◌, ◌≤◌, true, false, cond, ltb, eqb, List, [], ◌∷◌, length, get_or, take, refl, sym, ap, ◌∙◌, arith, inl, inr}
 use Rattle.std.proofs.lemmas.Bool.{cases_lt, lt-ltb, le-ltb}
 use Rattle.ts_der.specs.Octets.{AreOctets}
 use Rattle.ts_der.specs.Element.{number, length_octets}
@@ -111,5 +111,63 @@ long_form n low high =
             value = omega arith;
           }
         ]
+      ]
+    ]
+
+-- octets that begin with a length below 65,536 begin in one of three ways
+pub no-short-length : (a b c n : ℕ) → n < 65536 → take (length (length_octets n)) (a ∷ b ∷ c ∷ []) ≡ length_octets n → 128 ≤ a → (a ≡ 130 → b ≡ 0) → (a ≡ 129 → b < 128) → false ≡ true
+unfolding length_octets
+no-short-length a b c n high is low two one =
+    elim (cases_lt n 128) [
+      | inl h ↦ let here = rw (lt-ltb n 128 h) at is in absurd (let first : a ≡ n = ap (λ (l : List ℕ). get_or l 0 0) here in omega arith)
+      | inr h ↦ elim (cases_lt n (2 ^ 8)) [
+        | inl k ↦
+            let here = rw (le-ltb n 128 h, lt-ltb n (2 ^ 8) k) at is in
+            absurd (let few = one (ap (λ (l : List ℕ). get_or l 0 0) here) in let second : b ≡ n = ap (λ (l : List ℕ). get_or l 1 0) here in omega arith)
+        | inr k ↦
+            let here = rw (le-ltb n 128 h, le-ltb n (2 ^ 8) k, lt-ltb n (2 ^ 16) high) at is in
+            absurd (let none = two (ap (λ (l : List ℕ). get_or l 0 0) here) in let second : b ≡ n / 2 ^ 8 = ap (λ (l : List ℕ). get_or l 1 0) here in omega arith)
+      ]
+    ]
+
+-- the length that three octets begin with, where it has at most two behind the first
+abbrev first_length : ℕ → ℕ → ℕ → ℕ
+first_length a b c = cond (ltb a 128) a (cond (eqb a 129) b (256 * b + c))
+
+first_length-is : (a b c n : ℕ) → n < 65536 → take (length (length_octets n)) (a ∷ b ∷ c ∷ []) ≡ length_octets n → n ≡ first_length a b c
+unfolding length_octets
+first_length-is a b c n high is =
+    elim (cases_lt n 128) [
+      | inl h ↦
+          let here = rw (lt-ltb n 128 h) at is in
+          let first : a ≡ n = ap (λ (l : List ℕ). get_or l 0 0) here in
+          rw (first, lt-ltb n 128 h) refl
+      | inr h ↦ elim (cases_lt n (2 ^ 8)) [
+        | inl k ↦
+            let here = rw (le-ltb n 128 h, lt-ltb n (2 ^ 8) k) at is in
+            let first : a ≡ 129 = ap (λ (l : List ℕ). get_or l 0 0) here in
+            let second : b ≡ n = ap (λ (l : List ℕ). get_or l 1 0) here in
+            rw (first, second) refl
+        | inr k ↦
+            let here = rw (le-ltb n 128 h, le-ltb n (2 ^ 8) k, lt-ltb n (2 ^ 16) high) at is in
+            let first : a ≡ 130 = ap (λ (l : List ℕ). get_or l 0 0) here in
+            let second : b ≡ n / 2 ^ 8 = ap (λ (l : List ℕ). get_or l 1 0) here in
+            let third : c ≡ n % 2 ^ 8 = ap (λ (l : List ℕ). get_or l 2 0) here in
+            rw first (omega (arith, second, third))
+      ]
+    ]
+
+-- three octets begin with one such length alone
+pub one-length : (a b c m n : ℕ) → m < 65536 → n < 65536 → take (length (length_octets m)) (a ∷ b ∷ c ∷ []) ≡ length_octets m → take (length (length_octets n)) (a ∷ b ∷ c ∷ []) ≡ length_octets n → m ≡ n
+one-length a b c m n high limit is so = first_length-is a b c m high is ∙ sym (first_length-is a b c n limit so)
+
+pub few-length_octets : (n : ℕ) → n < 65536 → length (length_octets n) ≤ 3
+unfolding length_octets
+few-length_octets n high =
+    elim (cases_lt n 128) [
+      | inl h ↦ rw (lt-ltb n 128 h) (omega arith)
+      | inr h ↦ elim (cases_lt n (2 ^ 8)) [
+        | inl k ↦ rw (le-ltb n 128 h, lt-ltb n (2 ^ 8) k) (omega arith)
+        | inr k ↦ rw (le-ltb n 128 h, le-ltb n (2 ^ 8) k, lt-ltb n (2 ^ 16) high) (omega arith)
       ]
     ]

@@ -1,8 +1,9 @@
 -- Elements by the offsets at which they stand.
 use Rattle.std.proofs.Common.{◌≡◌, ◌≢◌, ℕ, zero, suc, ◌+◌, ◌-◌, ◌%◌, ◌<◌, ◌≤◌, List, [], ◌∷◌, ◌++◌, length, get_or, take, drop, refl, sym, ap, ap₂, ◌∙◌, arith, append_assoc}
-use Rattle.std.proofs.lemmas.List.{length-take-le, length-drop, take-append-drop, take-append-le, drop-drop, append-nil}
+use Rattle.std.proofs.lemmas.List.{length-append, take_at, length-take-le, length-drop, take-append-drop, take-append-le, drop-drop, append-nil}
 use Rattle.std.proofs.Math.Seq.{drop-cons}
 use Rattle.ts_der.specs.Element.{Fits, length_octets, spell}
+use Rattle.ts_der.proofs.Lengths.{one-length, few-length_octets}
 use Rattle.ts_der.specs.declared.bounds.Bounds.{Bounds}
 use Rattle.ts_der.specs.Stands.{HavePart, between, HasElement}
 use Rattle.std.proofs.Math.ListN.{drop_of_length-le}
@@ -48,6 +49,37 @@ has-element octets r at tag size n is long first written few short octet low fit
       ordered = omega arith;
       within = fits;
     }
+
+-- the octets behind the tag of an element begin with its length
+pub stands-length : (octets r : List ℕ) (at tag : ℕ) (b : Bounds) → HasElement octets at tag b → r ≡ drop at octets → 4 ≤ length r → b.end - b.start < 65536
+    → (n : ℕ) × (n < 65536) × (take (length (length_octets n)) (get_or r 1 0 ∷ get_or r 2 0 ∷ get_or r 3 0 ∷ []) ≡ length_octets n) × (length octets ≡ at + 1 + length (length_octets n) + n + (length octets - b.end))
+stands-length octets r at tag b has is long high =
+    let content : List ℕ = between octets b in
+    let n : ℕ = length content in
+    let digits : List ℕ = length_octets n in
+    let size : n ≡ b.end - b.start = length-take-le (b.end - b.start) (drop b.start octets) (omega (arith, has.ordered, has.within, length-drop b.start octets)) in
+    let few : n < 65536 = omega (arith, size) in
+    let here : r ≡ get_or r 0 0 ∷ get_or r 1 0 ∷ get_or r 2 0 ∷ get_or r 3 0 ∷ drop 4 r = spelled-out r 0 4 4 refl long in
+    let whole : get_or r 0 0 ∷ get_or r 1 0 ∷ get_or r 2 0 ∷ get_or r 3 0 ∷ drop 4 r ≡ tag ∷ ((digits ++ content) ++ drop b.end octets) = sym here ∙ (is ∙ has.whole) in
+    let behind : get_or r 1 0 ∷ get_or r 2 0 ∷ get_or r 3 0 ∷ drop 4 r ≡ digits ++ (content ++ drop b.end octets) = ap (λ (l : List ℕ). drop 1 l) whole ∙ append_assoc digits content (drop b.end octets) in
+    let front : take (length digits) (get_or r 1 0 ∷ get_or r 2 0 ∷ get_or r 3 0 ∷ drop 4 r) ≡ digits = ap (λ (l : List ℕ). take (length digits) l) behind ∙ take_at digits (content ++ drop b.end octets) (length digits) refl in
+    let count : length r ≡ suc (length ((digits ++ content) ++ drop b.end octets)) = ap (λ (l : List ℕ). length l) (here ∙ whole) in
+    let inside : at ≤ length octets = omega (arith, long, ap (λ (l : List ℕ). length l) is, length-drop at octets) in (
+      n,
+      few,
+      sym (take-append-le (length digits) (get_or r 1 0 ∷ get_or r 2 0 ∷ get_or r 3 0 ∷ []) (drop 4 r) (few-length_octets n few)) ∙ front,
+      omega (arith, count, length-append (digits ++ content) (drop b.end octets), length-append digits content, ap (λ (l : List ℕ). length l) is, length-drop at octets, length-drop b.end octets, inside, has.within),
+    )
+
+-- no other length stands there
+pub stands-within : (octets r : List ℕ) (at tag size n : ℕ) (b : Bounds) → HasElement octets at tag b → r ≡ drop at octets → 4 ≤ length r → b.end - b.start < 65536
+    → take size (get_or r 1 0 ∷ get_or r 2 0 ∷ get_or r 3 0 ∷ []) ≡ length_octets n → size ≤ 3 → n < 65536 → at + 1 + size + n ≤ length octets
+stands-within octets r at tag size n b has is long high written few short =
+    let element = stands-length octets r at tag b has is long high in
+    let count : size ≡ length (length_octets n) = sym (length-take-le size (get_or r 1 0 ∷ get_or r 2 0 ∷ get_or r 3 0 ∷ []) few) ∙ ap (λ (l : List ℕ). length l) written in
+    let same : element.0 ≡ n = one-length (get_or r 1 0) (get_or r 2 0) (get_or r 3 0) element.0 n element.1 short element.2 (rw (← count) written) in
+    let sizes : length (length_octets element.0) ≡ size = ap (λ k. length (length_octets k)) same ∙ sym count in
+    omega (arith, element.3, same, sizes)
 
 -- an element that is all of the octets
 pub element-alone : (octets : List ℕ) (tag : ℕ) (b : Bounds) → HasElement octets 0 tag b → b.end ≡ length octets → Fits tag (drop b.start octets) × (octets ≡ spell tag (drop b.start octets))

@@ -1,6 +1,6 @@
 //! Elements by their offsets alone.
 
-ghost use Rattle.std.specs.Prelude.{◌≡◌, ◌+◌, ◌<◌, ◌≤◌, ◌^◌, ◌∷◌, [], IfSome, length, take};
+ghost use Rattle.std.specs.Prelude.{◌≡◌, ◌+◌, ◌-◌, ◌<◌, ◌≤◌, ◌^◌, ◌∷◌, [], ℕ, IfSome, IsSome, length, take};
 ghost use Rattle.ts_der.specs.Element.{length_octets};
 ghost use Rattle.ts_der.specs.Stands.{HasElement};
 
@@ -18,13 +18,13 @@ struct ShortLength {
     length: usize,
 }
 
-/// The length that three octets begin with, where it has one octet, or one or two behind the first (X.690 8.1.3). Where
-/// nothing is answered, nothing is said.
+/// The length below 65,536 that three octets begin with (X.690 8.1.3, 10.1).
 #[inline(always)]
 fn length_of_three(first: u8, second: u8, third: u8) -> Option<ShortLength>
     ensures written { IfSome result (λ a. take a.size (first ∷ second ∷ third ∷ []) ≡ length_octets a.length) }
     ensures few { IfSome result (λ a. a.size ≤ 3) }
     ensures short { IfSome result (λ a. a.length < 65536) }
+    ensures found { (n : ℕ) → n < 65536 → take (length (length_octets n)) (first ∷ second ∷ third ∷ []) ≡ length_octets n → IsSome result }
 {
     if first < 0x80 {
         return Some(ShortLength {
@@ -48,11 +48,12 @@ fn length_of_three(first: u8, second: u8, third: u8) -> Option<ShortLength>
 }
 
 /// The bounds of the content of the element of this tag that stands at an offset, where three octets or more follow the tag
-/// and the length has at most two octets behind the first. Where nothing is answered, nothing is said.
+/// and the content has fewer than 65,536. Nothing is answered of any other.
 #[inline(always)]
 pub fn bounds_at(octets: &[u8], at: usize, tag: u8) -> Option<Bounds>
     requires { at ≤ length octets.now }
-    ensures { IfSome result (HasElement octets.now at tag) }
+    ensures stands { IfSome result (HasElement octets.now at tag) }
+    ensures found { (bounds : Bounds) → HasElement octets.now at tag bounds → at + 4 ≤ length octets.now → bounds.end - bounds.start < 65536 → IsSome result }
 {
     let [first, second, third, fourth, ..] = &octets[at..] else {
         return None;

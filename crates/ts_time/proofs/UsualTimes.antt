@@ -1,13 +1,14 @@
 -- UTCTimes by the bounds of their octets.
-use Rattle.std.proofs.Common.{◌≡◌, ℕ, ◌+◌, ◌-◌, ◌*◌, ◌/◌, ◌%◌, ◌<◌, ◌≤◌, Bool, true, List, [], ◌∷◌, ◌++◌, length, get_or, take, drop, refl, sym, ap, ap₂, ◌∙◌, arith, ltb, leb, suc}
-use Rattle.std.proofs.lemmas.Bool.{ltb-true, leb-true}
-use Rattle.std.proofs.Math.Seq.{drop-cons}
+use Rattle.std.proofs.Common.{◌≡◌, ℕ, ◌+◌, ◌-◌, ◌*◌, ◌/◌, ◌%◌, ◌<◌, ◌≤◌, true, List, [], ◌∷◌, ◌++◌, length, get_or, take, drop, refl, sym, ap, ap₂, ◌∙◌, arith, ltb, leb, subst}
+use Rattle.std.proofs.lemmas.Bool.{ltb-true, leb-true, le-leb}
+use Rattle.std.proofs.lemmas.List.{take-append-drop}
 use Rattle.std.specs.Prelude.{ℤ}
 use Rattle.ts_der.specs.Between.{lie_between}
+use Rattle.ts_der.specs.Octets.{AreOctets}
 use Rattle.ts_der.proofs.Standing.{one_by_one, spelled-out}
 use Rattle.ts_der.proofs.Lanes.{between-at, between-length}
 use Rattle.ts_time.specs.declared.civil.CivilTime.{CivilTime}
-use Rattle.ts_time.specs.Calendar.{IsDate, days_in_month}
+use Rattle.ts_time.specs.Calendar.{days_in_month}
 use Rattle.ts_time.specs.Civil.{Exists, moment_of}
 use Rattle.ts_time.specs.Text.{two_digits, text_in_year, year_of_two, IsUtc}
 
@@ -94,6 +95,10 @@ least = 48 ∷ 48 ∷ 48 ∷ 48 ∷ 48 ∷ 48 ∷ 48 ∷ 48 ∷ 48 ∷ 48 ∷ 48
 abbrev greatest : List ℕ
 greatest = 57 ∷ 57 ∷ 49 ∷ 57 ∷ 51 ∷ 57 ∷ 50 ∷ 57 ∷ 53 ∷ 57 ∷ 53 ∷ 57 ∷ 90 ∷ 255 ∷ 255 ∷ 255 ∷ []
 
+-- the octet at a place is not below the least there
+pub bound-at : (octets : List ℕ) (i : ℕ) → lie_between least greatest octets ≡ true → i < 16 → get_or least i 0 ≤ at octets i
+bound-at octets i h lt = (between-at least greatest octets i h lt).0
+
 -- thirteen octets between their bounds, whose numbers are those of a time
 pub utc-between : (octets : List ℕ) (month day hour : ℕ) → lie_between least greatest octets ≡ true → month ≡ two (at octets 2) (at octets 3) → day ≡ two (at octets 4) (at octets 5)
     → hour ≡ two (at octets 6) (at octets 7) → 1 ≤ month → month ≤ 12 → 1 ≤ day → ((yy : ℕ) → yy ≡ two (at octets 0) (at octets 1) → day ≤ days_in_month (year_of_two yy) month) → hour ≤ 23
@@ -128,3 +133,58 @@ utc-between octets month day hour h month_is day_is hour_is some few first_day l
     spelled =
         ap (take 13) (spelled-out octets 0 13 13 refl (let all = enough in omega arith))
         ∙ ap (λ (o : ℕ). one_by_one octets 0 12 (o ∷ [])) z
+
+-- the octets lie between the bounds, and their numbers are those of a time
+pub record IsTold (octets : List ℕ) : Type 0 where
+  pub between : lie_between least greatest octets ≡ true
+  pub some : 1 ≤ two (at octets 2) (at octets 3)
+  pub few : two (at octets 2) (at octets 3) ≤ 12
+  pub first_day : 1 ≤ two (at octets 4) (at octets 5)
+  pub last_day : two (at octets 4) (at octets 5) ≤ days_in_month (year_of_two (two (at octets 0) (at octets 1))) (two (at octets 2) (at octets 3))
+  pub hours : two (at octets 6) (at octets 7) ≤ 23
+
+-- an octet between its bounds, and those behind it
+one-more : (l h octet : ℕ) (low high octets : List ℕ) → l ≤ octet → octet ≤ h → lie_between low high octets ≡ true → lie_between (l ∷ low) (h ∷ high) (octet ∷ octets) ≡ true
+one-more l h octet low high octets least most rest = rw (le-leb l octet least, le-leb octet h most) rest
+
+-- a number in two digits, of which the first is not above this
+two-more : (n most : ℕ) (low high octets : List ℕ) → n / 10 + 48 ≤ most → lie_between low high octets ≡ true → lie_between (48 ∷ 48 ∷ low) (most ∷ 57 ∷ high) ((48 + n / 10) ∷ (48 + n % 10) ∷ octets) ≡ true
+two-more n most low high octets few rest = one-more 48 most (48 + n / 10) (48 ∷ low) (57 ∷ high) ((48 + n % 10) ∷ octets) (omega arith) (omega arith) (one-more 48 57 (48 + n % 10) low high octets (omega arith) (omega arith) rest)
+
+two-is : (n : ℕ) → two (48 + n / 10) (48 + n % 10) ≡ n
+two-is n = omega arith
+
+-- no month is longer
+thirty-one : (year month : ℕ) → days_in_month year month ≤ 31
+thirty-one year month = grind arith
+
+time-told : (yy : ℕ) (time : CivilTime) (a b c : ℕ) (more : List ℕ) → yy < 100 → time.year ≡ year_of_two yy → Exists time → a < 256 → b < 256 → c < 256 → IsTold ((two_digits yy ++ text_in_year time) ++ (a ∷ b ∷ c ∷ more))
+time-told yy time a b c more low year exists x y z =
+    let date = exists.date in
+    let days = thirty-one time.year time.month in
+    let last : time.day ≤ 31 = omega (arith, days, date.day_in.1) in
+    let z_low : List ℕ = 90 ∷ 0 ∷ 0 ∷ 0 ∷ [] in
+    let z_high : List ℕ = 90 ∷ 255 ∷ 255 ∷ 255 ∷ [] in
+    let z_octets : List ℕ = 90 ∷ a ∷ b ∷ c ∷ more in
+    let z_is : lie_between z_low z_high z_octets ≡ true = rw (le-leb 0 a (omega arith), le-leb a 255 (omega arith), le-leb 0 b (omega arith), le-leb b 255 (omega arith), le-leb 0 c (omega arith), le-leb c 255 (omega arith)) refl in
+    let seconds = two-more time.second 53 z_low z_high z_octets (omega (arith, exists.second)) z_is in
+    let minutes = two-more time.minute 53 (48 ∷ 48 ∷ z_low) (53 ∷ 57 ∷ z_high) (two_digits time.second ++ z_octets) (omega (arith, exists.minute)) seconds in
+    let hours = two-more time.hour 50 (48 ∷ 48 ∷ 48 ∷ 48 ∷ z_low) (53 ∷ 57 ∷ 53 ∷ 57 ∷ z_high) (two_digits time.minute ++ two_digits time.second ++ z_octets) (omega (arith, exists.hour)) minutes in
+    let days_is = two-more time.day 51 (48 ∷ 48 ∷ 48 ∷ 48 ∷ 48 ∷ 48 ∷ z_low) (50 ∷ 57 ∷ 53 ∷ 57 ∷ 53 ∷ 57 ∷ z_high) (two_digits time.hour ++ two_digits time.minute ++ two_digits time.second ++ z_octets) (omega (arith, last)) hours in
+    let months = two-more time.month 49 (48 ∷ 48 ∷ 48 ∷ 48 ∷ 48 ∷ 48 ∷ 48 ∷ 48 ∷ z_low) (51 ∷ 57 ∷ 50 ∷ 57 ∷ 53 ∷ 57 ∷ 53 ∷ 57 ∷ z_high) (two_digits time.day ++ two_digits time.hour ++ two_digits time.minute ++ two_digits time.second ++ z_octets) (omega (arith, date.month_in.1)) days_is in
+    let years = two-more yy 57 (48 ∷ 48 ∷ 48 ∷ 48 ∷ 48 ∷ 48 ∷ 48 ∷ 48 ∷ 48 ∷ 48 ∷ z_low) (49 ∷ 57 ∷ 51 ∷ 57 ∷ 50 ∷ 57 ∷ 53 ∷ 57 ∷ 53 ∷ 57 ∷ z_high) (two_digits time.month ++ two_digits time.day ++ two_digits time.hour ++ two_digits time.minute ++ two_digits time.second ++ z_octets) (omega (arith, low)) months in
+    record {
+      between = years;
+      some = rw (two-is time.month) date.month_in.0;
+      few = rw (two-is time.month) date.month_in.1;
+      first_day = rw (two-is time.day) date.day_in.0;
+      last_day = rw (two-is time.day, two-is time.month, two-is yy, ← year) date.day_in.1;
+      hours = rw (two-is time.hour) exists.hour;
+    }
+
+-- the first thirteen octets of a list, and at least three behind them
+pub utc-told : (octets : List ℕ) (moment : ℤ) → 16 ≤ length octets → AreOctets octets → IsUtc (take 13 octets) moment → IsTold octets
+utc-told octets moment enough are is =
+    let whole : octets ≡ (two_digits is.yy ++ text_in_year is.time) ++ (at octets 13 ∷ at octets 14 ∷ at octets 15 ∷ drop 16 octets) =
+    sym (take-append-drop 13 octets) ∙ ap₂ (λ (x y : List ℕ). x ++ y) is.spelled (spelled-out octets 13 3 16 refl enough) in
+    subst IsTold (sym whole) (time-told is.yy is.time (at octets 13) (at octets 14) (at octets 15) (drop 16 octets) is.two is.year is.exists (are 13) (are 14) (are 15))

@@ -1,6 +1,6 @@
 //! UTCTimes told without their moments.
 
-ghost use Rattle.std.specs.Prelude.{◌≡◌, ◌+◌, ◌-◌, ◌*◌, ◌<◌, ◌≤◌, ℤ, true, take};
+ghost use Rattle.std.specs.Prelude.{◌≡◌, ◌+◌, ◌-◌, ◌*◌, ◌<◌, ◌≤◌, ℤ, IsTrue, ◌↔◌, take, length};
 ghost use Rattle.ts_time.specs.Calendar.{days_in_month};
 ghost use Rattle.ts_time.specs.Text.{year_of_two, IsUtc};
 
@@ -40,13 +40,16 @@ fn days_of(yy: u32, month: u32) -> u32
     }
 }
 
-/// Whether the first thirteen of sixteen octets or more are the content of a UTCTime, as `read_utc` reads it. Where they
-/// are not, or there are fewer, nothing is said.
+/// Whether there are sixteen octets or more, of which the first thirteen are the content of a UTCTime, as `read_utc` reads
+/// it (RFC 5280 4.1.2.5.1).
 #[inline(always)]
 pub fn begins_with_utc(octets: &[u8]) -> bool
-    ensures { result ≡ true → (moment : ℤ) × IsUtc (take 13 octets.now) moment }
+    ensures { IsTrue result ↔ (16 ≤ length octets.now) × ((moment : ℤ) × IsUtc (take 13 octets.now) moment) }
 {
-    if octets.len() < 16 || !lie_between(octets, &LOW, &HIGH) {
+    if octets.len() < 16 {
+        return false;
+    }
+    if !lie_between(octets, &LOW, &HIGH) {
         return false;
     }
     let [y1, y2, m1, m2, d1, d2, h1, h2, ..] = octets else {

@@ -1,5 +1,4 @@
-use Rattle.std.proofs.Common.{List, [], ◌∷◌, refl, sym, ◌∙◌}
-use Rattle.ts_name.specs.Canon.{Attr}
+use Rattle.std.proofs.Common.{[], ◌∷◌, sym}
 use Rattle.ts_name.proofs.ShortNames.{name-more, no-name}
 use Rattle.ts_name.proofs.short_names.are_short_rdns.Goals as goal
 

@@ -1,4 +1,4 @@
-use Rattle.std.proofs.Common.{◌≡◌, ◌-◌, ap, sym, ◌∙◌, get_or, length, take, drop, List, ℕ, arith}
+use Rattle.std.proofs.Common.{get_or, drop}
 use Rattle.std.proofs.lemmas.List.{take_rest}
 use Rattle.ts_der.proofs.Lanes.{ascii-drop}
 use Rattle.ts_name.proofs.ShortNames.{ShortSet, short-set}
