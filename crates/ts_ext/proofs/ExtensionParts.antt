@@ -29,7 +29,7 @@ use Rattle.ts_ext.proofs.Flags.{flag-spelled, flag-again, flag-judged}
 use Rattle.ts_ext.proofs.Formats.{Format, value_of}
 use Rattle.ts_ext.proofs.Lists.{list-format}
 
-standing-found : (e : Tlv) (x : Standing) → AreOctets e.content → standing_of e ≡ Ok x → IsExtension e.content (said x)
+pub standing-found : (e : Tlv) (x : Standing) → AreOctets e.content → standing_of e ≡ Ok x → IsExtension e.content (said x)
 unfolding standing_of
 standing-found e x fits read =
     let i = bind_ok (oid_at (inside e)) _ x read in

@@ -18,3 +18,5 @@ pub mod UsualValues
 pub mod Walked
 pub mod OneSpelling
 pub mod UriPoints
+pub mod UsualItems
+pub mod SoundLists

@@ -103,7 +103,7 @@ all-say (suc n) here = by_end (λ after. all-say n after) (is_end here.rest)
     by_end more true = refl
     by_end more false = ap (λ (r : Result (Extension × Place) Fault). r >>= their) (each-sees said standing_in (of_tag 0x30 extension_of) extension-sees here) ∙ by_item more (each standing_in here)
 
-extensions-see : Sees (map said) standings_of extensions_of
+pub extensions-see : Sees (map said) standings_of extensions_of
 unfolding some_of many
 extensions-see e =
     ap (λ (r : Result (List Extension) Fault). r >>= λ xs. value_at some_rules (λ c. c) e >>= λ some. Ok xs) (all-say (length e.content) (inside e))

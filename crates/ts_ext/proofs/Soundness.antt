@@ -37,7 +37,7 @@ abbrev pub AllOctets : List Standing → Type 0
 AllOctets [] = Unit {0}
 AllOctets (x ∷ xs) = AreOctets x.value.content × AllOctets xs
 
-standing-octets : (e : Tlv) (x : Standing) → AreOctets e.content → standing_of e ≡ Ok x → AreOctets x.value.content
+pub standing-octets : (e : Tlv) (x : Standing) → AreOctets e.content → standing_of e ≡ Ok x → AreOctets x.value.content
 unfolding standing_of
 standing-octets e x fits read =
     let i = bind_ok (oid_at (inside e)) _ x read in
@@ -101,7 +101,7 @@ none-broken : (at : ℕ) (o : Option CertRule) → option_map (breaks at) o ≡ 
 none-broken at None e = refl
 none-broken at (Some k) e = absurd cc
 
-sound-if : (holder : Holder) (x : Standing) → AreOctets x.value.content → value_fault holder x ≡ None → IsSound holder (said x)
+pub sound-if : (holder : Holder) (x : Standing) → AreOctets x.value.content → value_fault holder x ≡ None → IsSound holder (said x)
 sound-if holder x fits e = by_value (ext_of k x.value) refl (neither (ext_fault k x.value) _ e)
   where
     k : Option Known
@@ -138,7 +138,7 @@ sound holder here fits = (are-sound holder (items_at standing_in here) (all-octe
 
 -- ---- lists that were read
 
-some-octets : (e : Tlv) (xs : List Standing) → AreOctets e.content → standings_of e ≡ Ok xs → AllOctets xs
+pub some-octets : (e : Tlv) (xs : List Standing) → AreOctets e.content → standings_of e ≡ Ok xs → AllOctets xs
 some-octets e xs fits read = subst AllOctets (ok_is {A = List Standing} {E = Fault} (items_at standing_in (inside e)) xs (sym (some-walked standing_in e (ap (λ r. refusal r) (sym read))) ∙ read)) (all-octets (inside e) fits)
 
 -- the content of what stands next is octets

@@ -1,19 +1,19 @@
 -- Distribution points that are known by one URI.
-use Rattle.std.proofs.Common.{◌≡◌, ◌≢◌, ℕ, Bool, not, eqb, ◌+◌, ◌-◌, ◌%◌, ◌<◌, ◌≤◌, true, false, List, [], ◌∷◌, ◌++◌, length, get_or, take, drop, refl, sym, ap, ◌∙◌, arith}
+use Rattle.std.proofs.Common.{◌≡◌, ◌≢◌, ℕ, Bool, not, eqb, ◌+◌, ◌%◌, ◌<◌, ◌≤◌, true, false, List, [], ◌∷◌, ◌++◌, length, get_or, take, drop, refl, sym, ap, ◌∙◌, arith}
 use Rattle.std.specs.Prelude.{None, map}
 use Rattle.std.specs.List.{list_all}
 use Rattle.std.proofs.lemmas.Bool.{eq-eqb, false≢true}
 use Rattle.std.proofs.lemmas.List.{append-nil, length-take-le, take-append-drop}
-use Rattle.ts_der.specs.Element.{Fits, length_octets, spell}
+use Rattle.ts_der.specs.Element.{length_octets}
 use Rattle.ts_der.specs.Text.{is_ascii}
 use Rattle.ts_der.proofs.Lengths.{length_octets-short}
 use Rattle.ts_der.proofs.Standing.{spelled-out}
 use Rattle.ts_name.specs.Fields.{Within}
 use Rattle.ts_name.specs.Items.{AreItems}
-use Rattle.ts_name.specs.General.{GeneralName, uniformResourceIdentifier, IsGeneralName}
+use Rattle.ts_name.specs.General.{uniformResourceIdentifier, IsGeneralName}
 use Rattle.ts_ext.specs.Ext.{cRLDistributionPoints}
 use Rattle.ts_ext.specs.GeneralNames.{AreGeneralNames}
-use Rattle.ts_ext.specs.Points.{PointName, fullName, IsPointName, IsPoint, point_of_uri}
+use Rattle.ts_ext.specs.Points.{fullName, IsPointName, IsPoint, point_of_uri}
 use Rattle.ts_ext.specs.Rules.{has_addresses, broken_rule}
 
 not-true : (b : Bool) → not b ≡ true → b ≡ false

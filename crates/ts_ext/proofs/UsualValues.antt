@@ -1,12 +1,12 @@
 -- Extensions as most certificates have them.
-use Rattle.std.proofs.Common.{◌≡◌, ◌≢◌, ℕ, ◌%◌, ◌/◌, ◌<◌, ◌≤◌, Bool, true, false, eqb, List, [], ◌∷◌, ◌++◌, length, drop, get_or, Option, Some, None, Ok, refl, sym, ap, subst, arith}
+use Rattle.std.proofs.Common.{◌≡◌, ℕ, ◌%◌, ◌/◌, ◌<◌, ◌≤◌, Bool, true, false, eqb, List, [], ◌∷◌, ◌++◌, length, drop, get_or, Option, Some, None, Ok, refl, sym, ap, subst, arith}
 use Rattle.std.specs.Prelude.{IfSome, is_some}
 use Rattle.std.proofs.lemmas.Bool.{eq-eqb, ne_eqb, le-ltb}
 use Rattle.std.proofs.lemmas.List.{append-nil}
 use Rattle.ts_der.specs.BitString.{bits_of, bits_rules, last_octet, named_bits_rules}
 use Rattle.ts_der.specs.declared.fault.Fault.{Fault}
 use Rattle.ts_der.specs.Boolean.{boolean_content}
-use Rattle.ts_der.specs.Element.{number, Tlv, Fits, spell, length_octets}
+use Rattle.ts_der.specs.Element.{number, Tlv, Fits, spell}
 use Rattle.ts_der.proofs.BitStrings.{named-found}
 use Rattle.ts_der.proofs.FewOctets.{three_go}
 use Rattle.ts_der.proofs.Laws.{bind_ok, ok_is}

@@ -17,3 +17,4 @@ pub mod Rules
 pub mod Extension
 pub mod ExtensionView
 pub mod ValueRules
+pub mod Sound

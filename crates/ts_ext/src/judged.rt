@@ -18,6 +18,7 @@ use crate::extensions::Extensions;
 use crate::fields::SEQUENCE;
 use crate::known::Holder;
 use crate::usual::usual_arc;
+use crate::usual_list::have_ends_of_their_own;
 use ts_der::{DerFault, Element, Fault};
 use ts_name::{CertFault, CertRule, Ends, Keyed, first_repeated, tagged_as};
 
@@ -63,9 +64,25 @@ fn judge_explicit<'a>(element: Element<'a>, holder: Holder) -> Result<Judged<'a>
     Ok(judged)
 }
 
-/// The list that a SEQUENCE's content is, and the first rule that it breaks.
+/// The list that a SEQUENCE's content is, and the first rule that it breaks. Most lists of certificates break none, as is
+/// told at a glance.
 #[inline(always)]
 fn judge<'a>(element: Element<'a>, holder: Holder) -> Result<Judged<'a>, Fault>
+    ensures placed { Answers (λ j. standings_in j.extensions) result (standings_of (now element.entry)) }
+    ensures judged { IfOk result (λ j. j.fault ≡ list_fault holder (standings_in j.extensions)) }
+{
+    match holder {
+        Holder::Certificate if have_ends_of_their_own(element.content) => Ok(Judged {
+            extensions: Extensions::within(element),
+            fault: None,
+        }),
+        _ => judge_each(element, holder),
+    }
+}
+
+/// The same of any list.
+#[inline(always)]
+pub(crate) fn judge_each<'a>(element: Element<'a>, holder: Holder) -> Result<Judged<'a>, Fault>
     ensures placed { Answers (λ j. standings_in j.extensions) result (standings_of (now element.entry)) }
     ensures judged { IfOk result (λ j. j.fault ≡ list_fault holder (standings_in j.extensions)) }
 {

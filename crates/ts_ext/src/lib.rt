@@ -50,6 +50,8 @@ mod skip_certs;
 #[cfg(test)]
 mod tests;
 mod usual;
+mod usual_extension;
+mod usual_list;
 mod usual_points;
 
 pub use alternative_names::AlternativeNames;
@@ -79,3 +81,4 @@ pub use reason_flag::ReasonFlag;
 pub use reason_flags::ReasonFlags;
 pub use reason_set::ReasonSet;
 pub use skip_certs::SkipCerts;
+pub use usual_list::are_sound_extensions;

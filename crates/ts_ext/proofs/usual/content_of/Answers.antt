@@ -5,4 +5,4 @@ use Rattle.ts_ext.proofs.usual.content_of.Goals as goal
 pub returns : goal.returns
 returns c =
     let bounds = c.in_ok-bounds.bounds in
-    rw (take_rest c.args.octets.now bounds.start) (element-alone c.args.octets.now c.args.tag bounds c.in_ok-bounds.ensures c.if-bounds-octets.false)
+    rw (take_rest c.args.octets.now bounds.start) (element-alone c.args.octets.now c.args.tag bounds c.in_ok-bounds.ensures.stands c.if-bounds-octets.false)

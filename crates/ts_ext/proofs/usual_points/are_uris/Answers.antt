@@ -1,8 +1,8 @@
-use Rattle.std.proofs.Common.{◌∷◌, [], refl, sym}
+use Rattle.std.proofs.Common.{◌∷◌, [], sym}
 use Rattle.std.proofs.lemmas.List.{nil_from_length}
 use Rattle.std.proofs.lemmas.Bool.{eqb-true}
 use Rattle.ts_name.specs.Fields.{Within}
-use Rattle.ts_ext.specs.Points.{IsPoint, point_of_uri}
+use Rattle.ts_ext.specs.Points.{IsPoint}
 use Rattle.ts_ext.proofs.UriPoints.{uris-more, some-items}
 use Rattle.ts_ext.proofs.usual_points.are_uris.Goals as goal
 

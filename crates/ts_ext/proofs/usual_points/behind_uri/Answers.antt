@@ -1,4 +1,4 @@
-use Rattle.std.proofs.Common.{get_or, ◌∙◌, ap, sym, List, ℕ}
+use Rattle.std.proofs.Common.{◌∙◌, ap, sym}
 use Rattle.std.proofs.lemmas.List.{take_rest}
 use Rattle.ts_der.specs.Text.{is_ascii}
 use Rattle.ts_ext.proofs.UriPoints.{UriPoint, uri-point}

@@ -1,0 +1,111 @@
+//! The extensions of a certificate, told at a glance where they are those of most.
+
+ghost use Rattle.std.specs.Prelude.{◌≡◌, ◌≤◌, ◌↔◌, IsTrue, true, IfSome, length, take};
+ghost use Rattle.std.specs.Prelude.{None, Ok};
+ghost use Rattle.ts_der.specs.View.{now};
+ghost use Rattle.ts_ext.specs.declared.known.Holder.TheVariants.{Certificate};
+ghost use Rattle.ts_ext.specs.Extension.{Standing, standing_of};
+ghost use Rattle.ts_ext.specs.Sound.{IsNewKey, IsSoundAndNew, AreSoundOnce};
+ghost use Rattle.ts_ext.specs.ValueRules.{value_fault};
+
+use crate::extension::read_extension;
+use crate::fields::SEQUENCE;
+use crate::judged::judge_each;
+use crate::known::Holder;
+use crate::usual::usual_arc;
+use crate::usual_extension::usual_size;
+use ts_der::{Element, Reader};
+use ts_name::{Ends, Keyed};
+
+/// Whether an extension's object identifier ends in an octet of its own, and its value breaks no rule.
+#[inline(always)]
+fn is_sound_and_new(element: Element<'_>, ends: &mut Ends) -> bool
+    ensures { result ≡ true → (x : Standing) × (standing_of (now element.entry) ≡ Ok x) × (value_fault Certificate x ≡ None) × IsNewKey ends.old ends.new x.extnID }
+{
+    if let Some(arc) = usual_arc(element, Holder::Certificate) {
+        return ends.is_new(&[0x55, 0x1D, arc]);
+    }
+    let Ok(extension) = read_extension(element) else {
+        return false;
+    };
+    if extension.first_fault(Holder::Certificate).is_some() {
+        return false;
+    }
+    ends.is_new(extension.key())
+}
+
+/// The size of the extension at the front of octets, where its object identifier ends in an octet of its own, and its value
+/// breaks no rule.
+#[inline(never)]
+fn sound_size(octets: &[u8], ends: &mut Ends) -> Option<usize>
+    ensures sound { IfSome result (λ size. IsSoundAndNew ends.old ends.new (take size octets.now)) }
+    ensures within { IfSome result (λ size. size ≤ length octets.now) }
+{
+    let Ok(element) = Reader::new(octets).element(SEQUENCE) else {
+        return None;
+    };
+    if !is_sound_and_new(element, ends) {
+        return None;
+    }
+    Some(element.whole.len())
+}
+
+/// The same, where those that most certificates have are told at a glance.
+#[inline(always)]
+fn next_size(octets: &[u8], ends: &mut Ends) -> Option<usize>
+    ensures sound { IfSome result (λ size. IsSoundAndNew ends.old ends.new (take size octets.now)) }
+    ensures within { IfSome result (λ size. size ≤ length octets.now) }
+{
+    let Some(size) = usual_size(octets) else {
+        return sound_size(octets, ends);
+    };
+    if !ends.is_new(&[0x55, 0x1D, octets[6]]) {
+        return None;
+    }
+    Some(size)
+}
+
+/// Whether octets are extensions of a certificate of which no two object identifiers end alike, and each value breaks no
+/// rule. Where they are not, nothing is said.
+#[inline(always)]
+pub(crate) fn have_ends_of_their_own(content: &[u8]) -> bool
+    ensures { result ≡ true → AreSoundOnce content.now }
+{
+    let mut ends = Ends::new();
+    let mut rest = content;
+    while !rest.is_empty() {
+        let Some(size) = next_size(rest, &mut ends) else {
+            return false;
+        };
+        rest = rest.split_at(size).1;
+    }
+    !content.is_empty()
+}
+
+/// Whether octets are extensions of a certificate of which none stands twice, and each value breaks no rule.
+#[cold]
+#[inline(never)]
+fn are_others(content: &[u8]) -> bool
+    ensures { IsTrue result ↔ AreSoundOnce content.now }
+{
+    let list = Element {
+        tag: SEQUENCE,
+        content,
+        whole: content,
+        at: 0,
+        start: 0,
+    };
+    match judge_each(list, Holder::Certificate) {
+        Ok(judged) => judged.fault.is_none(),
+        Err(_) => false,
+    }
+}
+
+/// Whether the content of a SEQUENCE is extensions of a certificate that break no rule: one or more, none of which stands
+/// twice, each with a value that its extension has and that keeps the rules of RFC 5280 (4.2), as `Judged` finds them.
+#[inline(always)]
+pub fn are_sound_extensions(content: &[u8]) -> bool
+    ensures { IsTrue result ↔ AreSoundOnce content.now }
+{
+    have_ends_of_their_own(content) || are_others(content)
+}
