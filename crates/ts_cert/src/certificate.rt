@@ -46,6 +46,7 @@ impl<'a> Cert<'a> {
     /// (`ExtensionsInOldVersion`), at the element that holds them; then `DuplicateExtension`, at the first that has the
     /// object identifier of an earlier one; then the values of the known extensions, in order of place, each by DER
     /// first and then by `SubtreeBounds`, `AddressLength` and `DuplicatePolicy` (RFC 5280 4.1, 4.2).
+    #[inline(never)]
     pub fn read(octets: &'a [u8]) -> Result<Cert<'a>, CertFault>
         // What is read is spelled so.
         ensures found { IfOk result (λ cert. IsCertificate octets.now (cert_in cert)) }
@@ -54,6 +55,7 @@ impl<'a> Cert<'a> {
         ensures fault { refusal result ≡ certificate_fault octets.now }
         ensures exact { Answers cert_in result (certificate_of octets.now) }
     {
+        // Not inlined: the record of a caller that asks for nothing but an Ok would not be made, and the time not be told.
         read_certificate(octets)
     }
 

@@ -204,3 +204,38 @@ fn an_extension_is_found_by_its_name(rt: HostRuntime) {
         assert!(rt; found(octets, known) == Ok(wanted));
     }
 }
+
+/// cA is TRUE; keyCertSign and cRLSign; the identifiers of two keys.
+const ROOT: &[u8] =
+    b"\x30\x61\x30\x0f\x06\x03\x55\x1d\x13\x01\x01\xff\x04\x05\x30\x03\x01\x01\xff\x30\x0e\x06\x03\x55\x1d\x0f\x01\x01\xff\x04\x04\x03\x02\x01\x06\x30\x1d\x06\x03\x55\x1d\x0e\x04\x16\x04\x14\x01\x01\x01\x01\x01\x01\x01\x01\x01\x01\x01\x01\x01\x01\x01\x01\x01\x01\x01\x01\x30\x1f\x06\x03\x55\x1d\x23\x04\x18\x30\x16\x80\x14\x02\x02\x02\x02\x02\x02\x02\x02\x02\x02\x02\x02\x02\x02\x02\x02\x02\x02\x02\x02";
+
+/// 2.5.29.98 twice.
+const TWICE: &[u8] =
+    b"\x30\x12\x30\x07\x06\x03\x55\x1d\x62\x04\x00\x30\x07\x06\x03\x55\x1d\x62\x04\x00";
+
+/// 2.5.29.98 and 2.5.29.1.98.
+const ALIKE: &[u8] =
+    b"\x30\x13\x30\x07\x06\x03\x55\x1d\x62\x04\x00\x30\x08\x06\x04\x55\x1d\x01\x62\x04\x00";
+
+/// Whether what a SEQUENCE holds are extensions of a certificate that break no rule.
+fn are_sound(octets: &[u8]) -> Result<bool, Fault> {
+    Ok(are_sound_extensions(Reader::new(octets).next()?.content))
+}
+
+#[test]
+fn lists_that_break_no_rule(rt: HostRuntime) -> Result<(), Fail> {
+    for (octets, wanted) in [
+        (HOST, true),
+        (CRITICAL, true),
+        (ROOT, true),
+        (ALIKE, true),
+        (TWICE, false),
+        (NOT_CRITICAL, false),
+        (FIVE, false),
+        (NO_NAME, false),
+        (b"\x30\x00", false),
+    ] {
+        assert_eq!(rt; are_sound(octets)?, wanted);
+    }
+    Ok(())
+}

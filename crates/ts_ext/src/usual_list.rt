@@ -17,6 +17,9 @@ use crate::usual_extension::usual_size;
 use ts_der::{Element, Reader};
 use ts_name::{Ends, Keyed};
 
+/// A list of more octets is not looked at: one that breaks a rule is walked once more, and may be made to be slow.
+const SHORT: usize = 4_096;
+
 /// Whether an extension's object identifier ends in an octet of its own, and its value breaks no rule.
 #[inline(always)]
 fn is_sound_and_new(element: Element<'_>, ends: &mut Ends) -> bool
@@ -65,12 +68,15 @@ fn next_size(octets: &[u8], ends: &mut Ends) -> Option<usize>
     Some(size)
 }
 
-/// Whether octets are extensions of a certificate of which no two object identifiers end alike, and each value breaks no
-/// rule. Where they are not, nothing is said.
+/// Whether octets are a short list of extensions of a certificate of which no two object identifiers end alike, and each value
+/// breaks no rule. Where they are not, nothing is said.
 #[inline(always)]
 pub(crate) fn have_ends_of_their_own(content: &[u8]) -> bool
     ensures { result ≡ true → AreSoundOnce content.now }
 {
+    if content.len() > SHORT {
+        return false;
+    }
     let mut ends = Ends::new();
     let mut rest = content;
     while !rest.is_empty() {

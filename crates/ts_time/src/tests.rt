@@ -1,6 +1,6 @@
 //! Vectors of Python's `datetime` and `calendar`, and of `date` for the year 0.
 
-use crate::{Moment, print_general, print_utc, read_general, read_utc};
+use crate::{Moment, begins_with_utc, print_general, print_utc, read_general, read_utc};
 use ts_der::DerFault;
 
 /// What a text is in one of the forms: the seconds of a moment and whether that is printed as the same text, or why it
@@ -110,5 +110,24 @@ fn moments_without_a_text(rt: HostRuntime) {
         let moment = Moment(seconds);
         let printed = (print_utc(moment).is_some(), print_general(moment).is_some());
         assert!(rt; printed == (false, is_general), "{seconds}");
+    }
+}
+
+/// Octets, with whether there are sixteen or more, of which the first thirteen are a UTCTime.
+const BEGINNINGS: [(&[u8], bool); 8] = [
+    (b"991231235959Z\x17\x0d0", true),
+    (b"000229000000Z\x30\x00\x00", true),
+    (b"010229000000Z\x30\x00\x00", false),
+    (b"260431000000Z\x30\x00\x00", false),
+    (b"260101240000Z\x30\x00\x00", false),
+    (b"260101006000Z\x30\x00\x00", false),
+    (b"260101000000z\x30\x00\x00", false),
+    (b"991231235959Z\x30\x00", false),
+];
+
+#[test]
+fn times_at_the_front(rt: HostRuntime) {
+    for &(octets, wanted) in &BEGINNINGS {
+        assert!(rt; begins_with_utc(octets) == wanted, "{octets:?}");
     }
 }
