@@ -55,7 +55,7 @@ impl<'a> Cert<'a> {
         ensures fault { refusal result ≡ certificate_fault octets.now }
         ensures exact { Answers cert_in result (certificate_of octets.now) }
     {
-        // Not inlined: the record of a caller that asks for nothing but an Ok would not be made, and the time not be told.
+        // Not inlined: for a caller that asks for nothing but an `Ok` the record would not be made, nor its time be told.
         read_certificate(octets)
     }
 
