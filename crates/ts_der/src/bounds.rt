@@ -47,8 +47,8 @@ fn length_of_three(first: u8, second: u8, third: u8) -> Option<ShortLength>
     None
 }
 
-/// The bounds of the content of the element of this tag that stands at an offset, where three octets or more follow the tag
-/// and the content has fewer than 65,536. Nothing is answered of any other.
+/// The bounds of the content of the element of this tag that stands at an offset. There is an answer of each whose content has
+/// fewer than 65,536 octets, where three octets or more follow the tag; none where no such element stands.
 #[inline(always)]
 pub fn bounds_at(octets: &[u8], at: usize, tag: u8) -> Option<Bounds>
     requires { at ≤ length octets.now }

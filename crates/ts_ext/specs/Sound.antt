@@ -6,7 +6,7 @@ use Rattle.ts_ext.specs.declared.known.Holder.TheVariants.{Certificate}
 use Rattle.ts_ext.specs.Extension.{Extension, IsExtension, AreExtensions}
 use Rattle.ts_ext.specs.ValueRules.{IsSound, AreSound}
 
--- octets are an Extension with a value that breaks no rule, and has this object identifier
+-- octets are an Extension with a value that breaks no rule, and with an object identifier of which this holds
 abbrev pub IsSoundAs : (List ℕ → Type 0) → List ℕ → Type 0
 IsSoundAs Has item = (x : Extension) × Within 0x30 IsExtension item x × IsSound Certificate x × Has x.extnID
 
