@@ -45,7 +45,7 @@ use Rattle.ts_cert.proofs.Periods.{validity-part, version-found, version-again}
 explicit-part : Value 0xA3 explicit_extensions_of AreExplicit
 explicit-part = value_of explicit_extensions-format 0xA3
 
-unique-part : (tag : ℕ) → Value tag unique_identifier_of IsUniqueIdentifier
+pub unique-part : (tag : ℕ) → Value tag unique_identifier_of IsUniqueIdentifier
 unique-part tag = value_of unique_identifier-format tag
 
 -- the extensions, as what they say

@@ -3,6 +3,9 @@ pub mod Periods
 pub mod FieldRules
 pub mod Beside
 pub mod Certificates
+pub mod Layouts
+pub mod Spanned
+pub mod Held
 pub mod OneSpelling
 pub mod Judging
 pub mod StatedValues

@@ -182,7 +182,7 @@ version-found here v after fits read =
 fits_number : (n : ℕ) → Fits 0x02 (n ∷ [])
 fits_number n = record { octet = omega arith; low = omega arith; short = omega arith }
 
-fits_version : (n : ℕ) → Fits 0xA0 (spell 0x02 (n ∷ []))
+pub fits_version : (n : ℕ) → Fits 0xA0 (spell 0x02 (n ∷ []))
 unfolding length_octets
 fits_version n = record { octet = omega arith; low = omega arith; short = omega arith }
 

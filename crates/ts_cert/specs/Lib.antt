@@ -6,6 +6,7 @@ pub mod Spelling
 pub mod Rules
 pub mod Version
 pub mod Time
+pub mod Layout
 pub mod CertView
 pub mod Reading
 pub mod Stated

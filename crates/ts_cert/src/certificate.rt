@@ -10,32 +10,32 @@ ghost use Rattle.ts_cert.specs.Reading.{certificate_of};
 ghost use Rattle.ts_cert.specs.Spelling.{IsCertificate};
 ghost use Rattle.ts_cert.specs.Table.{certificate_fault};
 ghost use Rattle.ts_cert.specs.View.{algorithm_in, key_in};
-ghost use Rattle.ts_cert.specs.CertView.{cert_in};
+ghost use Rattle.ts_cert.specs.Layout.{AreLaidOut};
 
 use crate::algorithm::AlgorithmIdentifier;
 use crate::key::SubjectPublicKeyInfo;
-use crate::shape::read_whole;
-use crate::tbs::TbsCertificate;
+use crate::layout::Layout;
+use crate::part::{algorithm_from, bits_from, integer_from, key_from, name_from, validity_from};
+use crate::reading::read_cert;
 use crate::time::Validity;
 use crate::version::Version;
-use ts_der::{DerFault, Integer};
-use ts_name::{CertFault, CertRule, Name};
+use ts_der::Integer;
+use ts_name::{CertFault, Name};
 
 /// The greatest number of octets that a certificate may have in this profile.
 pub const MAX_CERTIFICATE: usize = 65_536;
 
-/// A certificate as it lies in the source (RFC 5280 4.1).
+/// A certificate as it lies in the source (RFC 5280 4.1). Its octets were read, and where its parts begin is kept.
 #[derive(Clone, Copy)]
 pub struct Cert<'a> {
-    pub(crate) tbs: &'a [u8],
-    pub(crate) fields: TbsCertificate<'a>,
-    pub(crate) signature_algorithm: AlgorithmIdentifier<'a>,
-    pub(crate) signature_value: &'a [u8],
-    /// The offset of the algorithm identifier beside the signature.
-    pub(crate) identifier_at: usize,
+    pub(crate) octets: &'a [u8],
+    pub(crate) layout: Layout,
+    ghost laid: { AreLaidOut octets.now layout },
 }
 
 impl<'a> Cert<'a> {
+    ghost use Rattle.ts_cert.specs.CertView.{cert_in};
+
     /// The certificate that octets are.
     ///
     /// # Errors
@@ -56,94 +56,76 @@ impl<'a> Cert<'a> {
         ensures exact { Answers cert_in result (certificate_of octets.now) }
     {
         // Not inlined: for a caller that asks for nothing but an `Ok` the record would not be made, nor its time be told.
-        read_certificate(octets)
+        read_cert(octets)
     }
 
     /// The octets that are signed: all of tbsCertificate, header included, as they were read (RFC 5280 4.1.1.3).
     pub fn tbs(self) -> &'a [u8]
         ensures { result.now ≡ (cert_in self.entry).tbs }
     {
-        self.tbs
+        &self.octets[self.layout.tbs..self.layout.signature_algorithm]
     }
 
     /// The version (RFC 5280 4.1.2.1).
     pub fn version(self) -> Version
         ensures { result ≡ (cert_in self.entry).tbsCertificate.version }
     {
-        self.fields.version
+        self.layout.version
     }
 
     /// The serial number, of any length and sign (RFC 5280 4.1.2.2).
     pub fn serial_number(self) -> Integer<'a>
         ensures { result.octets.now ≡ (cert_in self.entry).tbsCertificate.serialNumber }
     {
-        self.fields.serial_number
+        integer_from(self.octets, self.layout.serial_number)
     }
 
     /// The issuer (RFC 5280 4.1.2.4).
     pub fn issuer(self) -> Name<'a>
         ensures { rdns_in result ≡ (cert_in self.entry).tbsCertificate.issuer }
     {
-        self.fields.issuer
+        name_from(self.octets, self.layout.issuer)
     }
 
     /// From when to when the certificate is valid (RFC 5280 4.1.2.5).
     pub fn validity(self) -> Validity
         ensures { result ≡ (cert_in self.entry).tbsCertificate.validity }
     {
-        self.fields.period.validity()
+        validity_from(self.octets, self.layout.validity)
     }
 
     /// The subject (RFC 5280 4.1.2.6).
     pub fn subject(self) -> Name<'a>
         ensures { rdns_in result ≡ (cert_in self.entry).tbsCertificate.subject }
     {
-        self.fields.subject
+        name_from(self.octets, self.layout.subject)
     }
 
     /// Whether issuer and subject are one name (RFC 5280 6.1).
     pub fn is_self_issued(self) -> bool
         ensures { IsTrue result ↔ (canon_name (cert_in self.entry).tbsCertificate.issuer ≡ canon_name (cert_in self.entry).tbsCertificate.subject) }
     {
-        let TbsCertificate {
-            issuer,
-            subject,
-            ..
-        } = self.fields;
-        issuer.same(subject)
+        self.issuer().same(self.subject())
     }
 
     /// The subject's public key and its algorithm (RFC 5280 4.1.2.7).
     pub fn subject_public_key_info(self) -> SubjectPublicKeyInfo<'a>
         ensures { key_in result ≡ (cert_in self.entry).tbsCertificate.subjectPublicKeyInfo }
     {
-        self.fields.subject_public_key_info
+        key_from(self.octets, self.layout.subject_public_key_info)
     }
 
     /// The algorithm of the signature; it is the same within what is signed and beside the signature (RFC 5280 4.1.1.2).
     pub fn signature_algorithm(self) -> AlgorithmIdentifier<'a>
         ensures { algorithm_in result ≡ (cert_in self.entry).signatureAlgorithm }
     {
-        self.signature_algorithm
+        algorithm_from(self.octets, self.layout.signature_algorithm)
     }
 
     /// The octets of the signature (RFC 5280 4.1.1.3).
     pub fn signature(self) -> &'a [u8]
         ensures { result.now ≡ (cert_in self.entry).signatureValue }
     {
-        self.signature_value
+        bits_from(self.octets, self.layout.signature_value)
     }
-}
-
-#[tactic(auto, unfolding(crate::specs::Reading::certificate_of))]
-fn read_certificate(octets: &[u8]) -> Result<Cert<'_>, CertFault>
-    ensures { Answers cert_in result (certificate_of octets.now) }
-{
-    if octets.len() > MAX_CERTIFICATE {
-        return Err(CertFault {
-            kind: CertRule::Der(DerFault::TooLarge),
-            at: 0,
-        });
-    }
-    read_whole(octets)
 }

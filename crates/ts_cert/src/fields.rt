@@ -9,9 +9,9 @@ use ts_name::Name;
 
 pub(crate) const INTEGER: u8 = 0x02;
 
-const BIT_STRING: u8 = 0x03;
+pub(crate) const BIT_STRING: u8 = 0x03;
 
-const OBJECT_IDENTIFIER: u8 = 0x06;
+pub(crate) const OBJECT_IDENTIFIER: u8 = 0x06;
 
 pub(crate) const SEQUENCE: u8 = 0x30;
 

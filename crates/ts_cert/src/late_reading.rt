@@ -16,18 +16,21 @@ use ts_ext::{Holder, Judged};
 use ts_name::CertFault;
 
 /// The tag of the issuer's unique identifier (RFC 5280 4.1).
-const ISSUER_UNIQUE_ID: u8 = 0x81;
+pub(crate) const ISSUER_UNIQUE_ID: u8 = 0x81;
 
 /// The tag of the subject's unique identifier.
-const SUBJECT_UNIQUE_ID: u8 = 0x82;
+pub(crate) const SUBJECT_UNIQUE_ID: u8 = 0x82;
 
 /// The tag of the extensions, which is explicit.
-const EXTENSIONS: u8 = 0xA3;
+pub(crate) const EXTENSIONS: u8 = 0xA3;
 
 /// A unique identifier, where an element of this tag stands.
 #[tactic(auto, unfolding(crate::specs::Reading::unique_identifier_of, ts_name::specs::Fields::optional_of, ts_der::specs::Reading::optional_at))]
 #[inline(always)]
-fn next_unique_id<'a>(fields: &mut Reader<'a>, tag: u8) -> Result<Option<Bits<'a>>, Fault>
+pub(crate) fn next_unique_id<'a>(
+    fields: &mut Reader<'a>,
+    tag: u8,
+) -> Result<Option<Bits<'a>>, Fault>
     ensures { Takes (option_map parts_of) fields.new result (optional_of tag unique_identifier_of fields.old) }
 {
     match fields.optional(tag)? {

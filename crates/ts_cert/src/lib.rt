@@ -11,9 +11,13 @@ mod key;
 mod late;
 mod late_reading;
 pub mod laws;
+mod layout;
 mod owned;
 #[cfg(test)]
 mod owned_tests;
+mod part;
+mod parts;
+mod reading;
 mod rules;
 mod shape;
 mod stated;
@@ -23,6 +27,7 @@ mod tbs;
 #[cfg(test)]
 mod tests;
 mod time;
+mod usual;
 mod version;
 
 pub use algorithm::{AlgorithmIdentifier, next_algorithm, read_algorithm};

@@ -4,12 +4,14 @@ ghost use Rattle.std.specs.Prelude.{◌≡◌, ◌⊎◌, ℕ, List, Some, None,
 ghost use Rattle.ts_name.specs.declared.fault.CertFault.{CertFault};
 ghost use Rattle.ts_cert.specs.CertView.{cert_in};
 ghost use Rattle.ts_cert.specs.Reading.{certificate_of};
+ghost use Rattle.ts_cert.specs.Layout.{AreLaidOut};
 ghost use Rattle.ts_cert.specs.Spelling.{IsCertificate};
 ghost use Rattle.ts_cert.specs.Table.{certificate_fault};
 ghost use Rattle.ts_cert.specs.Printed.{owned_text};
 ghost use Rattle.ts_cert.specs.declared.owned.OwnedCertFault.TheVariants.{Memory, Unreadable};
 
 use crate::certificate::Cert;
+use crate::layout::Layout;
 use std::alloc::{AllocError, Global};
 use std::error::Error;
 use std::fmt;
@@ -61,6 +63,7 @@ impl From<CertFault> for OwnedCertFault {
 #[derive(Debug, Drop)]
 pub struct OwnedCert {
     octets: Vec<u8>,
+    layout: Layout,
 }
 
 impl Model for OwnedCert {
@@ -68,7 +71,7 @@ impl Model for OwnedCert {
 
     ghost view = { λ cert. cert.octets.items };
 
-    ghost invariant = { λ cert. certificate_fault cert.octets.items ≡ None };
+    ghost invariant = { λ cert. AreLaidOut cert.octets.items cert.layout };
 }
 
 impl OwnedCert {
@@ -82,19 +85,19 @@ impl OwnedCert {
         ensures kept { certificate_fault octets.now ≡ None → (result ≡ Ok octets.now) ⊎ (result ≡ Err Memory) }
         ensures refused { (f : CertFault) → certificate_fault octets.now ≡ Some f → result ≡ Err (Unreadable f) }
     {
-        Cert::read(octets)?;
+        let layout = Cert::read(octets)?.layout;
         let octets = Vec::from_slice(alloc, octets)?;
-        Ok(OwnedCert { octets })
+        Ok(OwnedCert { octets, layout })
     }
 
-    /// The certificate, lent. Its octets are read once more.
+    /// The certificate, lent. Its octets are not read again.
     pub fn view(&self) -> Cert<'_>
         ensures found { IsCertificate self.now (cert_in result) }
         ensures exact { certificate_of self.now ≡ Ok (cert_in result) }
     {
-        match Cert::read(self.octets.as_slice()) {
-            Ok(cert) => cert,
-            Err(_) => unreachable!(),
+        Cert {
+            octets: self.octets.as_slice(),
+            layout: self.layout,
         }
     }
 

@@ -3,20 +3,21 @@
 ghost use Rattle.std.specs.Prelude.{◌≡◌};
 ghost use Rattle.ts_der.specs.Answer.{Answers, refusal};
 ghost use Rattle.ts_der.specs.View.{now};
-ghost use Rattle.ts_cert.specs.Reading.{signed_of, agreed, whole_of};
-ghost use Rattle.ts_cert.specs.CertView.{unagreed_in, cert_in};
+ghost use Rattle.ts_cert.specs.Reading.{signed_of, agreed, whole_of, certificate_of};
+ghost use Rattle.ts_cert.specs.CertView.{unagreed_in, parts_in};
 
 use crate::algorithm::read_algorithm_beside;
-use crate::certificate::Cert;
+use crate::certificate::MAX_CERTIFICATE;
 use crate::fields::{SEQUENCE, next_bits};
+use crate::parts::Parts;
 use crate::rules::broken_rule;
 use crate::tbs::read_tbs;
-use ts_der::{Element, Reader};
+use ts_der::{DerFault, Element, Reader};
 use ts_name::{CertFault, CertRule};
 
 /// The parts that a SEQUENCE holds, of which the two algorithm identifiers have not been compared.
 #[tactic(auto, unfolding(crate::specs::Reading::signed_of))]
-fn read_signed<'a>(element: Element<'a>) -> Result<Cert<'a>, CertFault>
+fn read_signed<'a>(element: Element<'a>) -> Result<Parts<'a>, CertFault>
     ensures { Answers unagreed_in result (signed_of (now element.entry)) }
 {
     let mut fields = element.reader();
@@ -26,7 +27,7 @@ fn read_signed<'a>(element: Element<'a>) -> Result<Cert<'a>, CertFault>
     let signature_algorithm = read_algorithm_beside(identifier, signed.signature)?;
     let signature_value = next_bits(&mut fields)?;
     fields.end()?;
-    Ok(Cert {
+    Ok(Parts {
         tbs: tbs.whole,
         fields: signed,
         signature_algorithm,
@@ -37,30 +38,44 @@ fn read_signed<'a>(element: Element<'a>) -> Result<Cert<'a>, CertFault>
 
 /// Nothing, where a certificate's two algorithm identifiers are one (RFC 5280 4.1.1.2).
 #[tactic(auto, unfolding(crate::specs::Reading::agreed))]
-fn agrees(cert: &Cert<'_>) -> Result<(), CertFault>
-    ensures { refusal result ≡ refusal (agreed (unagreed_in cert.now)) }
+fn agrees(parts: &Parts<'_>) -> Result<(), CertFault>
+    ensures { refusal result ≡ refusal (agreed (unagreed_in parts.now)) }
 {
-    if cert.fields.signature.whole != cert.signature_algorithm.whole {
+    if parts.fields.signature.whole != parts.signature_algorithm.whole {
         return Err(CertFault {
             kind: CertRule::AlgorithmMismatch,
-            at: cert.identifier_at,
+            at: parts.identifier_at,
         });
     }
     Ok(())
 }
 
-/// The certificate that octets are, with nothing behind it.
+/// The parts of the certificate that octets are, with nothing behind it.
 #[tactic(auto, unfolding(crate::specs::Reading::whole_of, crate::specs::Reading::agreed))]
-pub(crate) fn read_whole(octets: &[u8]) -> Result<Cert<'_>, CertFault>
-    ensures { Answers cert_in result (whole_of octets.now) }
+fn read_whole(octets: &[u8]) -> Result<Parts<'_>, CertFault>
+    ensures { Answers parts_in result (whole_of octets.now) }
 {
     let mut reader = Reader::new(octets);
     let element = reader.element(SEQUENCE)?;
-    let cert = read_signed(element)?;
+    let parts = read_signed(element)?;
     reader.end()?;
-    agrees(&cert)?;
-    match broken_rule(cert.fields.version, &cert.fields.late) {
+    agrees(&parts)?;
+    match broken_rule(parts.fields.version, &parts.fields.late) {
         Some(fault) => Err(fault),
-        None => Ok(cert),
+        None => Ok(parts),
     }
+}
+
+/// The parts of the certificate that octets are, which are at most 65,536.
+#[tactic(auto, unfolding(crate::specs::Reading::certificate_of))]
+pub(crate) fn read_parts(octets: &[u8]) -> Result<Parts<'_>, CertFault>
+    ensures { Answers parts_in result (certificate_of octets.now) }
+{
+    if octets.len() > MAX_CERTIFICATE {
+        return Err(CertFault {
+            kind: CertRule::Der(DerFault::TooLarge),
+            at: 0,
+        });
+    }
+    read_whole(octets)
 }

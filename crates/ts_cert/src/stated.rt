@@ -19,6 +19,8 @@ ghost use Rattle.ts_cert.specs.CertView.{cert_in};
 ghost use Rattle.ts_cert.specs.Stated.{stated};
 
 use crate::certificate::Cert;
+use crate::late_reading::{ISSUER_UNIQUE_ID, SUBJECT_UNIQUE_ID};
+use crate::part::{extensions_from, unique_id_from};
 use ts_der::{Bits, Element, Fault};
 use ts_ext::{
     AlternativeNames, AuthorityKeyIdentifier, BasicConstraints, CertificatePolicies,
@@ -43,21 +45,25 @@ impl<'a> Cert<'a> {
     pub fn issuer_unique_id(self) -> Option<Bits<'a>>
         ensures { option_map parts_of result ≡ (cert_in self.entry).tbsCertificate.issuerUniqueID }
     {
-        self.fields.late.issuer_unique_id
+        unique_id_from(self.octets, self.layout.issuer_unique_id, ISSUER_UNIQUE_ID)
     }
 
     /// The unique identifier of the subject, if there is one (RFC 5280 4.1.2.8).
     pub fn subject_unique_id(self) -> Option<Bits<'a>>
         ensures { option_map parts_of result ≡ (cert_in self.entry).tbsCertificate.subjectUniqueID }
     {
-        self.fields.late.subject_unique_id
+        unique_id_from(
+            self.octets,
+            self.layout.subject_unique_id,
+            SUBJECT_UNIQUE_ID,
+        )
     }
 
     /// The extensions, in their order, if there are any (RFC 5280 4.1.2.9).
     pub fn extensions(self) -> Option<Extensions<'a>>
         ensures { option_map extensions_in result ≡ (cert_in self.entry).tbsCertificate.extensions }
     {
-        match self.fields.late.extensions {
+        match extensions_from(self.octets, self.layout.extensions) {
             Some(element) => Some(Extensions::within(element)),
             None => None,
         }
@@ -178,7 +184,8 @@ impl<'a> Cert<'a> {
     fn content(self, known: Known) -> Option<Element<'a>>
         ensures { option_map (λ e. e.content.now) result ≡ stated known octets_of (cert_in self.entry).tbsCertificate }
     {
-        let extension = Extensions::within(self.fields.late.extensions?).find(known)?;
+        let list = extensions_from(self.octets, self.layout.extensions)?;
+        let extension = Extensions::within(list).find(known)?;
         element_within(extension.value, known.tag()).ok()
     }
 }

@@ -10,7 +10,7 @@ use crate::fields::SEQUENCE;
 use ts_der::{DerFault, Element, Fault, Reader};
 use ts_time::{Moment, read_general, read_utc};
 
-const UTC_TIME: u8 = 0x17;
+pub(crate) const UTC_TIME: u8 = 0x17;
 
 const GENERALIZED_TIME: u8 = 0x18;
 

@@ -11,7 +11,7 @@ use ts_der::{DerFault, Element, Reader};
 use ts_name::{CertFault, CertRule};
 
 /// The tag of the version, which is explicit (RFC 5280 4.1).
-const VERSION: u8 = 0xA0;
+pub(crate) const VERSION: u8 = 0xA0;
 
 /// The version of a certificate (RFC 5280 4.1.2.1).
 #[derive(Clone, Copy, Debug, PartialEq, Eq)]

@@ -1,0 +1,19 @@
+use Rattle.std.proofs.Common.{ℕ, List, [], Option, Some, ap, sym, ◌∙◌}
+use Rattle.std.specs.Prelude.{map, option_map}
+use Rattle.std.proofs.lemmas.List.{append-nil}
+use Rattle.ts_der.specs.Element.{Place, spell}
+use Rattle.ts_der.specs.View.{now}
+use Rattle.ts_cert.proofs.Held.{none-there, explicit-there, explicit-never-refused, list-there}
+use Rattle.ts_cert.proofs.part.extensions_from.Goals as goal
+
+pub unreachable-requires : goal.unreachable-requires
+unreachable-requires c = explicit-never-refused c.args.octets.now c.args.at c.at.result c.at.ensures c.in-Err.field-0 c.in-Err.ensures.exact.0 c.requires.0 c.requires.1
+
+pub returns-in-Ok-Some : goal.returns-in-Ok-Some
+returns-in-Ok-Some c x h =
+    let found = rw c.in-Ok-Some.field-0-is at c.in-Ok-Some.ensures.found in
+    let e = explicit-there c.args.octets.now c.args.at c.at.result (now c.in-Ok-Some.explicit) _ (ap (λ (p : Place). p.rest) c.at.ensures) found.0 found.1 x h in
+    let list = e.2 in
+    let here = ap (λ (p : Place). p.rest) c.reader.ensures ∙ (list.spelled ∙ sym (append-nil (spell 0x30 list.content))) in
+    let is = c.element.ensures.only list.content [] list.fits here in
+    rw c.ok.ensures.value (list-there c.element.result _ list.content e.0 is list.value ∙ sym e.1)

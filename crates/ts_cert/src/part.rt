@@ -1,0 +1,112 @@
+//! Parts of a certificate that was read, each at the offset at which it begins.
+
+ghost use Rattle.std.specs.Prelude.{◌≡◌, ℕ, List, Option, map, option_map};
+ghost use Rattle.ts_der.specs.BitsView.{parts_of};
+ghost use Rattle.ts_name.specs.Canon.{Attr};
+ghost use Rattle.ts_name.specs.Fields.{Within, IsInteger, IsBits};
+ghost use Rattle.ts_name.specs.NameSpelling.{IsName};
+ghost use Rattle.ts_name.specs.NameView.{rdns_in};
+ghost use Rattle.ts_ext.specs.Extension.{Extension, AreExplicit, said};
+ghost use Rattle.ts_cert.specs.declared.time.Validity.{Validity as Period};
+ghost use Rattle.ts_cert.specs.Certificate.{Algorithm, KeyInfo};
+ghost use Rattle.ts_cert.specs.Layout.{Holds, HoldsIfAny};
+ghost use Rattle.ts_cert.specs.Spelling.{IsAlgorithm, IsValidity, IsKeyInfo, IsUniqueIdentifier};
+ghost use Rattle.ts_cert.specs.Standings.{standings_within};
+ghost use Rattle.ts_cert.specs.View.{algorithm_in, key_in};
+
+use crate::algorithm::{AlgorithmIdentifier, next_algorithm};
+use crate::fields::{SEQUENCE, next_bits, next_integer};
+use crate::key::{SubjectPublicKeyInfo, next_key};
+use crate::late_reading::{EXTENSIONS, next_unique_id};
+use crate::time::{Validity, next_validity};
+use ts_der::{Bits, Element, Integer, Reader};
+use ts_name::Name;
+
+/// The INTEGER that begins at an offset.
+pub(crate) fn integer_from(octets: &[u8], at: usize) -> Integer<'_>
+    requires { (x : List ℕ) × Holds (Within 0x02 IsInteger) octets.now at x }
+    ensures { (x : List ℕ) → Holds (Within 0x02 IsInteger) octets.now at x → result.octets.now ≡ x }
+{
+    match next_integer(&mut Reader::at(octets, at)) {
+        Ok(integer) => integer,
+        Err(_) => unreachable!(),
+    }
+}
+
+/// The octets of the BIT STRING that begins at an offset.
+pub(crate) fn bits_from(octets: &[u8], at: usize) -> &[u8]
+    requires { (x : List ℕ) × Holds (Within 0x03 IsBits) octets.now at x }
+    ensures { (x : List ℕ) → Holds (Within 0x03 IsBits) octets.now at x → result.now ≡ x }
+{
+    match next_bits(&mut Reader::at(octets, at)) {
+        Ok(bits) => bits,
+        Err(_) => unreachable!(),
+    }
+}
+
+/// The algorithm identifier that begins at an offset.
+pub(crate) fn algorithm_from(octets: &[u8], at: usize) -> AlgorithmIdentifier<'_>
+    requires { (x : Algorithm) × Holds (Within 0x30 IsAlgorithm) octets.now at x }
+    ensures { (x : Algorithm) → Holds (Within 0x30 IsAlgorithm) octets.now at x → algorithm_in result ≡ x }
+{
+    match next_algorithm(&mut Reader::at(octets, at)) {
+        Ok(algorithm) => algorithm,
+        Err(_) => unreachable!(),
+    }
+}
+
+/// The validity that begins at an offset.
+pub(crate) fn validity_from(octets: &[u8], at: usize) -> Validity
+    requires { (x : Period) × Holds (Within 0x30 IsValidity) octets.now at x }
+    ensures { (x : Period) → Holds (Within 0x30 IsValidity) octets.now at x → result ≡ x }
+{
+    match next_validity(&mut Reader::at(octets, at)) {
+        Ok(validity) => validity,
+        Err(_) => unreachable!(),
+    }
+}
+
+/// The key that begins at an offset.
+pub(crate) fn key_from(octets: &[u8], at: usize) -> SubjectPublicKeyInfo<'_>
+    requires { (x : KeyInfo) × Holds (Within 0x30 IsKeyInfo) octets.now at x }
+    ensures { (x : KeyInfo) → Holds (Within 0x30 IsKeyInfo) octets.now at x → key_in result ≡ x }
+{
+    match next_key(&mut Reader::at(octets, at)) {
+        Ok(key) => key,
+        Err(_) => unreachable!(),
+    }
+}
+
+/// The name that begins at an offset. It is not read again.
+pub(crate) fn name_from(octets: &[u8], at: usize) -> Name<'_>
+    requires { (x : List (List Attr)) × Holds (Within 0x30 IsName) octets.now at x }
+    ensures { (x : List (List Attr)) → Holds (Within 0x30 IsName) octets.now at x → rdns_in result ≡ x }
+{
+    match Reader::at(octets, at).element(SEQUENCE) {
+        Ok(element) => Name { element },
+        Err(_) => unreachable!(),
+    }
+}
+
+/// The unique identifier of this tag that begins at an offset, if one does.
+pub(crate) fn unique_id_from(octets: &[u8], at: usize, tag: u8) -> Option<Bits<'_>>
+    requires { (x : Option (ℕ × List ℕ)) × HoldsIfAny tag IsUniqueIdentifier octets.now at x }
+    ensures { (x : Option (ℕ × List ℕ)) → HoldsIfAny tag IsUniqueIdentifier octets.now at x → option_map parts_of result ≡ x }
+{
+    match next_unique_id(&mut Reader::at(octets, at), tag) {
+        Ok(bits) => bits,
+        Err(_) => unreachable!(),
+    }
+}
+
+/// The SEQUENCE of the extensions that begin at an offset, if any do.
+pub(crate) fn extensions_from(octets: &[u8], at: usize) -> Option<Element<'_>>
+    requires { (x : Option (List Extension)) × HoldsIfAny 0xA3 AreExplicit octets.now at x }
+    ensures { (x : Option (List Extension)) → HoldsIfAny 0xA3 AreExplicit octets.now at x → option_map (map said) (option_map standings_within result) ≡ x }
+{
+    match Reader::at(octets, at).optional(EXTENSIONS) {
+        Ok(Some(explicit)) => explicit.reader().element(SEQUENCE).ok(),
+        Ok(None) => None,
+        Err(_) => unreachable!(),
+    }
+}

@@ -1,0 +1,36 @@
+//! Reading a certificate.
+
+ghost use Rattle.std.specs.Prelude.{◌≡◌, IfOk};
+ghost use Rattle.ts_der.specs.Answer.{Answers, refusal};
+ghost use Rattle.ts_cert.specs.CertView.{cert_in};
+ghost use Rattle.ts_cert.specs.Layout.{AreLaidOut};
+ghost use Rattle.ts_cert.specs.Reading.{certificate_of};
+
+use crate::certificate::Cert;
+use crate::layout::{Layout, layout_of};
+use crate::shape::read_parts;
+use crate::usual::usual_layout;
+use ts_name::CertFault;
+
+/// The layout of any octets that are a certificate, or the first rule that they break.
+#[cold]
+#[inline(never)]
+fn read_layout(octets: &[u8]) -> Result<Layout, CertFault>
+    ensures laid { IfOk result (AreLaidOut octets.now) }
+    ensures fault { refusal result ≡ refusal (certificate_of octets.now) }
+{
+    let parts = read_parts(octets)?;
+    Ok(layout_of(octets, parts.fields.version))
+}
+
+/// The certificate that octets are. Most are told at a glance.
+#[inline(always)]
+pub(crate) fn read_cert(octets: &[u8]) -> Result<Cert<'_>, CertFault>
+    ensures { Answers cert_in result (certificate_of octets.now) }
+{
+    let layout = match usual_layout(octets) {
+        Some(layout) => layout,
+        None => read_layout(octets)?,
+    };
+    Ok(Cert { octets, layout })
+}

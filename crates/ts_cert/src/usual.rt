@@ -1,0 +1,261 @@
+//! The layout of a certificate as most are: of version 3 with extensions, in UTCTimes, without unique identifiers. It is told
+//! by offsets alone, in one walk that keeps nothing. Of other octets nothing is said.
+
+ghost use Rattle.std.specs.Prelude.{◌≡◌, ◌≤◌, IfSome, List, Option, length, true, unwrap_or, [], ℕ};
+ghost use Rattle.ts_der.specs.Stands.{HavePart};
+ghost use Rattle.ts_name.specs.Fields.{Within, IsOid, IsInteger, IsBits};
+ghost use Rattle.ts_name.specs.NameSpelling.{IsName};
+ghost use Rattle.ts_cert.specs.Layout.{Spans, AreLaidOut, AreSoundExplicit, IsRepeated, IsVersion3};
+ghost use Rattle.ts_cert.specs.Spelling.{AreParameters, IsTime, IsAlgorithm, IsValidity, IsKeyInfo};
+
+use crate::fields::{BIT_STRING, INTEGER, OBJECT_IDENTIFIER, SEQUENCE};
+use crate::late_reading::EXTENSIONS;
+use crate::layout::Layout;
+use crate::time::UTC_TIME;
+use crate::version::Version;
+use ts_der::{Bounds, Element, are_equal, bounds_at};
+use ts_ext::are_sound_extensions;
+use ts_name::is_name;
+use ts_time::begins_with_utc;
+
+/// Of more octets nothing is said: a certificate that breaks a rule is read once more.
+const SHORT: usize = 4_096;
+
+/// Where an INTEGER ends.
+#[inline(always)]
+fn integer_end(octets: &[u8], at: usize) -> Option<usize>
+    requires { at ≤ length octets.now }
+    ensures { IfSome result (Spans (Within 0x02 IsInteger) octets.now at) }
+{
+    let Bounds { start, end } = bounds_at(octets, at, INTEGER)?;
+    let content = &octets[start..end];
+    let element = Element {
+        tag: INTEGER,
+        content,
+        whole: content,
+        at: 0,
+        start: 0,
+    };
+    if element.integer().is_err() {
+        return None;
+    }
+    Some(end)
+}
+
+/// Where an OBJECT IDENTIFIER ends.
+#[inline(always)]
+fn oid_end(octets: &[u8], at: usize) -> Option<usize>
+    requires { at ≤ length octets.now }
+    ensures { IfSome result (Spans (Within 0x06 IsOid) octets.now at) }
+{
+    let Bounds { start, end } = bounds_at(octets, at, OBJECT_IDENTIFIER)?;
+    let content = &octets[start..end];
+    let element = Element {
+        tag: OBJECT_IDENTIFIER,
+        content,
+        whole: content,
+        at: 0,
+        start: 0,
+    };
+    if element.oid().is_err() {
+        return None;
+    }
+    Some(end)
+}
+
+/// Whether the parameters of an algorithm stand between two offsets, or nothing.
+#[inline(always)]
+fn are_parameters(octets: &[u8], at: usize, end: usize) -> bool
+    requires { at ≤ length octets.now }
+    ensures { result ≡ true → (p : Option (List ℕ)) × AreParameters p × HavePart octets.now at (unwrap_or p []) end }
+{
+    if at == end {
+        return true;
+    }
+    let Some(tag) = octets[at..].first() else {
+        return false;
+    };
+    match bounds_at(octets, at, *tag) {
+        Some(bounds) => bounds.end == end,
+        None => false,
+    }
+}
+
+/// Where an AlgorithmIdentifier ends.
+#[inline(always)]
+fn algorithm_end(octets: &[u8], at: usize) -> Option<usize>
+    requires { at ≤ length octets.now }
+    ensures { IfSome result (Spans (Within 0x30 IsAlgorithm) octets.now at) }
+{
+    let Bounds { start, end } = bounds_at(octets, at, SEQUENCE)?;
+    let parameters = oid_end(octets, start)?;
+    if !are_parameters(octets, parameters, end) {
+        return None;
+    }
+    Some(end)
+}
+
+/// Where a Name ends.
+#[inline(always)]
+fn name_end(octets: &[u8], at: usize) -> Option<usize>
+    requires { at ≤ length octets.now }
+    ensures { IfSome result (Spans (Within 0x30 IsName) octets.now at) }
+{
+    let Bounds { start, end } = bounds_at(octets, at, SEQUENCE)?;
+    if !is_name(&octets[start..end]) {
+        return None;
+    }
+    Some(end)
+}
+
+/// Where a UTCTime ends.
+#[inline(always)]
+fn utc_end(octets: &[u8], at: usize) -> Option<usize>
+    requires { at ≤ length octets.now }
+    ensures { IfSome result (Spans IsTime octets.now at) }
+{
+    let [UTC_TIME, 13, text @ ..] = &octets[at..] else {
+        return None;
+    };
+    if !begins_with_utc(text) {
+        return None;
+    }
+    Some(at + 15)
+}
+
+/// Where a Validity ends that has two UTCTimes.
+#[inline(always)]
+fn validity_end(octets: &[u8], at: usize) -> Option<usize>
+    requires { at ≤ length octets.now }
+    ensures { IfSome result (Spans (Within 0x30 IsValidity) octets.now at) }
+{
+    let Bounds { start, end } = bounds_at(octets, at, SEQUENCE)?;
+    let not_after = utc_end(octets, start)?;
+    if utc_end(octets, not_after)? != end {
+        return None;
+    }
+    Some(end)
+}
+
+/// Where a BIT STRING of whole octets ends.
+#[inline(always)]
+fn bits_end(octets: &[u8], at: usize) -> Option<usize>
+    requires { at ≤ length octets.now }
+    ensures { IfSome result (Spans (Within 0x03 IsBits) octets.now at) }
+{
+    let Bounds { start, end } = bounds_at(octets, at, BIT_STRING)?;
+    match &octets[start..end] {
+        [0, ..] => Some(end),
+        _ => None,
+    }
+}
+
+/// Where a SubjectPublicKeyInfo ends.
+#[inline(always)]
+fn key_end(octets: &[u8], at: usize) -> Option<usize>
+    requires { at ≤ length octets.now }
+    ensures { IfSome result (Spans (Within 0x30 IsKeyInfo) octets.now at) }
+{
+    let Bounds { start, end } = bounds_at(octets, at, SEQUENCE)?;
+    let key = algorithm_end(octets, start)?;
+    if bits_end(octets, key)? != end {
+        return None;
+    }
+    Some(end)
+}
+
+/// Where extensions end that break no rule.
+#[inline(always)]
+fn extensions_end(octets: &[u8], at: usize) -> Option<usize>
+    requires { at ≤ length octets.now }
+    ensures { IfSome result (Spans (Within 0xA3 AreSoundExplicit) octets.now at) }
+{
+    let explicit = bounds_at(octets, at, EXTENSIONS)?;
+    let list = bounds_at(octets, explicit.start, SEQUENCE)?;
+    if list.end != explicit.end || !are_sound_extensions(&octets[list.start..list.end]) {
+        return None;
+    }
+    Some(explicit.end)
+}
+
+/// Where the same octets end once more, at another offset.
+#[inline(always)]
+fn again_end(octets: &[u8], at: usize, from: usize, to: usize) -> Option<usize>
+    requires at { at ≤ length octets.now }
+    requires from { from ≤ to }
+    requires to { to ≤ length octets.now }
+    ensures { IfSome result (IsRepeated octets.now at from to) }
+{
+    let rest = &octets[at..];
+    let size = to - from;
+    if rest.len() < size || !are_equal(&rest[..size], &octets[from..to]) {
+        return None;
+    }
+    Some(at + size)
+}
+
+/// Where a Name ends, which may have the octets of another.
+#[inline(always)]
+fn name_end_beside(octets: &[u8], at: usize, from: usize, to: usize) -> Option<usize>
+    requires at { at ≤ length octets.now }
+    requires from { from ≤ to }
+    requires other { Spans (Within 0x30 IsName) octets.now from to }
+    ensures { IfSome result (Spans (Within 0x30 IsName) octets.now at) }
+{
+    match again_end(octets, at, from, to) {
+        Some(end) => Some(end),
+        None => name_end(octets, at),
+    }
+}
+
+/// Where the version ends, if it is 3.
+#[inline(always)]
+fn version_end(octets: &[u8], at: usize) -> Option<usize>
+    requires { at ≤ length octets.now }
+    ensures { IfSome result (IsVersion3 octets.now at) }
+{
+    match &octets[at..] {
+        [0xA0, 3, 2, 1, 2, ..] => Some(at + 5),
+        _ => None,
+    }
+}
+
+/// The layout of the certificate that octets are, where they are one as most are.
+#[inline(always)]
+pub(crate) fn usual_layout(octets: &[u8]) -> Option<Layout>
+    ensures { IfSome result (AreLaidOut octets.now) }
+{
+    if octets.len() > SHORT {
+        return None;
+    }
+    let whole = bounds_at(octets, 0, SEQUENCE)?;
+    let tbs = bounds_at(octets, whole.start, SEQUENCE)?;
+    let serial_number = version_end(octets, tbs.start)?;
+    let signature = integer_end(octets, serial_number)?;
+    let issuer = algorithm_end(octets, signature)?;
+    let validity = name_end(octets, issuer)?;
+    let subject = validity_end(octets, validity)?;
+    let subject_public_key_info = name_end_beside(octets, subject, issuer, validity)?;
+    let extensions = key_end(octets, subject_public_key_info)?;
+    let signature_algorithm = extensions_end(octets, extensions)?;
+    let signature_value = again_end(octets, signature_algorithm, signature, issuer)?;
+    let end = bits_end(octets, signature_value)?;
+    if signature_algorithm != tbs.end || end != whole.end || end != octets.len() {
+        return None;
+    }
+    Some(Layout {
+        version: Version::V3,
+        tbs: whole.start,
+        serial_number,
+        signature,
+        issuer,
+        validity,
+        subject,
+        subject_public_key_info,
+        issuer_unique_id: extensions,
+        subject_unique_id: extensions,
+        extensions,
+        signature_algorithm,
+        signature_value,
+    })
+}
