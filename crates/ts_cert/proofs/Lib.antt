@@ -5,6 +5,8 @@ pub mod Beside
 pub mod Certificates
 pub mod Layouts
 pub mod Spanned
+pub mod UsualLayout
+pub mod Sets
 pub mod Held
 pub mod OneSpelling
 pub mod Judging

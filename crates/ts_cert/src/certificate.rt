@@ -30,7 +30,7 @@ pub const MAX_CERTIFICATE: usize = 65_536;
 pub struct Cert<'a> {
     pub(crate) octets: &'a [u8],
     pub(crate) layout: Layout,
-    ghost laid: { AreLaidOut octets.now layout },
+    ghost laid: { ∥ AreLaidOut octets.now layout ∥₁ },
 }
 
 impl<'a> Cert<'a> {

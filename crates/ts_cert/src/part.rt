@@ -24,7 +24,7 @@ use ts_name::Name;
 
 /// The INTEGER that begins at an offset.
 pub(crate) fn integer_from(octets: &[u8], at: usize) -> Integer<'_>
-    requires { (x : List ℕ) × Holds (Within 0x02 IsInteger) octets.now at x }
+    requires { ∥ ((x : List ℕ) × Holds (Within 0x02 IsInteger) octets.now at x) ∥₁ }
     ensures { (x : List ℕ) → Holds (Within 0x02 IsInteger) octets.now at x → result.octets.now ≡ x }
 {
     match next_integer(&mut Reader::at(octets, at)) {
@@ -35,7 +35,7 @@ pub(crate) fn integer_from(octets: &[u8], at: usize) -> Integer<'_>
 
 /// The octets of the BIT STRING that begins at an offset.
 pub(crate) fn bits_from(octets: &[u8], at: usize) -> &[u8]
-    requires { (x : List ℕ) × Holds (Within 0x03 IsBits) octets.now at x }
+    requires { ∥ ((x : List ℕ) × Holds (Within 0x03 IsBits) octets.now at x) ∥₁ }
     ensures { (x : List ℕ) → Holds (Within 0x03 IsBits) octets.now at x → result.now ≡ x }
 {
     match next_bits(&mut Reader::at(octets, at)) {
@@ -46,7 +46,7 @@ pub(crate) fn bits_from(octets: &[u8], at: usize) -> &[u8]
 
 /// The algorithm identifier that begins at an offset.
 pub(crate) fn algorithm_from(octets: &[u8], at: usize) -> AlgorithmIdentifier<'_>
-    requires { (x : Algorithm) × Holds (Within 0x30 IsAlgorithm) octets.now at x }
+    requires { ∥ ((x : Algorithm) × Holds (Within 0x30 IsAlgorithm) octets.now at x) ∥₁ }
     ensures { (x : Algorithm) → Holds (Within 0x30 IsAlgorithm) octets.now at x → algorithm_in result ≡ x }
 {
     match next_algorithm(&mut Reader::at(octets, at)) {
@@ -57,7 +57,7 @@ pub(crate) fn algorithm_from(octets: &[u8], at: usize) -> AlgorithmIdentifier<'_
 
 /// The validity that begins at an offset.
 pub(crate) fn validity_from(octets: &[u8], at: usize) -> Validity
-    requires { (x : Period) × Holds (Within 0x30 IsValidity) octets.now at x }
+    requires { ∥ ((x : Period) × Holds (Within 0x30 IsValidity) octets.now at x) ∥₁ }
     ensures { (x : Period) → Holds (Within 0x30 IsValidity) octets.now at x → result ≡ x }
 {
     match next_validity(&mut Reader::at(octets, at)) {
@@ -68,7 +68,7 @@ pub(crate) fn validity_from(octets: &[u8], at: usize) -> Validity
 
 /// The key that begins at an offset.
 pub(crate) fn key_from(octets: &[u8], at: usize) -> SubjectPublicKeyInfo<'_>
-    requires { (x : KeyInfo) × Holds (Within 0x30 IsKeyInfo) octets.now at x }
+    requires { ∥ ((x : KeyInfo) × Holds (Within 0x30 IsKeyInfo) octets.now at x) ∥₁ }
     ensures { (x : KeyInfo) → Holds (Within 0x30 IsKeyInfo) octets.now at x → key_in result ≡ x }
 {
     match next_key(&mut Reader::at(octets, at)) {
@@ -79,7 +79,7 @@ pub(crate) fn key_from(octets: &[u8], at: usize) -> SubjectPublicKeyInfo<'_>
 
 /// The name that begins at an offset. It is not read again.
 pub(crate) fn name_from(octets: &[u8], at: usize) -> Name<'_>
-    requires { (x : List (List Attr)) × Holds (Within 0x30 IsName) octets.now at x }
+    requires { ∥ ((x : List (List Attr)) × Holds (Within 0x30 IsName) octets.now at x) ∥₁ }
     ensures { (x : List (List Attr)) → Holds (Within 0x30 IsName) octets.now at x → rdns_in result ≡ x }
 {
     match Reader::at(octets, at).element(SEQUENCE) {
@@ -90,7 +90,7 @@ pub(crate) fn name_from(octets: &[u8], at: usize) -> Name<'_>
 
 /// The unique identifier of this tag that begins at an offset, if one does.
 pub(crate) fn unique_id_from(octets: &[u8], at: usize, tag: u8) -> Option<Bits<'_>>
-    requires { (x : Option (ℕ × List ℕ)) × HoldsIfAny tag IsUniqueIdentifier octets.now at x }
+    requires { ∥ ((x : Option (ℕ × List ℕ)) × HoldsIfAny tag IsUniqueIdentifier octets.now at x) ∥₁ }
     ensures { (x : Option (ℕ × List ℕ)) → HoldsIfAny tag IsUniqueIdentifier octets.now at x → option_map parts_of result ≡ x }
 {
     match next_unique_id(&mut Reader::at(octets, at), tag) {
@@ -101,7 +101,7 @@ pub(crate) fn unique_id_from(octets: &[u8], at: usize, tag: u8) -> Option<Bits<'
 
 /// The SEQUENCE of the extensions that begin at an offset, if any do.
 pub(crate) fn extensions_from(octets: &[u8], at: usize) -> Option<Element<'_>>
-    requires { (x : Option (List Extension)) × HoldsIfAny 0xA3 AreExplicit octets.now at x }
+    requires { ∥ ((x : Option (List Extension)) × HoldsIfAny 0xA3 AreExplicit octets.now at x) ∥₁ }
     ensures { (x : Option (List Extension)) → HoldsIfAny 0xA3 AreExplicit octets.now at x → option_map (map said) (option_map standings_within result) ≡ x }
 {
     match Reader::at(octets, at).optional(EXTENSIONS) {

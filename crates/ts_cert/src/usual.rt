@@ -12,7 +12,7 @@ use crate::fields::{BIT_STRING, INTEGER, OBJECT_IDENTIFIER, SEQUENCE};
 use crate::late_reading::EXTENSIONS;
 use crate::layout::Layout;
 use crate::time::UTC_TIME;
-use crate::version::Version;
+use crate::version::{VERSION, Version};
 use ts_der::{Bounds, Element, are_equal, bounds_at};
 use ts_ext::are_sound_extensions;
 use ts_name::is_name;
@@ -36,9 +36,9 @@ fn integer_end(octets: &[u8], at: usize) -> Option<usize>
         at: 0,
         start: 0,
     };
-    if element.integer().is_err() {
+    let Ok(_) = element.integer() else {
         return None;
-    }
+    };
     Some(end)
 }
 
@@ -57,9 +57,9 @@ fn oid_end(octets: &[u8], at: usize) -> Option<usize>
         at: 0,
         start: 0,
     };
-    if element.oid().is_err() {
+    let Ok(_) = element.oid() else {
         return None;
-    }
+    };
     Some(end)
 }
 
@@ -114,10 +114,10 @@ fn utc_end(octets: &[u8], at: usize) -> Option<usize>
     requires { at ≤ length octets.now }
     ensures { IfSome result (Spans IsTime octets.now at) }
 {
-    let [UTC_TIME, 13, text @ ..] = &octets[at..] else {
+    let [tag, length, text @ ..] = &octets[at..] else {
         return None;
     };
-    if !begins_with_utc(text) {
+    if *tag != UTC_TIME || *length != 13 || !begins_with_utc(text) {
         return None;
     }
     Some(at + 15)
@@ -144,10 +144,13 @@ fn bits_end(octets: &[u8], at: usize) -> Option<usize>
     ensures { IfSome result (Spans (Within 0x03 IsBits) octets.now at) }
 {
     let Bounds { start, end } = bounds_at(octets, at, BIT_STRING)?;
-    match &octets[start..end] {
-        [0, ..] => Some(end),
-        _ => None,
+    let [unused, ..] = &octets[start..end] else {
+        return None;
+    };
+    if *unused != 0 {
+        return None;
     }
+    Some(end)
 }
 
 /// Where a SubjectPublicKeyInfo ends.
@@ -214,10 +217,13 @@ fn version_end(octets: &[u8], at: usize) -> Option<usize>
     requires { at ≤ length octets.now }
     ensures { IfSome result (IsVersion3 octets.now at) }
 {
-    match &octets[at..] {
-        [0xA0, 3, 2, 1, 2, ..] => Some(at + 5),
-        _ => None,
+    let [tag, length, inner, size, number, ..] = &octets[at..] else {
+        return None;
+    };
+    if *tag != VERSION || *length != 3 || *inner != INTEGER || *size != 1 || *number != 2 {
+        return None;
     }
+    Some(at + 5)
 }
 
 /// The layout of the certificate that octets are, where they are one as most are.

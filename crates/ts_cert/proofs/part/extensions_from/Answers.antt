@@ -1,5 +1,6 @@
 use Rattle.std.proofs.Common.{ℕ, List, [], Option, Some, ap, sym, ◌∙◌}
 use Rattle.std.specs.Prelude.{map, option_map}
+use Rattle.std.proofs.Math.Logic.{∥∥₁_elim}
 use Rattle.std.proofs.lemmas.List.{append-nil}
 use Rattle.ts_der.specs.Element.{Place, spell}
 use Rattle.ts_der.specs.View.{now}
@@ -7,7 +8,7 @@ use Rattle.ts_cert.proofs.Held.{none-there, explicit-there, explicit-never-refus
 use Rattle.ts_cert.proofs.part.extensions_from.Goals as goal
 
 pub unreachable-requires : goal.unreachable-requires
-unreachable-requires c = explicit-never-refused c.args.octets.now c.args.at c.at.result c.at.ensures c.in-Err.field-0 c.in-Err.ensures.exact.0 c.requires.0 c.requires.1
+unreachable-requires c = ∥∥₁_elim c.requires (λ x y. absurd x) (λ h. explicit-never-refused c.args.octets.now c.args.at c.at.result c.at.ensures c.in-Err.field-0 c.in-Err.ensures.exact.0 h.0 h.1)
 
 pub returns-in-Ok-Some : goal.returns-in-Ok-Some
 returns-in-Ok-Some c x h =

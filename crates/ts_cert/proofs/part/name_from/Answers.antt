@@ -1,4 +1,6 @@
 use Rattle.std.proofs.Common.{ℕ, List, [], ◌++◌, Result, ap, ◌∙◌}
+use Rattle.std.proofs.Math.Logic.{∥∥₁_elim}
+use Rattle.std.proofs.Props.{props}
 use Rattle.std.specs.Prelude.{is_ok}
 use Rattle.std.specs.Result.{result_unwrap_or}
 use Rattle.ts_der.specs.declared.fault.Fault.{Fault}
@@ -10,9 +12,12 @@ use Rattle.ts_cert.proofs.part.name_from.Goals as goal
 
 pub invariant_of-result : goal.invariant_of-result
 invariant_of-result c =
-    let h = c.requires.1 in
-    let is = c.in-Ok.ensures.only h.spelled.content h.rest h.spelled.fits (ap (λ (p : Place). p.rest) c.at.ensures ∙ (h.here ∙ ap (λ (p : List ℕ). p ++ h.rest) h.spelled.spelled)) in
-    record { form = ap is_ok (name-there (now c.in-Ok.element) c.args.octets.now c.args.at c.requires.0 h c.at.result.at is) }
+    record {
+      form = ∥∥₁_elim c.requires (Prim.hlevel props) (λ r.
+          let h = r.1 in
+          let is = c.in-Ok.ensures.only h.spelled.content h.rest h.spelled.fits (ap (λ (p : Place). p.rest) c.at.ensures ∙ (h.here ∙ ap (λ (p : List ℕ). p ++ h.rest) h.spelled.spelled)) in
+          ap is_ok (name-there (now c.in-Ok.element) c.args.octets.now c.args.at r.0 h c.at.result.at is));
+    }
 
 pub returns : goal.returns
 returns c x h =
