@@ -1,5 +1,5 @@
 -- Parts of a certificate that was read, where they begin.
-use Rattle.std.proofs.Common.{◌≡◌, ℕ, ◌+◌, false, true, eqb, List, ◌++◌, length, drop, Option, Some, None, Result, Ok, Err, refl, sym, ap, subst, ◌∙◌}
+use Rattle.std.proofs.Common.{◌≡◌, ℕ, ◌+◌, ◌-◌, ◌≤◌, false, true, eqb, List, ◌++◌, length, take, drop, Option, Some, None, Result, Ok, Err, refl, sym, ap, subst, ◌∙◌}
 use Rattle.std.specs.Prelude.{map, option_map, IsOkAnd}
 use Rattle.std.specs.Result.{result_ok, result_unwrap_or}
 use Rattle.std.proofs.lemmas.Bool.{false≢true}
@@ -32,6 +32,7 @@ use Rattle.ts_cert.specs.Standings.{standings_within}
 use Rattle.ts_cert.specs.Spelling.{IsAlgorithm, IsValidity, IsKeyInfo, IsUniqueIdentifier, IsCertificate}
 use Rattle.ts_name.specs.declared.fault.CertFault.{CertFault}
 use Rattle.ts_cert.proofs.Certificates.{certificate-again}
+use Rattle.ts_cert.proofs.Spanned.{part-ordered, part-between}
 
 -- ---- what is read of a part
 
@@ -141,8 +142,15 @@ holds {A} {Spells} {octets} {part} {at} {to} lies is = record { part = part; res
 of_octets : (octets : List ℕ) (l : Layout) (P : Certificate → Type 0) (laid : AreLaidOut octets l) → P laid.0 → P (certificate_in octets)
 of_octets octets l P laid p = subst P (same-certificate octets l laid) p
 
-pub tbs : (octets : List ℕ) (l : Layout) → AreLaidOut octets l → Lies octets l.tbs (certificate_in octets).tbs l.signature_algorithm
-tbs octets l laid = of_octets octets l (λ c. Lies octets l.tbs c.tbs l.signature_algorithm) laid laid.2.tbs
+pub tbs-ordered : (octets : List ℕ) (l : Layout) → AreLaidOut octets l → l.tbs ≤ l.signature_algorithm
+tbs-ordered octets l laid = part-ordered octets laid.0.tbs l.tbs l.signature_algorithm laid.2.tbs.here laid.2.tbs.begins laid.2.signature_algorithm.begins
+
+pub tbs-within : (octets : List ℕ) (l : Layout) → AreLaidOut octets l → l.signature_algorithm ≤ length octets
+tbs-within octets l laid = laid.2.signature_algorithm.begins
+
+pub tbs-between : (octets : List ℕ) (l : Layout) → AreLaidOut octets l → take (l.signature_algorithm - l.tbs) (drop l.tbs octets) ≡ (certificate_in octets).tbs
+tbs-between octets l laid =
+    part-between octets laid.0.tbs l.tbs l.signature_algorithm laid.2.tbs.here laid.2.tbs.begins laid.2.signature_algorithm.begins ∙ ap (λ (c : Certificate). c.tbs) (same-certificate octets l laid)
 
 pub version : (octets : List ℕ) (l : Layout) → AreLaidOut octets l → l.version ≡ (certificate_in octets).tbsCertificate.version
 version octets l laid = of_octets octets l (λ c. l.version ≡ c.tbsCertificate.version) laid laid.2.fields.version

@@ -12,6 +12,7 @@ ghost use Rattle.ts_cert.specs.declared.owned.OwnedCertFault.TheVariants.{Memory
 
 use crate::certificate::Cert;
 use crate::layout::Layout;
+use crate::reading::read_layout;
 use std::alloc::{AllocError, Global};
 use std::error::Error;
 use std::fmt;
@@ -85,7 +86,7 @@ impl OwnedCert {
         ensures kept { certificate_fault octets.now ≡ None → (result ≡ Ok octets.now) ⊎ (result ≡ Err Memory) }
         ensures refused { (f : CertFault) → certificate_fault octets.now ≡ Some f → result ≡ Err (Unreadable f) }
     {
-        let layout = Cert::read(octets)?.layout;
+        let layout = read_layout(octets)?;
         let octets = Vec::from_slice(alloc, octets)?;
         Ok(OwnedCert { octets, layout })
     }

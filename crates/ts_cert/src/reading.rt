@@ -5,6 +5,7 @@ ghost use Rattle.ts_der.specs.Answer.{Answers, refusal};
 ghost use Rattle.ts_cert.specs.CertView.{cert_in};
 ghost use Rattle.ts_cert.specs.Layout.{AreLaidOut};
 ghost use Rattle.ts_cert.specs.Reading.{certificate_of};
+ghost use Rattle.ts_cert.specs.Table.{certificate_fault};
 
 use crate::certificate::Cert;
 use crate::layout::{Layout, layout_of};
@@ -15,7 +16,7 @@ use ts_name::CertFault;
 /// The layout of any octets that are a certificate, or the first rule that they break.
 #[cold]
 #[inline(never)]
-fn read_layout(octets: &[u8]) -> Result<Layout, CertFault>
+fn other_layout(octets: &[u8]) -> Result<Layout, CertFault>
     ensures laid { IfOk result (AreLaidOut octets.now) }
     ensures fault { refusal result ≡ refusal (certificate_of octets.now) }
 {
@@ -23,14 +24,24 @@ fn read_layout(octets: &[u8]) -> Result<Layout, CertFault>
     Ok(layout_of(octets, parts.fields.version))
 }
 
-/// The certificate that octets are. Most are told at a glance.
+/// The same. Of most octets it is told at a glance.
+#[inline(always)]
+pub(crate) fn read_layout(octets: &[u8]) -> Result<Layout, CertFault>
+    ensures laid { IfOk result (AreLaidOut octets.now) }
+    ensures fault { refusal result ≡ refusal (certificate_of octets.now) }
+    ensures rule { refusal result ≡ certificate_fault octets.now }
+{
+    match usual_layout(octets) {
+        Some(layout) => Ok(layout),
+        None => other_layout(octets),
+    }
+}
+
+/// The certificate that octets are.
 #[inline(always)]
 pub(crate) fn read_cert(octets: &[u8]) -> Result<Cert<'_>, CertFault>
     ensures { Answers cert_in result (certificate_of octets.now) }
 {
-    let layout = match usual_layout(octets) {
-        Some(layout) => layout,
-        None => read_layout(octets)?,
-    };
+    let layout = read_layout(octets)?;
     Ok(Cert { octets, layout })
 }

@@ -1,13 +1,14 @@
 //! What a certificate says by its unique identifiers and its extensions. Each reader of an extension answers `None` where
 //! there is no such extension: of a certificate none stands without its value (`laws::no_missing_value`).
 
-ghost use Rattle.std.specs.Prelude.{◌≡◌, option_map};
+ghost use Rattle.std.specs.Prelude.{◌≡◌, map, option_map};
 ghost use Rattle.ts_der.specs.Answer.{Answers};
 ghost use Rattle.ts_der.specs.BitsView.{parts_of, bits_in};
 ghost use Rattle.ts_der.specs.View.{now};
 ghost use Rattle.ts_name.specs.Items.{alone, tagged_as as tagged_as_of};
 ghost use Rattle.ts_ext.specs.declared.known.Known.TheVariants as extension;
 ghost use Rattle.ts_ext.specs.AuthorityKey.{octets_of, authority_key_of};
+ghost use Rattle.ts_ext.specs.Extension.{said};
 ghost use Rattle.ts_ext.specs.ExtensionView.{extensions_in};
 ghost use Rattle.ts_ext.specs.GeneralNames.{general_names_of};
 ghost use Rattle.ts_ext.specs.NameConstraints.{name_constraints_of};
@@ -16,6 +17,7 @@ ghost use Rattle.ts_ext.specs.Points.{points_of};
 ghost use Rattle.ts_ext.specs.Reading.{key_usage_of, basic_constraints_of, certificate_policies_of, policy_mappings_of, policy_constraints_of, ext_key_usage_of, skip_certs_of};
 ghost use Rattle.ts_ext.specs.View.{policies_in, mappings_in, purposes_in};
 ghost use Rattle.ts_cert.specs.CertView.{cert_in};
+ghost use Rattle.ts_cert.specs.Standings.{standings_within};
 ghost use Rattle.ts_cert.specs.Stated.{stated};
 
 use crate::certificate::Cert;
@@ -63,7 +65,7 @@ impl<'a> Cert<'a> {
     pub fn extensions(self) -> Option<Extensions<'a>>
         ensures { option_map extensions_in result ≡ (cert_in self.entry).tbsCertificate.extensions }
     {
-        match extensions_from(self.octets, self.layout.extensions) {
+        match self.extension_list() {
             Some(element) => Some(Extensions::within(element)),
             None => None,
         }
@@ -180,11 +182,18 @@ impl<'a> Cert<'a> {
         DistributionPoints::read(self.content(Known::FreshestCrl)?).ok()
     }
 
+    /// The SEQUENCE of the extensions, if there are any.
+    fn extension_list(self) -> Option<Element<'a>>
+        ensures { option_map (map said) (option_map standings_within result) ≡ (cert_in self.entry).tbsCertificate.extensions }
+    {
+        extensions_from(self.octets, self.layout.extensions)
+    }
+
     /// The element that is the value of an extension, where that stands and its octets are one element of its tag.
     fn content(self, known: Known) -> Option<Element<'a>>
         ensures { option_map (λ e. e.content.now) result ≡ stated known octets_of (cert_in self.entry).tbsCertificate }
     {
-        let list = extensions_from(self.octets, self.layout.extensions)?;
+        let list = self.extension_list()?;
         let extension = Extensions::within(list).find(known)?;
         element_within(extension.value, known.tag()).ok()
     }

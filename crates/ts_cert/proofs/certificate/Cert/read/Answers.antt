@@ -10,12 +10,12 @@ use Rattle.ts_cert.proofs.certificate.Cert.read.Goals as goal
 
 pub returns-clause-found : goal.returns-clause-found
 returns-clause-found c =
-    IfOk-answers cert_in c.read_certificate.result (certificate_of c.args.octets.now) (IsCertificate c.args.octets.now) c.read_certificate.ensures
+    IfOk-answers cert_in c.read_cert.result (certificate_of c.args.octets.now) (IsCertificate c.args.octets.now) c.read_cert.ensures
     (λ x read. certificate-found c.args.octets.now x (λ i. omega (arith, c.type_inv.octets i)) read)
 
 pub returns-clause-only : goal.returns-clause-only
 returns-clause-only c x is =
-    IsOkAnd-answers cert_in c.read_certificate.result (certificate_of c.args.octets.now) x (λ (y : Certificate). y ≡ x) c.read_certificate.ensures (certificate-again c.args.octets.now x is) refl
+    IsOkAnd-answers cert_in c.read_cert.result (certificate_of c.args.octets.now) x (λ (y : Certificate). y ≡ x) c.read_cert.ensures (certificate-again c.args.octets.now x is) refl
 
 pub returns-clause-fault : goal.returns-clause-fault
-returns-clause-fault c = fault-judged cert_in c.read_certificate.result c.args.octets.now c.read_certificate.ensures
+returns-clause-fault c = fault-judged cert_in c.read_cert.result c.args.octets.now c.read_cert.ensures

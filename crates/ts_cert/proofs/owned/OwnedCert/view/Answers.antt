@@ -1,0 +1,25 @@
+use Rattle.std.proofs.Common.{◌≡◌, ℕ, List, subst, sym, ap, ◌∙◌, Ok}
+use Rattle.std.specs.Prelude.{Result}
+use Rattle.ts_name.specs.declared.fault.CertFault.{CertFault}
+use Rattle.ts_cert.specs.Certificate.{Certificate}
+use Rattle.ts_cert.specs.CertView.{certificate_in}
+use Rattle.ts_cert.specs.Layout.{AreLaidOut}
+use Rattle.ts_cert.specs.Reading.{certificate_of}
+use Rattle.ts_cert.specs.Spelling.{IsCertificate}
+use Rattle.ts_cert.proofs.Held.{is-read, is-certificate}
+use Rattle.ts_cert.proofs.owned.OwnedCert.view.Goals as goal
+
+pub invariant_of-result : goal.invariant_of-result
+invariant_of-result c = record { laid = ∣ subst (λ (o : List ℕ). AreLaidOut o c.self.inside.layout) (sym c.as_slice.ensures.value) c.self.invariant ∣₁ }
+
+pub returns-clause-found : goal.returns-clause-found
+returns-clause-found c =
+    let lent : c.args.self.now ≡ c.as_slice.result.now = sym (c.as_slice.ensures.value ∙ c.self.view_is) in
+    let laid = subst (λ (o : List ℕ). AreLaidOut o c.self.inside.layout) (sym c.as_slice.ensures.value) c.self.invariant in
+    subst (λ (o : List ℕ). IsCertificate o (certificate_in c.as_slice.result.now)) (sym lent) (is-certificate c.as_slice.result.now c.self.inside.layout laid)
+
+pub returns-clause-exact : goal.returns-clause-exact
+returns-clause-exact c =
+    let lent : c.args.self.now ≡ c.as_slice.result.now = sym (c.as_slice.ensures.value ∙ c.self.view_is) in
+    let laid = subst (λ (o : List ℕ). AreLaidOut o c.self.inside.layout) (sym c.as_slice.ensures.value) c.self.invariant in
+    ap certificate_of lent ∙ is-read c.as_slice.result.now c.self.inside.layout laid
