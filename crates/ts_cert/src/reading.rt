@@ -37,11 +37,23 @@ pub(crate) fn read_layout(octets: &[u8]) -> Result<Layout, CertFault>
     }
 }
 
-/// The certificate that octets are.
+/// Any certificate that octets are.
+#[cold]
+#[inline(never)]
+fn other_cert(octets: &[u8]) -> Result<Cert<'_>, CertFault>
+    ensures { Answers cert_in result (certificate_of octets.now) }
+{
+    let layout = other_layout(octets)?;
+    Ok(Cert { octets, layout })
+}
+
+/// The same. Most are told at a glance.
 #[inline(always)]
 pub(crate) fn read_cert(octets: &[u8]) -> Result<Cert<'_>, CertFault>
     ensures { Answers cert_in result (certificate_of octets.now) }
 {
-    let layout = read_layout(octets)?;
-    Ok(Cert { octets, layout })
+    match usual_layout(octets) {
+        Some(layout) => Ok(Cert { octets, layout }),
+        None => other_cert(octets),
+    }
 }

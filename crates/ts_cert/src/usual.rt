@@ -1,7 +1,8 @@
 //! The layout of a certificate as most are: of version 3 with extensions, in UTCTimes, without unique identifiers. It is told
 //! by offsets alone, in one walk that keeps nothing. Of other octets nothing is said.
 
-ghost use Rattle.std.specs.Prelude.{◌≡◌, ◌≤◌, IfSome, List, Option, length, true, unwrap_or, [], ℕ};
+ghost use Rattle.std.specs.Prelude.{◌≡◌, ◌≤◌, ◌+◌, IfSome, List, Option, length, true, unwrap_or, [], ℕ};
+ghost use Rattle.ts_der.specs.Integer.{is_shortest};
 ghost use Rattle.ts_der.specs.Stands.{HavePart};
 ghost use Rattle.ts_name.specs.Fields.{Within, IsOid, IsInteger, IsBits};
 ghost use Rattle.ts_name.specs.NameSpelling.{IsName};
@@ -13,13 +14,26 @@ use crate::late_reading::EXTENSIONS;
 use crate::layout::Layout;
 use crate::time::UTC_TIME;
 use crate::version::{VERSION, Version};
-use ts_der::{Bounds, Element, are_equal, bounds_at};
+use ts_der::{Bounds, Element, are_equal, bounds_at, lie_between};
 use ts_ext::are_sound_extensions;
 use ts_name::is_name;
 use ts_time::begins_with_utc;
 
 /// Of more octets nothing is said: a certificate that breaks a rule is read once more.
 const SHORT: usize = 4_096;
+
+/// Whether octets are an INTEGER's content in as few octets as can be (X.690 8.3.2).
+#[inline(always)]
+fn is_shortest(content: &[u8]) -> bool
+    ensures { result ≡ is_shortest content.now }
+{
+    match content {
+        [] => false,
+        [0x00, second, ..] => *second >= 0x80,
+        [0xFF, second, ..] => *second < 0x80,
+        _ => true,
+    }
+}
 
 /// Where an INTEGER ends.
 #[inline(always)]
@@ -28,17 +42,9 @@ fn integer_end(octets: &[u8], at: usize) -> Option<usize>
     ensures { IfSome result (Spans (Within 0x02 IsInteger) octets.now at) }
 {
     let Bounds { start, end } = bounds_at(octets, at, INTEGER)?;
-    let content = &octets[start..end];
-    let element = Element {
-        tag: INTEGER,
-        content,
-        whole: content,
-        at: 0,
-        start: 0,
-    };
-    let Ok(_) = element.integer() else {
+    if !is_shortest(&octets[start..end]) {
         return None;
-    };
+    }
     Some(end)
 }
 
@@ -81,12 +87,37 @@ fn are_parameters(octets: &[u8], at: usize, end: usize) -> bool
     }
 }
 
+/// The least octets that an AlgorithmIdentifier of RSA may begin with, parameters NULL (RFC 3279 2.2.1, 2.3.1), and the greatest.
+const RSA_LOW: [u8; 16] = [
+    0x30, 0x0D, 0x06, 0x09, 0x2A, 0x86, 0x48, 0x86, 0xF7, 0x0D, 0x01, 0x01, 0x00, 0x05, 0x00, 0x00,
+];
+
+const RSA_HIGH: [u8; 16] = [
+    0x30, 0x0D, 0x06, 0x09, 0x2A, 0x86, 0x48, 0x86, 0xF7, 0x0D, 0x01, 0x01, 0x7F, 0x05, 0x00, 0xFF,
+];
+
+/// Whether an AlgorithmIdentifier of RSA stands at an offset.
+#[inline(always)]
+fn is_rsa(octets: &[u8], at: usize) -> bool
+    requires { at ≤ length octets.now }
+    ensures { result ≡ true → Spans (Within 0x30 IsAlgorithm) octets.now at (at + 15) }
+{
+    let rest = &octets[at..];
+    if rest.len() < 16 {
+        return false;
+    }
+    lie_between(rest, &RSA_LOW, &RSA_HIGH)
+}
+
 /// Where an AlgorithmIdentifier ends.
 #[inline(always)]
 fn algorithm_end(octets: &[u8], at: usize) -> Option<usize>
     requires { at ≤ length octets.now }
     ensures { IfSome result (Spans (Within 0x30 IsAlgorithm) octets.now at) }
 {
+    if is_rsa(octets, at) {
+        return Some(at + 15);
+    }
     let Bounds { start, end } = bounds_at(octets, at, SEQUENCE)?;
     let parameters = oid_end(octets, start)?;
     if !are_parameters(octets, parameters, end) {
