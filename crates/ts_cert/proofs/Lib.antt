@@ -5,7 +5,7 @@ pub mod Beside
 pub mod Certificates
 pub mod Layouts
 pub mod Spanned
-pub mod RsaAlgorithms
+pub mod KnownAlgorithms
 pub mod UsualLayout
 pub mod Sets
 pub mod Held

@@ -109,21 +109,102 @@ fn is_rsa(octets: &[u8], at: usize) -> bool
     lie_between(rest, &RSA_LOW, &RSA_HIGH)
 }
 
-/// Where an AlgorithmIdentifier ends.
+/// The same of ECDSA, without parameters (RFC 5758 3.2).
+const ECDSA_LOW: [u8; 16] = [
+    0x30, 0x0A, 0x06, 0x08, 0x2A, 0x86, 0x48, 0xCE, 0x3D, 0x04, 0x03, 0x00, 0x00, 0x00, 0x00, 0x00,
+];
+
+const ECDSA_HIGH: [u8; 16] = [
+    0x30, 0x0A, 0x06, 0x08, 0x2A, 0x86, 0x48, 0xCE, 0x3D, 0x04, 0x03, 0x7F, 0xFF, 0xFF, 0xFF, 0xFF,
+];
+
+/// Whether an AlgorithmIdentifier of ECDSA stands at an offset.
 #[inline(always)]
-fn algorithm_end(octets: &[u8], at: usize) -> Option<usize>
+fn is_ecdsa(octets: &[u8], at: usize) -> bool
+    requires { at ≤ length octets.now }
+    ensures { result ≡ true → Spans (Within 0x30 IsAlgorithm) octets.now at (at + 12) }
+{
+    let rest = &octets[at..];
+    if rest.len() < 16 {
+        return false;
+    }
+    lie_between(rest, &ECDSA_LOW, &ECDSA_HIGH)
+}
+
+/// The same of a key on a named curve (RFC 5480 2.1.1).
+const CURVE_LOW: [u8; 16] = [
+    0x30, 0x00, 0x06, 0x07, 0x2A, 0x86, 0x48, 0xCE, 0x3D, 0x02, 0x01, 0x06, 0x00, 0x00, 0x00, 0x00,
+];
+
+const CURVE_HIGH: [u8; 16] = [
+    0x30, 0x7F, 0x06, 0x07, 0x2A, 0x86, 0x48, 0xCE, 0x3D, 0x02, 0x01, 0x06, 0xFF, 0xFF, 0xFF, 0xFF,
+];
+
+/// Where an AlgorithmIdentifier of a key on a named curve ends.
+#[inline(always)]
+fn curve_end(octets: &[u8], at: usize) -> Option<usize>
     requires { at ≤ length octets.now }
     ensures { IfSome result (Spans (Within 0x30 IsAlgorithm) octets.now at) }
 {
-    if is_rsa(octets, at) {
-        return Some(at + 15);
+    let rest = &octets[at..];
+    if rest.len() < 16 {
+        return None;
     }
+    if !lie_between(rest, &CURVE_LOW, &CURVE_HIGH) {
+        return None;
+    }
+    let size = rest[1] as usize;
+    if rest[12] as usize + 11 != size {
+        return None;
+    }
+    if rest.len() < size + 2 {
+        return None;
+    }
+    Some(at + 2 + size)
+}
+
+/// Where any AlgorithmIdentifier ends.
+#[inline(never)]
+fn other_algorithm_end(octets: &[u8], at: usize) -> Option<usize>
+    requires { at ≤ length octets.now }
+    ensures { IfSome result (Spans (Within 0x30 IsAlgorithm) octets.now at) }
+{
     let Bounds { start, end } = bounds_at(octets, at, SEQUENCE)?;
     let parameters = oid_end(octets, start)?;
     if !are_parameters(octets, parameters, end) {
         return None;
     }
     Some(end)
+}
+
+/// Where the AlgorithmIdentifier of a signature ends.
+#[inline(always)]
+fn signature_algorithm_end(octets: &[u8], at: usize) -> Option<usize>
+    requires { at ≤ length octets.now }
+    ensures { IfSome result (Spans (Within 0x30 IsAlgorithm) octets.now at) }
+{
+    if is_rsa(octets, at) {
+        return Some(at + 15);
+    }
+    if is_ecdsa(octets, at) {
+        return Some(at + 12);
+    }
+    other_algorithm_end(octets, at)
+}
+
+/// Where the AlgorithmIdentifier of a key ends.
+#[inline(always)]
+fn key_algorithm_end(octets: &[u8], at: usize) -> Option<usize>
+    requires { at ≤ length octets.now }
+    ensures { IfSome result (Spans (Within 0x30 IsAlgorithm) octets.now at) }
+{
+    if is_rsa(octets, at) {
+        return Some(at + 15);
+    }
+    match curve_end(octets, at) {
+        Some(end) => Some(end),
+        None => other_algorithm_end(octets, at),
+    }
 }
 
 /// Where a Name ends.
@@ -191,7 +272,7 @@ fn key_end(octets: &[u8], at: usize) -> Option<usize>
     ensures { IfSome result (Spans (Within 0x30 IsKeyInfo) octets.now at) }
 {
     let Bounds { start, end } = bounds_at(octets, at, SEQUENCE)?;
-    let key = algorithm_end(octets, start)?;
+    let key = key_algorithm_end(octets, start)?;
     if bits_end(octets, key)? != end {
         return None;
     }
@@ -269,7 +350,7 @@ pub(crate) fn usual_layout(octets: &[u8]) -> Option<Layout>
     let tbs = bounds_at(octets, whole.start, SEQUENCE)?;
     let serial_number = version_end(octets, tbs.start)?;
     let signature = integer_end(octets, serial_number)?;
-    let issuer = algorithm_end(octets, signature)?;
+    let issuer = signature_algorithm_end(octets, signature)?;
     let validity = name_end(octets, issuer)?;
     let subject = validity_end(octets, validity)?;
     let subject_public_key_info = name_end_beside(octets, subject, issuer, validity)?;

@@ -1,6 +1,6 @@
 use Rattle.std.proofs.Common.{◌-◌, length, take, drop, sym, ◌∙◌}
 use Rattle.std.proofs.lemmas.List.{take_rest}
-use Rattle.ts_cert.proofs.RsaAlgorithms.{rsa-spans}
+use Rattle.ts_cert.proofs.KnownAlgorithms.{rsa-spans}
 use Rattle.ts_cert.proofs.usual.is_rsa.Goals as goal
 
 pub returns : goal.returns

@@ -4,7 +4,7 @@ use Rattle.ts_der.specs.Element.{spell}
 use Rattle.ts_der.specs.Stands.{between}
 use Rattle.ts_cert.specs.Spelling.{IsAlgorithm}
 use Rattle.ts_cert.proofs.Spanned.{spans, content-joined}
-use Rattle.ts_cert.proofs.usual.algorithm_end.Goals as goal
+use Rattle.ts_cert.proofs.usual.other_algorithm_end.Goals as goal
 
 pub returns : goal.returns
 returns c =
