@@ -26,7 +26,7 @@ use Rattle.ts_ext.proofs.Said.{extensions-see}
 use Rattle.ts_cert.specs.declared.layout.Layout.{Layout}
 use Rattle.ts_cert.specs.Certificate.{Certificate}
 use Rattle.ts_cert.specs.CertView.{certificate_in, no_certificate}
-use Rattle.ts_cert.specs.Layout.{Lies, AreAt, AreLaidOut, Holds, HoldsIfAny}
+use Rattle.ts_cert.specs.Layout.{Lies, AreLaidOut, Holds, HoldsIfAny}
 use Rattle.ts_cert.specs.Reading.{certificate_of}
 use Rattle.ts_cert.specs.Standings.{standings_within}
 use Rattle.ts_cert.specs.Spelling.{IsAlgorithm, IsValidity, IsKeyInfo, IsUniqueIdentifier, IsCertificate}

@@ -2,7 +2,7 @@
 use Rattle.std.proofs.Common.{◌≡◌, ℕ, ℤ, ◌+◌, ◌-◌, ◌≤◌, List, [], ◌∷◌, ◌++◌, length, take, drop, get_or, refl, sym, ap, subst, ◌∙◌, append_assoc, arith}
 use Rattle.std.proofs.lemmas.List.{append_cancel_right, length-append, length-drop, length-take-le, take_at, take-append-drop, drop-drop}
 use Rattle.ts_der.specs.declared.bounds.Bounds.{Bounds}
-use Rattle.ts_der.specs.Element.{Fits, spell, length_octets}
+use Rattle.ts_der.specs.Element.{spell, length_octets}
 use Rattle.ts_der.specs.Stands.{HavePart, between, HasElement}
 use Rattle.ts_name.specs.Fields.{Within}
 use Rattle.ts_der.proofs.Standing.{part-taken, spelled-out}

@@ -28,6 +28,8 @@ mod tbs;
 mod tests;
 mod time;
 mod usual;
+#[cfg(test)]
+mod usual_tests;
 mod version;
 
 pub use algorithm::{AlgorithmIdentifier, next_algorithm, read_algorithm};

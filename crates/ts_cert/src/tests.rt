@@ -142,16 +142,16 @@ fn reads_octets_where_they_lie(rt: HostRuntime) {
 }
 
 /// The version of a certificate, whether its serial number is negative, and whether its issuer is its subject.
-type Values = (Version, bool, bool);
+pub(crate) type Values = (Version, bool, bool);
 
 /// The forms in which a certificate writes from when to when it is valid, and those moments.
-type Times = (TimeForm, i64, TimeForm, i64);
+pub(crate) type Times = (TimeForm, i64, TimeForm, i64);
 
 /// What stands for parameters that are absent. It is no element.
-const ABSENT: &[u8] = b"absent";
+pub(crate) const ABSENT: &[u8] = b"absent";
 
 /// The values of a certificate, its times, and the parameters of its algorithm.
-fn values<'a>(octets: &'a [u8]) -> Option<(Values, Times, &'a [u8])> {
+pub(crate) fn values<'a>(octets: &'a [u8]) -> Option<(Values, Times, &'a [u8])> {
     let cert = Cert::read(octets).ok()?;
     let Validity {
         not_before: from,

@@ -1,4 +1,4 @@
-use Rattle.std.proofs.Common.{◌≡◌, ◌+◌, ◌++◌, List, ℕ, length, ap, ◌∙◌, drop}
+use Rattle.std.proofs.Common.{◌+◌, List, ℕ, length, ap, ◌∙◌, drop}
 use Rattle.ts_der.specs.Element.{Place, Tlv, spell}
 use Rattle.ts_cert.proofs.Layouts.{behind-element}
 use Rattle.ts_cert.proofs.layout.end_of.Goals as goal

@@ -1,4 +1,4 @@
-use Rattle.std.proofs.Common.{◌≡◌, ◌+◌, ◌++◌, List, ℕ, length, ap, ◌∙◌, drop}
+use Rattle.std.proofs.Common.{◌+◌, List, ℕ, length, ap, ◌∙◌, drop}
 use Rattle.ts_der.specs.Element.{Place, Tlv, length_octets}
 use Rattle.ts_cert.proofs.Layouts.{inside-element}
 use Rattle.ts_cert.proofs.layout.inside.Goals as goal

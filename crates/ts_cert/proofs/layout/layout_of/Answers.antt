@@ -4,7 +4,7 @@ use Rattle.ts_der.specs.Element.{spell}
 use Rattle.ts_der.specs.Reading.{begins_with}
 use Rattle.ts_name.proofs.OptionalParts.{begins-other, begins-if-any}
 use Rattle.ts_ext.specs.Extension.{AreExplicit}
-use Rattle.ts_cert.specs.Spelling.{IsUniqueIdentifier, version_octets}
+use Rattle.ts_cert.specs.Spelling.{IsUniqueIdentifier}
 use Rattle.ts_cert.proofs.Layouts.{lies, passed, if-passed, version-passed}
 use Rattle.ts_cert.proofs.layout.layout_of.Goals as goal
 

@@ -1,10 +1,9 @@
-use Rattle.std.proofs.Common.{ℕ, List, [], Option, Some, ap, sym, ◌∙◌}
-use Rattle.std.specs.Prelude.{map, option_map}
+use Rattle.std.proofs.Common.{[], ap, sym, ◌∙◌}
 use Rattle.std.proofs.Math.Logic.{∥∥₁_elim}
 use Rattle.std.proofs.lemmas.List.{append-nil}
 use Rattle.ts_der.specs.Element.{Place, spell}
 use Rattle.ts_der.specs.View.{now}
-use Rattle.ts_cert.proofs.Held.{none-there, explicit-there, explicit-never-refused, list-there}
+use Rattle.ts_cert.proofs.Held.{explicit-there, explicit-never-refused, list-there}
 use Rattle.ts_cert.proofs.part.extensions_from.Goals as goal
 
 pub unreachable-requires : goal.unreachable-requires

@@ -1,4 +1,4 @@
-use Rattle.std.proofs.Common.{ℕ, List, drop, ◌-◌, ap, sym, ◌∙◌, arith, refl}
+use Rattle.std.proofs.Common.{drop}
 use Rattle.ts_der.specs.Stands.{between}
 use Rattle.ts_name.specs.Fields.{IsBits}
 use Rattle.ts_cert.proofs.Spanned.{spans, first-octet}

@@ -1,4 +1,3 @@
-use Rattle.std.proofs.Common.{List, ℕ, subst, sym, ◌∙◌}
 use Rattle.ts_cert.specs.Layout.{AreSoundExplicit}
 use Rattle.ts_cert.proofs.Spanned.{spans, content-alone}
 use Rattle.ts_cert.proofs.usual.extensions_end.Goals as goal

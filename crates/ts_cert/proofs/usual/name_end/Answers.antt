@@ -1,4 +1,3 @@
-use Rattle.std.proofs.Common.{refl}
 use Rattle.ts_name.specs.NameSpelling.{IsName}
 use Rattle.ts_cert.proofs.Spanned.{spans}
 use Rattle.ts_cert.proofs.usual.name_end.Goals as goal

@@ -1,4 +1,4 @@
-use Rattle.std.proofs.Common.{refl, ap, subst, sym, ◌∙◌, ℕ, arith}
+use Rattle.std.proofs.Common.{refl, subst, sym, ◌∙◌, ℕ, arith}
 use Rattle.ts_name.specs.Fields.{Within, IsBits}
 use Rattle.ts_cert.specs.Layout.{Spans}
 use Rattle.ts_cert.proofs.UsualLayout.{usual-laid-out}

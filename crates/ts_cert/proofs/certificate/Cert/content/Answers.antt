@@ -1,8 +1,6 @@
-use Rattle.std.proofs.Common.{List, Option, ap, sym, ◌∙◌}
-use Rattle.std.specs.Prelude.{map, option_map}
+use Rattle.std.proofs.Common.{List, ap, sym, ◌∙◌}
 use Rattle.std.specs.List.{find}
-use Rattle.ts_der.specs.declared.reader.Element.{Element}
-use Rattle.ts_ext.specs.Extension.{Standing, said}
+use Rattle.ts_ext.specs.Extension.{Standing}
 use Rattle.ts_cert.specs.CertView.{cert_in}
 use Rattle.ts_cert.specs.Standings.{standings_within}
 use Rattle.ts_cert.proofs.StatedValues.{is_known, none-stands, none-found, one-found}

@@ -1,7 +1,4 @@
-use Rattle.std.proofs.Common.{◌≡◌, ℕ, List, subst, sym, ap, ◌∙◌, Ok}
-use Rattle.std.specs.Prelude.{Result}
-use Rattle.ts_name.specs.declared.fault.CertFault.{CertFault}
-use Rattle.ts_cert.specs.Certificate.{Certificate}
+use Rattle.std.proofs.Common.{◌≡◌, ℕ, List, subst, sym, ap, ◌∙◌}
 use Rattle.ts_cert.specs.CertView.{certificate_in}
 use Rattle.ts_cert.specs.Layout.{AreLaidOut}
 use Rattle.ts_cert.specs.Reading.{certificate_of}
