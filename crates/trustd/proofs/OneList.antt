@@ -2,7 +2,7 @@
 use Rattle.std.proofs.Common.{◌≡◌, ◌≢◌, ◌∙◌, refl, sym, ap, subst, ℕ, ◌<◌, List, None, Result, Ok, Err, length, arith}
 use Rattle.std.specs.declared.vec.Vec.{Vec}
 use Rattle.std.specs.declared.alloc.Global.{Global}
-use Rattle.ts_name.specs.declared.fault.CertFault.{CertFault}
+use Rattle.ts_shape.specs.declared.fault.CertFault.{CertFault}
 use Rattle.ts_time.specs.Text.{IsGeneral}
 use Rattle.ts_time.proofs.TextLemmas.{IsGeneral-one_moment}
 use Rattle.ts_crl.specs.Fault.{ListFault}

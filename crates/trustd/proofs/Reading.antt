@@ -6,7 +6,7 @@ use Rattle.trustd.specs.declared.script.WrongLine.{WrongLine}
 use Rattle.trustd.specs.declared.script.TheConstants.{LINE_FEED}
 use Rattle.trustd.specs.declared.scanner.Scanner.{Scanner}
 use Rattle.trustd.specs.Pieces.{onto_first, all_onto_first}
-use Rattle.trustd.specs.Known.{Entry}
+use Rattle.trustd.specs.Known.{Entry, known_in}
 use Rattle.trustd.specs.CertLine.{RefusesCert}
 use Rattle.trustd.specs.CheckLine.{RefusesCheck}
 use Rattle.trustd.specs.CrlLine.{RefusesCrl}
@@ -15,7 +15,6 @@ use Rattle.trustd.specs.declared.script.LineFault.{LineFault}
 use Rattle.trustd.specs.Script.{lines_of, Run}
 use Rattle.trustd.specs.declared.scanner.Stop.{Stop}
 use Rattle.trustd.specs.declared.scanner.Stop.TheVariants.{Wrong, Write}
-use Rattle.trustd.specs.Known.{known_in}
 use Rattle.trustd.specs.declared.script.LineFault.TheVariants.{Memory}
 use Rattle.trustd.specs.Scanner.{Ends, Owes, Scans, Finishes, HasSaid}
 

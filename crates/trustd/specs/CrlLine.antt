@@ -1,7 +1,7 @@
 -- What a `crl` line says: the list of revoked certificates that it makes known, or why it is refused.
 use Rattle.std.specs.Prelude.{◌≡◌, ◌≢◌, ℕ, ◌<◌, ◌≤◌, List, [], ◌∷◌, ◌++◌, length, None, Err, option_map, codes}
 use Rattle.std.specs.Fmt.{decimal}
-use Rattle.ts_name.specs.declared.fault.CertFault.{CertFault}
+use Rattle.ts_shape.specs.declared.fault.CertFault.{CertFault}
 use Rattle.ts_time.specs.Text.{IsGeneral}
 use Rattle.ts_crl.specs.Fault.{broken}
 use Rattle.ts_crl.specs.Table.{crl_of}

@@ -1,7 +1,7 @@
 -- What is told of a reading in numbers.
 use Rattle.std.specs.Prelude.{ℕ, Bool, false, List, Option, Some, None, Result, Ok, Err}
-use Rattle.ts_name.specs.declared.fault.CertFault.{CertFault}
-use Rattle.ts_name.specs.Fault.{code_of}
+use Rattle.ts_shape.specs.declared.fault.CertFault.{CertFault}
+use Rattle.ts_shape.specs.Fault.{code_of}
 use Rattle.ts_crl.specs.Entries.{has_entry}
 use Rattle.ts_crl.specs.Fault.{ListFault, broken, fault_code}
 use Rattle.ts_crl.specs.List.{CertificateList}

@@ -2,7 +2,7 @@
 use Rattle.std.proofs.Common.{◌≡◌, ℕ, List, [], ◌++◌, Ok, sym, ap, subst, ◌∙◌}
 use Rattle.ts_der.specs.Element.{Tlv, Fits, spell}
 use Rattle.ts_der.proofs.Unique.{one-element}
-use Rattle.ts_name.specs.Fields.{Within}
+use Rattle.ts_shape.specs.Fields.{Within}
 use Rattle.ts_cert.specs.Certificate.{Algorithm}
 use Rattle.ts_cert.specs.Reading.{algorithm_of}
 use Rattle.ts_cert.specs.Spelling.{IsAlgorithm}

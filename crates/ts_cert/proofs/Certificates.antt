@@ -14,14 +14,16 @@ use Rattle.ts_der.specs.Reading.{begins_with, element_at, end_at}
 use Rattle.ts_der.proofs.OctetLists.{AreOctets-back}
 use Rattle.ts_der.proofs.Laws.{bind_ok, ok_is, element-only}
 use Rattle.ts_der.proofs.Unique.{one-element}
-use Rattle.ts_name.specs.declared.fault.CertRule.TheVariants.{Der, AlgorithmMismatch}
-use Rattle.ts_name.specs.declared.fault.CertFault.{CertFault}
-use Rattle.ts_name.specs.Fault.{der, breaks}
-use Rattle.ts_name.specs.Fields.{Within, IfAny, IsInteger, integer_at, bits_at, name_at, optional_of}
-use Rattle.ts_name.proofs.Shapes.{end-ok, end-again}
-use Rattle.ts_name.proofs.Parts.{Value, took, element-took, der-ok}
-use Rattle.ts_name.proofs.FieldParts.{integer-part, bits-part, name-part}
-use Rattle.ts_name.proofs.OptionalParts.{begins-if-any, optional-found, optional-again}
+use Rattle.ts_shape.specs.declared.fault.CertRule.TheVariants.{Der, AlgorithmMismatch}
+use Rattle.ts_shape.specs.declared.fault.CertFault.{CertFault}
+use Rattle.ts_shape.specs.Fault.{der, breaks}
+use Rattle.ts_shape.specs.Fields.{Within, IfAny, IsInteger, integer_at, bits_at, optional_of}
+use Rattle.ts_name.specs.Names.{name_at}
+use Rattle.ts_shape.proofs.Endings.{end-ok, end-again}
+use Rattle.ts_shape.proofs.Parts.{Value, took, element-took, der-ok}
+use Rattle.ts_shape.proofs.FieldParts.{integer-part, bits-part}
+use Rattle.ts_name.proofs.NameParts.{name-part}
+use Rattle.ts_shape.proofs.OptionalParts.{begins-if-any, optional-found, optional-again}
 use Rattle.ts_ext.specs.Extension.{Extension, Standing, said, AreExplicit, explicit_standings_of, explicit_extensions_of}
 use Rattle.ts_ext.proofs.ExtensionParts.{explicit_extensions-format}
 use Rattle.ts_ext.proofs.Formats.{value_of}

@@ -1,11 +1,11 @@
 -- The rules of the fields beside their shape: what is kept where they stand is what is said of the record.
 use Rattle.std.proofs.Common.{◌≡◌, ℕ, Bool, true, false, cond, List, [], ◌∷◌, Option, Some, None, refl, sym, ap, subst, ◌∙◌}
 use Rattle.std.specs.Prelude.{map, option_map, unwrap_or}
-use Rattle.ts_name.specs.declared.fault.CertRule.TheVariants.{DuplicateExtension}
-use Rattle.ts_name.specs.declared.fault.CertFault.{CertFault}
-use Rattle.ts_name.specs.Fault.{breaks}
-use Rattle.ts_name.specs.Repeats.{is_among, first_repeated}
-use Rattle.ts_name.specs.Shape.{◌or_else◌}
+use Rattle.ts_shape.specs.declared.fault.CertRule.TheVariants.{DuplicateExtension}
+use Rattle.ts_shape.specs.declared.fault.CertFault.{CertFault}
+use Rattle.ts_shape.specs.Fault.{breaks}
+use Rattle.ts_shape.specs.Repeats.{is_among, first_repeated}
+use Rattle.ts_shape.specs.Shape.{◌or_else◌}
 use Rattle.ts_ext.specs.declared.known.Holder.TheVariants.{Certificate as CertificateHolder}
 use Rattle.ts_ext.specs.Extension.{Extension, Standing, said}
 use Rattle.ts_ext.specs.ValueRules.{repeated_fault, AreSound}

@@ -12,14 +12,14 @@ use Rattle.ts_der.specs.declared.reader.Element.{Element}
 use Rattle.ts_der.proofs.Unique.{one-element}
 use Rattle.ts_der.proofs.Laws.{bind_ok, ok_is, err_not_ok, element-only}
 use Rattle.ts_name.specs.Canon.{Attr}
-use Rattle.ts_name.specs.Fields.{Within, IfAny, IsInteger, IsBits, optional_of}
-use Rattle.ts_name.specs.Items.{items_at}
+use Rattle.ts_shape.specs.Fields.{Within, IfAny, IsInteger, IsBits, optional_of}
+use Rattle.ts_shape.specs.Items.{items_at}
 use Rattle.ts_name.specs.NameSpelling.{IsName}
 use Rattle.ts_name.specs.Names.{name_of, rdn_at}
-use Rattle.ts_name.proofs.ItemParts.{some-walked}
+use Rattle.ts_shape.proofs.ItemParts.{some-walked}
 use Rattle.ts_name.proofs.Shapes.{name-again}
-use Rattle.ts_name.proofs.OptionalParts.{begins-within, begins-other, begins-if-any, optional-again}
-use Rattle.ts_name.proofs.Parts.{Value, Part}
+use Rattle.ts_shape.proofs.OptionalParts.{begins-within, begins-other, begins-if-any, optional-again}
+use Rattle.ts_shape.proofs.Parts.{Value, Part}
 use Rattle.ts_ext.specs.Extension.{Extension, Standing, said, standing_in, standings_of, AreExtensions, AreExplicit}
 use Rattle.ts_ext.proofs.ExtensionParts.{extensions-format}
 use Rattle.ts_ext.proofs.Said.{extensions-see}
@@ -30,7 +30,7 @@ use Rattle.ts_cert.specs.Layout.{Lies, AreLaidOut, Holds, HoldsIfAny}
 use Rattle.ts_cert.specs.Reading.{certificate_of}
 use Rattle.ts_cert.specs.Standings.{standings_within}
 use Rattle.ts_cert.specs.Spelling.{IsAlgorithm, IsValidity, IsKeyInfo, IsUniqueIdentifier, IsCertificate}
-use Rattle.ts_name.specs.declared.fault.CertFault.{CertFault}
+use Rattle.ts_shape.specs.declared.fault.CertFault.{CertFault}
 use Rattle.ts_cert.proofs.Certificates.{certificate-again}
 use Rattle.ts_cert.proofs.Spanned.{part-ordered, part-between}
 

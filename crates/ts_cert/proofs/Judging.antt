@@ -16,12 +16,14 @@ use Rattle.ts_der.specs.Reading.{fault_at, is_end, element_of, behind, next_at, 
 use Rattle.ts_der.specs.BitString.{bits_rules}
 use Rattle.ts_der.specs.Integer.{integer_rules}
 use Rattle.ts_time.specs.Reading.{utc_in, general_in, utc_value, general_value}
-use Rattle.ts_name.specs.declared.fault.CertRule.{CertRule}
-use Rattle.ts_name.specs.declared.fault.CertRule.TheVariants.{Der, Version as VersionRule, AlgorithmMismatch}
-use Rattle.ts_name.specs.declared.fault.CertFault.{CertFault}
-use Rattle.ts_name.specs.Fault.{der, breaks}
-use Rattle.ts_name.specs.Fields.{oid_at, integer_at, bits_at, name_at, optional_of}
-use Rattle.ts_name.specs.Rows.{object_identifier, integer, bit_string, name}
+use Rattle.ts_shape.specs.declared.fault.CertRule.{CertRule}
+use Rattle.ts_shape.specs.declared.fault.CertRule.TheVariants.{Der, Version as VersionRule, AlgorithmMismatch}
+use Rattle.ts_shape.specs.declared.fault.CertFault.{CertFault}
+use Rattle.ts_shape.specs.Fault.{der, breaks}
+use Rattle.ts_shape.specs.Fields.{oid_at, integer_at, bits_at, optional_of}
+use Rattle.ts_name.specs.Names.{name_at}
+use Rattle.ts_shape.specs.Rows.{object_identifier, integer, bit_string}
+use Rattle.ts_name.specs.NameRows.{name}
 use Rattle.ts_cert.specs.declared.time.Time.{Time}
 use Rattle.ts_cert.specs.declared.time.TimeForm.TheVariants.{Utc, General}
 use Rattle.ts_cert.specs.declared.version.Version.{Version}
@@ -32,12 +34,13 @@ use Rattle.ts_cert.specs.Reading.{parameters_at, algorithm_of, algorithm_at, val
 use Rattle.ts_cert.specs.Certificate.{Certificate}
 use Rattle.ts_cert.specs.Rules.{LateFields, TbsStanding, extensions_fault}
 use Rattle.ts_cert.specs.Table.{algorithm_identifier, time, validity, subject_public_key_info, is_version, version_rules, version_number, default_rules, version, unique_identifier, tbs_certificate, certificate, nth, from_front, signature_element, signature_algorithm_element, algorithms_fault, fields_fault, certificate_fault}
-use Rattle.ts_name.specs.Shape.{any, optional, tagged, no_other, Shape, nothing, plain, ◌then◌, ◌or_else◌, header_fault, row_fault, judge, der_rules, no_rules, one_rule}
-use Rattle.ts_name.proofs.OptionalParts.{optional-judged}
+use Rattle.ts_shape.specs.Shape.{any, optional, tagged, no_other, Shape, nothing, plain, ◌then◌, ◌or_else◌, header_fault, row_fault, judge, der_rules, no_rules, one_rule}
+use Rattle.ts_shape.proofs.OptionalParts.{optional-judged}
 use Rattle.ts_ext.specs.Extension.{explicit_extensions, explicit_standings_of}
 use Rattle.ts_ext.proofs.ExtensionParts.{explicit_standings-judged}
 use Rattle.ts_cert.proofs.KeyParts.{unique_identifier-format}
-use Rattle.ts_name.proofs.Judging.{Judged, refusal-judged, bind, no_more, no_less, Headed, next-judged, element-judged, Reads, within-reads, then-judged, end-judged, under, ends, value-judged, Whatever, oid-reads, integer-reads, bits-reads, next-reads, regroup, name-reads}
+use Rattle.ts_shape.proofs.Judging.{Judged, refusal-judged, bind, no_more, no_less, Headed, next-judged, element-judged, Reads, within-reads, then-judged, end-judged, under, ends, value-judged, Whatever, oid-reads, integer-reads, bits-reads, next-reads, regroup}
+use Rattle.ts_name.proofs.NameJudging.{name-reads}
 
 -- ---- algorithm identifiers
 

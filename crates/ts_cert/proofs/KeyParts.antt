@@ -13,11 +13,11 @@ use Rattle.ts_der.proofs.BitStrings.{bits-found, bits-only}
 use Rattle.ts_der.proofs.Elements.{next-found}
 use Rattle.ts_der.proofs.RuleLists.{checked-value}
 use Rattle.ts_der.proofs.Laws.{bind_ok, ok_is, next-only}
-use Rattle.ts_name.specs.Fields.{Within, IsAny, oid_at, bits_at}
-use Rattle.ts_name.specs.Shape.{plain, der_rules}
-use Rattle.ts_name.proofs.Shapes.{end-ok, end-again}
-use Rattle.ts_name.proofs.Parts.{Value, Part, within-part, took}
-use Rattle.ts_name.proofs.FieldParts.{oid-part, bits-part}
+use Rattle.ts_shape.specs.Fields.{Within, IsAny, oid_at, bits_at}
+use Rattle.ts_shape.specs.Shape.{plain, der_rules}
+use Rattle.ts_shape.proofs.Endings.{end-ok, end-again}
+use Rattle.ts_shape.proofs.Parts.{Value, Part, within-part, took}
+use Rattle.ts_shape.proofs.FieldParts.{oid-part, bits-part}
 use Rattle.ts_cert.specs.Certificate.{Algorithm, KeyInfo}
 use Rattle.ts_ext.proofs.Formats.{Format, by_der_rules}
 use Rattle.ts_cert.specs.Spelling.{AreParameters, IsAlgorithm, IsKeyInfo, IsUniqueIdentifier}

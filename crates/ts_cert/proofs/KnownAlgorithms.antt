@@ -9,7 +9,7 @@ use Rattle.ts_der.specs.ObjectIdentifier.{series_of, is_subidentifier, is_oid}
 use Rattle.ts_der.proofs.FewOctets.{goes, goes_all}
 use Rattle.ts_der.proofs.Lengths.{length_octets-short}
 use Rattle.ts_der.proofs.Standing.{spelled-out}
-use Rattle.ts_name.specs.Fields.{Within}
+use Rattle.ts_shape.specs.Fields.{Within}
 use Rattle.ts_der.proofs.Lanes.{between-at}
 use Rattle.ts_cert.specs.Certificate.{Algorithm}
 use Rattle.ts_cert.specs.Layout.{Spans}

@@ -3,7 +3,7 @@ use Rattle.std.proofs.Common.{◌≡◌, ℕ, suc, ◌+◌, ◌≤◌, false, Li
 use Rattle.std.proofs.lemmas.List.{drop-drop, drop_at}
 use Rattle.ts_der.specs.Element.{Fits, spell, length_octets}
 use Rattle.ts_der.specs.Reading.{begins_with}
-use Rattle.ts_name.specs.Fields.{Within, IfAny}
+use Rattle.ts_shape.specs.Fields.{Within, IfAny}
 use Rattle.ts_cert.specs.declared.version.Version.{Version}
 use Rattle.ts_cert.specs.declared.version.Version.TheVariants.{V1, V2, V3}
 use Rattle.ts_cert.specs.Layout.{Lies}

@@ -7,8 +7,8 @@ use Rattle.ts_time.proofs.TextLemmas.{IsUtc-one_text, IsGeneral-one_text}
 use Rattle.ts_cert.specs.declared.time.TimeForm.{TimeForm}
 use Rattle.ts_cert.specs.declared.time.TimeForm.TheVariants.{Utc, General}
 use Rattle.ts_cert.specs.Certificate.{Tbs}
-use Rattle.ts_name.specs.Fields.{Within, IfAny, IsOid, IsInteger, IsBits}
-use Rattle.ts_name.specs.Items.{AreItems}
+use Rattle.ts_shape.specs.Fields.{Within, IfAny, IsOid, IsInteger, IsBits}
+use Rattle.ts_shape.specs.Items.{AreItems}
 use Rattle.ts_ext.specs.AuthorityKey.{AreOctetsOf}
 use Rattle.ts_ext.specs.Extension.{IsExtension, AreExtensions, AreExplicit}
 use Rattle.ts_ext.specs.Spelling.{IfTrue}

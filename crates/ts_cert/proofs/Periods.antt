@@ -14,8 +14,8 @@ use Rattle.ts_der.specs.View.{StandsIfAny}
 use Rattle.ts_der.proofs.OctetLists.{AreOctets-part}
 use Rattle.ts_der.proofs.Elements.{next-found}
 use Rattle.ts_der.proofs.Laws.{bind_ok, ok_is, next-only, element-found, element-only, optional-found}
-use Rattle.ts_name.specs.declared.fault.CertRule.TheVariants.{Version as VersionRule}
-use Rattle.ts_name.specs.declared.fault.CertFault.{CertFault}
+use Rattle.ts_shape.specs.declared.fault.CertRule.TheVariants.{Version as VersionRule}
+use Rattle.ts_shape.specs.declared.fault.CertFault.{CertFault}
 use Rattle.ts_time.specs.Text.{IsUtc, IsGeneral}
 use Rattle.ts_time.specs.Reading.{utc_in, utc_value, general_in, general_value}
 use Rattle.ts_time.proofs.ReadingLemmas.{utc_in-found, utc_in-only, general_in-found, general_in-only}
@@ -25,14 +25,14 @@ use Rattle.ts_cert.specs.declared.time.TimeForm.{TimeForm}
 use Rattle.ts_cert.specs.declared.time.TimeForm.TheVariants.{Utc, General}
 use Rattle.ts_cert.specs.declared.time.Time.{Time}
 use Rattle.ts_cert.specs.declared.time.Validity.{Validity}
-use Rattle.ts_name.specs.Fault.{der, breaks}
-use Rattle.ts_name.specs.Fields.{Within}
+use Rattle.ts_shape.specs.Fault.{der, breaks}
+use Rattle.ts_shape.specs.Fields.{Within}
 use Rattle.ts_cert.specs.Spelling.{IsTimeIn, IsTime, IsValidity, version_octets}
 use Rattle.ts_cert.specs.Time.{time_of, time_at, validity_of}
 use Rattle.ts_cert.specs.Version.{version_named, number_of, not_default, version_of, version_if, version_at}
 use Rattle.ts_cert.specs.Reading.{validity_at}
-use Rattle.ts_name.proofs.Shapes.{end-ok, end-again}
-use Rattle.ts_name.proofs.Parts.{Part, within-part, took, der-ok}
+use Rattle.ts_shape.proofs.Endings.{end-ok, end-again}
+use Rattle.ts_shape.proofs.Parts.{Part, within-part, took, der-ok}
 
 -- ---- times
 

@@ -2,7 +2,7 @@
 use Rattle.std.proofs.Common.{◌≡◌, ℕ, List, Option, Result}
 use Rattle.std.proofs.Props.{props}
 use Rattle.ts_name.specs.Canon.{Attr}
-use Rattle.ts_name.specs.declared.fault.CertFault.{CertFault}
+use Rattle.ts_shape.specs.declared.fault.CertFault.{CertFault}
 use Rattle.ts_ext.specs.Extension.{Extension}
 use Rattle.ts_cert.specs.declared.time.Validity.{Validity}
 use Rattle.ts_cert.specs.declared.version.Version.{Version}

@@ -4,7 +4,7 @@ use Rattle.std.proofs.lemmas.List.{append_cancel_right, length-append, length-dr
 use Rattle.ts_der.specs.declared.bounds.Bounds.{Bounds}
 use Rattle.ts_der.specs.Element.{spell, length_octets}
 use Rattle.ts_der.specs.Stands.{HavePart, between, HasElement}
-use Rattle.ts_name.specs.Fields.{Within}
+use Rattle.ts_shape.specs.Fields.{Within}
 use Rattle.ts_der.proofs.Standing.{part-taken, spelled-out}
 use Rattle.ts_der.proofs.Lengths.{length_octets-short}
 use Rattle.ts_time.specs.Text.{IsUtc}

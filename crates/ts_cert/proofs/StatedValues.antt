@@ -13,10 +13,10 @@ use Rattle.ts_der.specs.Answer.{◌>>=◌, Answers}
 use Rattle.ts_der.specs.Element.{Place, Tlv, inside, spelled_at}
 use Rattle.ts_der.specs.Reading.{next_at, end_at}
 use Rattle.ts_der.specs.View.{now}
-use Rattle.ts_name.specs.Items.{each, alone, tagged_as, of_tag}
-use Rattle.ts_name.specs.Shape.{Shape, ContentRules}
-use Rattle.ts_name.specs.Fields.{Within}
-use Rattle.ts_name.proofs.ItemParts.{tag-part, alone-found, alone-again}
+use Rattle.ts_shape.specs.Items.{each, alone, tagged_as, of_tag}
+use Rattle.ts_shape.specs.Shape.{Shape, ContentRules}
+use Rattle.ts_shape.specs.Fields.{Within}
+use Rattle.ts_shape.proofs.ItemParts.{tag-part, alone-found, alone-again}
 use Rattle.ts_ext.specs.declared.extension.Extension.{Extension as Lent}
 use Rattle.ts_ext.specs.declared.known.Holder.{Holder}
 use Rattle.ts_ext.specs.declared.known.Holder.TheVariants.{Certificate as CertificateHolder}

@@ -4,7 +4,7 @@ use Rattle.std.proofs.lemmas.List.{append-nil, drop_all}
 use Rattle.ts_der.specs.declared.bounds.Bounds.{Bounds}
 use Rattle.ts_der.specs.Element.{spell}
 use Rattle.ts_der.specs.Stands.{HavePart, between, HasElement}
-use Rattle.ts_name.specs.Fields.{Within, IsInteger, IsBits}
+use Rattle.ts_shape.specs.Fields.{Within, IsInteger, IsBits}
 use Rattle.ts_name.specs.NameSpelling.{IsName}
 use Rattle.ts_cert.specs.declared.layout.Layout.{Layout}
 use Rattle.ts_cert.specs.declared.version.Version.TheVariants.{V3}

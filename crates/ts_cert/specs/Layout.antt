@@ -2,8 +2,8 @@
 use Rattle.std.specs.Prelude.{◌≡◌, ℕ, ◌≤◌, false, List, [], ◌++◌, length, drop, Option, None}
 use Rattle.ts_der.specs.Stands.{HavePart}
 use Rattle.ts_der.specs.Reading.{begins_with}
-use Rattle.ts_name.specs.Fields.{IfAny}
-use Rattle.ts_name.specs.Repeats.{first_repeated}
+use Rattle.ts_shape.specs.Fields.{IfAny}
+use Rattle.ts_shape.specs.Repeats.{first_repeated}
 use Rattle.ts_ext.specs.declared.known.Holder.TheVariants.{Certificate as CertificateHolder}
 use Rattle.ts_ext.specs.Extension.{Extension, AreExplicit}
 use Rattle.ts_ext.specs.ValueRules.{AreSound}

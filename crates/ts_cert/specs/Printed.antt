@@ -1,7 +1,7 @@
 -- What is printed of why a certificate is not kept.
 use Rattle.std.specs.Prelude.{ℕ, List, ◌++◌, codes}
 use Rattle.std.specs.Fmt.{decimal}
-use Rattle.ts_name.specs.Printed.{rule_name}
+use Rattle.ts_shape.specs.Printed.{rule_name}
 use Rattle.ts_cert.specs.declared.owned.OwnedCertFault.{OwnedCertFault}
 use Rattle.ts_cert.specs.declared.owned.OwnedCertFault.TheVariants.{Memory, Unreadable}
 

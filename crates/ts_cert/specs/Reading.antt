@@ -8,11 +8,11 @@ use Rattle.ts_der.specs.Answer.{◌>>=◌}
 use Rattle.ts_der.specs.BitString.{bits_rules, bit_parts}
 use Rattle.ts_der.specs.Element.{Place, Tlv, inside}
 use Rattle.ts_der.specs.Reading.{is_end, next_at, element_at, value_at, end_at}
-use Rattle.ts_name.specs.declared.fault.CertRule.TheVariants.{Der, AlgorithmMismatch}
-use Rattle.ts_name.specs.declared.fault.CertFault.{CertFault}
-use Rattle.ts_name.specs.Fault.{der, breaks}
-use Rattle.ts_name.specs.Names.{within}
-use Rattle.ts_name.specs.Fields.{oid_at, integer_at, bits_at, name_at, optional_of}
+use Rattle.ts_shape.specs.declared.fault.CertRule.TheVariants.{Der, AlgorithmMismatch}
+use Rattle.ts_shape.specs.declared.fault.CertFault.{CertFault}
+use Rattle.ts_shape.specs.Fault.{der, breaks}
+use Rattle.ts_shape.specs.Fields.{within, oid_at, integer_at, bits_at, optional_of}
+use Rattle.ts_name.specs.Names.{name_at}
 use Rattle.ts_ext.specs.Extension.{said, explicit_standings_of}
 use Rattle.ts_cert.specs.declared.time.Validity.{Validity}
 use Rattle.ts_cert.specs.Certificate.{Algorithm, KeyInfo, Certificate}

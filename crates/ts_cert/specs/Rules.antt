@@ -1,9 +1,9 @@
 -- The rules of a certificate beside its shape (RFC 5280 4.1.2.1, 4.2): which fields a version has, and what extensions keep to.
 use Rattle.std.specs.Prelude.{ℕ, List, [], Option, Some, None, unwrap_or}
-use Rattle.ts_name.specs.declared.fault.CertRule.TheVariants.{ExtensionsInOldVersion}
-use Rattle.ts_name.specs.declared.fault.CertFault.{CertFault}
-use Rattle.ts_name.specs.Fault.{breaks}
-use Rattle.ts_name.specs.Shape.{◌or_else◌}
+use Rattle.ts_shape.specs.declared.fault.CertRule.TheVariants.{ExtensionsInOldVersion}
+use Rattle.ts_shape.specs.declared.fault.CertFault.{CertFault}
+use Rattle.ts_shape.specs.Fault.{breaks}
+use Rattle.ts_shape.specs.Shape.{◌or_else◌}
 use Rattle.ts_ext.specs.declared.known.Holder.TheVariants.{Certificate as CertificateHolder}
 use Rattle.ts_ext.specs.Extension.{Standing}
 use Rattle.ts_ext.specs.ValueRules.{list_fault}

@@ -3,8 +3,8 @@ use Rattle.std.specs.Prelude.{◌≡◌, ℕ, ◌≤◌, List, [], ◌∷◌, �
 use Rattle.ts_der.specs.BitString.{bits_of, IsBitString}
 use Rattle.ts_der.specs.Element.{spell}
 use Rattle.ts_name.specs.NameSpelling.{IsName}
-use Rattle.ts_name.specs.Fields.{Within, IfAny, IsAny, IsOid, IsInteger, IsBits}
-use Rattle.ts_name.specs.Repeats.{first_repeated}
+use Rattle.ts_shape.specs.Fields.{Within, IfAny, IsAny, IsOid, IsInteger, IsBits}
+use Rattle.ts_shape.specs.Repeats.{first_repeated}
 use Rattle.ts_time.specs.Text.{IsUtc, IsGeneral}
 use Rattle.ts_ext.specs.declared.known.Holder.TheVariants.{Certificate as CertificateHolder}
 use Rattle.ts_ext.specs.Extension.{AreExplicit}

@@ -3,8 +3,8 @@ use Rattle.std.specs.Prelude.{List, [], Option, option_map, unwrap_or}
 use Rattle.ts_der.specs.declared.reader.Element.{Element}
 use Rattle.ts_der.specs.Element.{inside}
 use Rattle.ts_der.specs.View.{now}
-use Rattle.ts_name.specs.declared.fault.CertFault.{CertFault}
-use Rattle.ts_name.specs.Items.{items_at}
+use Rattle.ts_shape.specs.declared.fault.CertFault.{CertFault}
+use Rattle.ts_shape.specs.Items.{items_at}
 use Rattle.ts_ext.specs.declared.known.Holder.TheVariants.{Certificate}
 use Rattle.ts_ext.specs.Extension.{Standing, standing_in}
 use Rattle.ts_ext.specs.ValueRules.{list_fault}

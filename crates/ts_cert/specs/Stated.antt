@@ -6,7 +6,7 @@ use Rattle.std.specs.Result.{result_ok}
 use Rattle.std.specs.Str.{bytes_eq}
 use Rattle.ts_der.specs.declared.fault.Fault.{Fault}
 use Rattle.ts_der.specs.Element.{Tlv, spelled_at}
-use Rattle.ts_name.specs.Items.{alone, of_tag}
+use Rattle.ts_shape.specs.Items.{alone, of_tag}
 use Rattle.ts_ext.specs.declared.known.Known.{Known}
 use Rattle.ts_ext.specs.Ext.{layout_of}
 use Rattle.ts_ext.specs.Extension.{Extension}

@@ -7,11 +7,12 @@ use Rattle.ts_der.specs.Reading.{begins_with, element_of, behind}
 use Rattle.ts_der.specs.BitString.{bits_rules}
 use Rattle.ts_der.specs.Integer.{integer_rules}
 use Rattle.ts_time.specs.Reading.{utc_in, general_in}
-use Rattle.ts_name.specs.declared.fault.CertRule.TheVariants.{Der, Version, AlgorithmMismatch}
-use Rattle.ts_name.specs.declared.fault.CertFault.{CertFault}
-use Rattle.ts_name.specs.Fault.{breaks}
-use Rattle.ts_name.specs.Shape.{ContentRules, Row, any, optional, tagged, no_other, nothing, ◌then◌, ◌or_else◌, judge, der_rules, no_rules, one_rule, primitive, sequence, ◌or◌}
-use Rattle.ts_name.specs.Rows.{object_identifier, integer, bit_string, name}
+use Rattle.ts_shape.specs.declared.fault.CertRule.TheVariants.{Der, Version, AlgorithmMismatch}
+use Rattle.ts_shape.specs.declared.fault.CertFault.{CertFault}
+use Rattle.ts_shape.specs.Fault.{breaks}
+use Rattle.ts_shape.specs.Shape.{ContentRules, Row, any, optional, tagged, no_other, nothing, ◌then◌, ◌or_else◌, judge, der_rules, no_rules, one_rule, primitive, sequence, ◌or◌}
+use Rattle.ts_shape.specs.Rows.{object_identifier, integer, bit_string}
+use Rattle.ts_name.specs.NameRows.{name}
 use Rattle.ts_ext.specs.Extension.{explicit_extensions}
 use Rattle.ts_cert.specs.Rules.{extensions_fault}
 use Rattle.ts_cert.specs.Reading.{Unagreed, signed_of}

@@ -5,11 +5,11 @@ use Rattle.ts_der.specs.Answer.{◌>>=◌}
 use Rattle.ts_der.specs.Element.{Place, Tlv, inside}
 use Rattle.ts_der.specs.Reading.{element_at, optional_at, value_at, end_at}
 use Rattle.ts_der.specs.Integer.{integer_rules}
-use Rattle.ts_name.specs.declared.fault.CertRule.TheVariants.{Der, Version as VersionRule}
-use Rattle.ts_name.specs.declared.fault.CertFault.{CertFault}
+use Rattle.ts_shape.specs.declared.fault.CertRule.TheVariants.{Der, Version as VersionRule}
+use Rattle.ts_shape.specs.declared.fault.CertFault.{CertFault}
 use Rattle.ts_cert.specs.declared.version.Version.{Version}
 use Rattle.ts_cert.specs.declared.version.Version.TheVariants.{V1, V2, V3}
-use Rattle.ts_name.specs.Fault.{der, breaks}
+use Rattle.ts_shape.specs.Fault.{der, breaks}
 
 -- Version ::= INTEGER { v1(0), v2(1), v3(2) }, by its content
 abbrev pub version_named : ℕ → List ℕ → Result Version CertFault

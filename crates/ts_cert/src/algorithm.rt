@@ -5,8 +5,8 @@ ghost use Rattle.std.specs.Option.{option_copied};
 ghost use Rattle.ts_der.specs.Answer.{Answers};
 ghost use Rattle.ts_der.specs.Element.{Fits, spell};
 ghost use Rattle.ts_der.specs.View.{now};
-ghost use Rattle.ts_name.specs.Fields.{Within};
-ghost use Rattle.ts_name.specs.Steps.{Takes};
+ghost use Rattle.ts_shape.specs.Fields.{Within};
+ghost use Rattle.ts_shape.specs.Steps.{Takes};
 ghost use Rattle.ts_cert.specs.Reading.{parameters_at, algorithm_of, algorithm_at};
 ghost use Rattle.ts_cert.specs.Spelling.{IsAlgorithm};
 ghost use Rattle.ts_cert.specs.View.{algorithm_in};
@@ -73,7 +73,7 @@ pub(crate) fn read_algorithm_beside<'a>(
 }
 
 /// The algorithm identifier that stands next, which the reader has then passed.
-#[tactic(auto, unfolding(crate::specs::Reading::algorithm_at, ts_name::specs::Names::within))]
+#[tactic(auto, unfolding(crate::specs::Reading::algorithm_at, ts_shape::specs::Fields::within))]
 #[inline(always)]
 pub fn next_algorithm<'a>(fields: &mut Reader<'a>) -> Result<AlgorithmIdentifier<'a>, Fault>
     ensures { Takes algorithm_in fields.new result (algorithm_at fields.old) }

@@ -20,7 +20,8 @@ use crate::reading::read_cert;
 use crate::time::Validity;
 use crate::version::Version;
 use ts_der::Integer;
-use ts_name::{CertFault, Name};
+use ts_name::Name;
+use ts_shape::CertFault;
 
 /// The greatest number of octets that a certificate may have in this profile.
 pub const MAX_CERTIFICATE: usize = 65_536;

@@ -3,7 +3,7 @@
 use super::*;
 use crate::tests::refusal;
 use ts_der::DerFault;
-use ts_name::CertRule;
+use ts_shape::CertRule;
 
 /// Version 2 with both unique identifiers.
 const UNIQUE: &[u8] =

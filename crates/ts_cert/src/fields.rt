@@ -1,8 +1,9 @@
 //! Fields that more than one SEQUENCE has. Each reads the element that stands next, which the reader has then passed.
 
-ghost use Rattle.ts_name.specs.Steps.{Takes};
+ghost use Rattle.ts_shape.specs.Steps.{Takes};
 ghost use Rattle.ts_name.specs.NameView.{rdns_in};
-ghost use Rattle.ts_name.specs.Fields.{oid_at, integer_at, bits_at, name_at};
+ghost use Rattle.ts_shape.specs.Fields.{oid_at, integer_at, bits_at};
+ghost use Rattle.ts_name.specs.Names.{name_at};
 
 use ts_der::{Fault, Integer, Reader};
 use ts_name::Name;
@@ -16,7 +17,7 @@ pub(crate) const OBJECT_IDENTIFIER: u8 = 0x06;
 pub(crate) const SEQUENCE: u8 = 0x30;
 
 /// The content octets of an OBJECT IDENTIFIER.
-#[tactic(auto, unfolding(ts_name::specs::Fields::oid_at, ts_name::specs::Names::within))]
+#[tactic(auto, unfolding(ts_shape::specs::Fields::oid_at, ts_shape::specs::Fields::within))]
 #[inline(always)]
 pub(crate) fn next_oid<'a>(fields: &mut Reader<'a>) -> Result<&'a [u8], Fault>
     ensures { Takes (λ c. c.now) fields.new result (oid_at fields.old) }
@@ -25,7 +26,7 @@ pub(crate) fn next_oid<'a>(fields: &mut Reader<'a>) -> Result<&'a [u8], Fault>
 }
 
 /// An INTEGER of any size.
-#[tactic(auto, unfolding(ts_name::specs::Fields::integer_at, ts_name::specs::Names::within))]
+#[tactic(auto, unfolding(ts_shape::specs::Fields::integer_at, ts_shape::specs::Fields::within))]
 #[inline(always)]
 pub fn next_integer<'a>(fields: &mut Reader<'a>) -> Result<Integer<'a>, Fault>
     ensures { Takes (λ i. i.octets.now) fields.new result (integer_at fields.old) }
@@ -34,7 +35,7 @@ pub fn next_integer<'a>(fields: &mut Reader<'a>) -> Result<Integer<'a>, Fault>
 }
 
 /// The octets of a BIT STRING without unused bits.
-#[tactic(auto, unfolding(ts_name::specs::Fields::bits_at, ts_name::specs::Names::within))]
+#[tactic(auto, unfolding(ts_shape::specs::Fields::bits_at, ts_shape::specs::Fields::within))]
 #[inline(always)]
 pub fn next_bits<'a>(fields: &mut Reader<'a>) -> Result<&'a [u8], Fault>
     ensures { Takes (λ c. c.now) fields.new result (bits_at fields.old) }
@@ -43,7 +44,7 @@ pub fn next_bits<'a>(fields: &mut Reader<'a>) -> Result<&'a [u8], Fault>
 }
 
 /// A distinguished name.
-#[tactic(auto, unfolding(ts_name::specs::Fields::name_at, ts_name::specs::Names::within))]
+#[tactic(auto, unfolding(ts_name::specs::Names::name_at, ts_shape::specs::Fields::within))]
 #[inline(always)]
 pub fn next_name<'a>(fields: &mut Reader<'a>) -> Result<Name<'a>, Fault>
     ensures { Takes rdns_in fields.new result (name_at fields.old) }
@@ -52,7 +53,7 @@ pub fn next_name<'a>(fields: &mut Reader<'a>) -> Result<Name<'a>, Fault>
 }
 
 /// A distinguished name that may have the octets of another.
-#[tactic(auto, unfolding(ts_name::specs::Fields::name_at, ts_name::specs::Names::within))]
+#[tactic(auto, unfolding(ts_name::specs::Names::name_at, ts_shape::specs::Fields::within))]
 #[inline(always)]
 pub(crate) fn next_name_beside<'a>(
     fields: &mut Reader<'a>,

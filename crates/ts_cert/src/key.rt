@@ -2,7 +2,7 @@
 
 ghost use Rattle.ts_der.specs.Answer.{Answers};
 ghost use Rattle.ts_der.specs.View.{now};
-ghost use Rattle.ts_name.specs.Steps.{Takes};
+ghost use Rattle.ts_shape.specs.Steps.{Takes};
 ghost use Rattle.ts_cert.specs.Reading.{key_of, key_at};
 ghost use Rattle.ts_cert.specs.View.{key_in};
 
@@ -36,7 +36,7 @@ fn read_key<'a>(element: Element<'a>) -> Result<SubjectPublicKeyInfo<'a>, Fault>
 }
 
 /// The key that stands next, which the reader has then passed.
-#[tactic(auto, unfolding(crate::specs::Reading::key_at, ts_name::specs::Names::within))]
+#[tactic(auto, unfolding(crate::specs::Reading::key_at, ts_shape::specs::Fields::within))]
 #[inline(always)]
 pub(crate) fn next_key<'a>(fields: &mut Reader<'a>) -> Result<SubjectPublicKeyInfo<'a>, Fault>
     ensures { Takes key_in fields.new result (key_at fields.old) }

@@ -4,7 +4,7 @@ ghost use Rattle.std.specs.Prelude.{◌≡◌};
 ghost use Rattle.ts_cert.specs.Standings.{fault_within};
 
 use ts_der::{Bits, Element};
-use ts_name::CertFault;
+use ts_shape::CertFault;
 
 /// The offsets at which the fields stand that a version may not have, or would stand.
 #[derive(Clone, Copy)]

@@ -3,8 +3,8 @@
 ghost use Rattle.std.specs.Prelude.{◌≡◌, IfOk, option_map};
 ghost use Rattle.ts_der.specs.Answer.{Answers};
 ghost use Rattle.ts_der.specs.BitsView.{parts_of};
-ghost use Rattle.ts_name.specs.Fields.{optional_of};
-ghost use Rattle.ts_name.specs.Steps.{Takes};
+ghost use Rattle.ts_shape.specs.Fields.{optional_of};
+ghost use Rattle.ts_shape.specs.Steps.{Takes};
 ghost use Rattle.ts_ext.specs.Extension.{explicit_standings_of};
 ghost use Rattle.ts_cert.specs.Reading.{unique_identifier_of, late_fields_at};
 ghost use Rattle.ts_cert.specs.Standings.{standings_within, fault_within};
@@ -13,7 +13,7 @@ ghost use Rattle.ts_cert.specs.View.{late_in};
 use crate::late::{LateFields, Places};
 use ts_der::{Bits, Element, Fault, Reader};
 use ts_ext::{Holder, Judged};
-use ts_name::CertFault;
+use ts_shape::CertFault;
 
 /// The tag of the issuer's unique identifier (RFC 5280 4.1).
 pub(crate) const ISSUER_UNIQUE_ID: u8 = 0x81;
@@ -25,7 +25,7 @@ pub(crate) const SUBJECT_UNIQUE_ID: u8 = 0x82;
 pub(crate) const EXTENSIONS: u8 = 0xA3;
 
 /// A unique identifier, where an element of this tag stands.
-#[tactic(auto, unfolding(crate::specs::Reading::unique_identifier_of, ts_name::specs::Fields::optional_of, ts_der::specs::Reading::optional_at))]
+#[tactic(auto, unfolding(crate::specs::Reading::unique_identifier_of, ts_shape::specs::Fields::optional_of, ts_der::specs::Reading::optional_at))]
 #[inline(always)]
 pub(crate) fn next_unique_id<'a>(
     fields: &mut Reader<'a>,
@@ -40,7 +40,7 @@ pub(crate) fn next_unique_id<'a>(
 }
 
 /// The SEQUENCE of the extensions, where they stand, and the first rule that they break.
-#[tactic(auto, unfolding(ts_name::specs::Fields::optional_of, ts_der::specs::Reading::optional_at, ts_name::specs::Repeats::first_repeated))]
+#[tactic(auto, unfolding(ts_shape::specs::Fields::optional_of, ts_der::specs::Reading::optional_at, ts_shape::specs::Repeats::first_repeated))]
 #[inline(always)]
 fn next_extensions<'a>(
     fields: &mut Reader<'a>,

@@ -1,7 +1,7 @@
 //! A certificate that is kept.
 
 ghost use Rattle.std.specs.Prelude.{◌≡◌, ◌⊎◌, ℕ, List, Some, None, Ok, Err};
-ghost use Rattle.ts_name.specs.declared.fault.CertFault.{CertFault};
+ghost use Rattle.ts_shape.specs.declared.fault.CertFault.{CertFault};
 ghost use Rattle.ts_cert.specs.CertView.{cert_in};
 ghost use Rattle.ts_cert.specs.Reading.{certificate_of};
 ghost use Rattle.ts_cert.specs.Layout.{AreLaidOut};
@@ -17,7 +17,7 @@ use std::alloc::{AllocError, Global};
 use std::error::Error;
 use std::fmt;
 use std::marker::Model;
-use ts_name::CertFault;
+use ts_shape::CertFault;
 
 /// Why a certificate is not kept.
 #[derive(Clone, Copy, Debug, PartialEq, Eq)]

@@ -3,7 +3,7 @@
 use super::*;
 use std::test::Fail;
 use ts_der::DerFault;
-use ts_name::{CertFault, CertRule};
+use ts_shape::{CertFault, CertRule};
 
 /// Serial number 2, issuer CN=R, subject CN=L.
 const L: &[u8] =

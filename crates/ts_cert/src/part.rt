@@ -3,7 +3,7 @@
 ghost use Rattle.std.specs.Prelude.{◌≡◌, ℕ, List, Option, map, option_map};
 ghost use Rattle.ts_der.specs.BitsView.{parts_of};
 ghost use Rattle.ts_name.specs.Canon.{Attr};
-ghost use Rattle.ts_name.specs.Fields.{Within, IsInteger, IsBits};
+ghost use Rattle.ts_shape.specs.Fields.{Within, IsInteger, IsBits};
 ghost use Rattle.ts_name.specs.NameSpelling.{IsName};
 ghost use Rattle.ts_name.specs.NameView.{rdns_in};
 ghost use Rattle.ts_ext.specs.Extension.{Extension, AreExplicit, said};

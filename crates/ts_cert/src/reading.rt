@@ -11,7 +11,7 @@ use crate::certificate::Cert;
 use crate::layout::{Layout, layout_of};
 use crate::shape::read_parts;
 use crate::usual::usual_layout;
-use ts_name::CertFault;
+use ts_shape::CertFault;
 
 /// The layout of any octets that are a certificate, or the first rule that they break.
 #[cold]

@@ -6,7 +6,7 @@ ghost use Rattle.ts_cert.specs.View.{late_in};
 
 use crate::late::LateFields;
 use crate::version::Version;
-use ts_name::{CertFault, CertRule};
+use ts_shape::{CertFault, CertRule};
 
 /// `ExtensionsInOldVersion`, where a field stands that may not.
 fn must_lack<T>(field: &Option<T>, at: usize) -> Option<CertFault>

@@ -13,7 +13,7 @@ use crate::parts::Parts;
 use crate::rules::broken_rule;
 use crate::tbs::read_tbs;
 use ts_der::{DerFault, Element, Reader};
-use ts_name::{CertFault, CertRule};
+use ts_shape::{CertFault, CertRule};
 
 /// The parts that a SEQUENCE holds, of which the two algorithm identifiers have not been compared.
 #[tactic(auto, unfolding(crate::specs::Reading::signed_of))]

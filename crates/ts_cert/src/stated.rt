@@ -5,7 +5,7 @@ ghost use Rattle.std.specs.Prelude.{◌≡◌, map, option_map};
 ghost use Rattle.ts_der.specs.Answer.{Answers};
 ghost use Rattle.ts_der.specs.BitsView.{parts_of, bits_in};
 ghost use Rattle.ts_der.specs.View.{now};
-ghost use Rattle.ts_name.specs.Items.{alone, tagged_as as tagged_as_of};
+ghost use Rattle.ts_shape.specs.Items.{alone, tagged_as as tagged_as_of};
 ghost use Rattle.ts_ext.specs.declared.known.Known.TheVariants as extension;
 ghost use Rattle.ts_ext.specs.AuthorityKey.{octets_of, authority_key_of};
 ghost use Rattle.ts_ext.specs.Extension.{said};
@@ -29,10 +29,10 @@ use ts_ext::{
     DistributionPoints, ExtendedKeyUsage, Extensions, KeyUsage, Known, NameConstraints,
     PolicyConstraints, PolicyMappings, SkipCerts,
 };
-use ts_name::tagged_as;
+use ts_shape::tagged_as;
 
 /// The one element within another, which has this tag.
-#[tactic(auto, unfolding(ts_name::specs::Items::alone, ts_name::specs::Items::each))]
+#[tactic(auto, unfolding(ts_shape::specs::Items::alone, ts_shape::specs::Items::each))]
 fn element_within<'a>(octets: Element<'a>, tag: u8) -> Result<Element<'a>, Fault>
     ensures { Answers now result (alone (tagged_as_of tag) (now octets.entry)) }
 {

@@ -13,7 +13,8 @@ use crate::late_reading::read_late_fields;
 use crate::time::{Period, next_validity};
 use crate::version::{Version, next_version};
 use ts_der::{Element, Integer};
-use ts_name::{CertFault, Name};
+use ts_name::Name;
+use ts_shape::CertFault;
 
 /// The fields that are signed, in the order of the standard (RFC 5280 4.1.2).
 #[derive(Clone, Copy)]

@@ -2,7 +2,7 @@
 
 ghost use Rattle.ts_der.specs.Answer.{Answers};
 ghost use Rattle.ts_der.specs.View.{now};
-ghost use Rattle.ts_name.specs.Steps.{Takes};
+ghost use Rattle.ts_shape.specs.Steps.{Takes};
 ghost use Rattle.ts_cert.specs.Time.{time_of, time_at, validity_of};
 ghost use Rattle.ts_cert.specs.Reading.{validity_at};
 
@@ -149,7 +149,7 @@ fn read_validity(element: Element<'_>) -> Result<Validity, Fault>
 }
 
 /// The period that stands next, which the reader has then passed.
-#[tactic(auto, unfolding(crate::specs::Reading::validity_at, ts_name::specs::Names::within))]
+#[tactic(auto, unfolding(crate::specs::Reading::validity_at, ts_shape::specs::Fields::within))]
 #[inline(always)]
 pub(crate) fn next_validity(fields: &mut Reader<'_>) -> Result<Validity, Fault>
     ensures { Takes (λ v. v) fields.new result (validity_at fields.old) }

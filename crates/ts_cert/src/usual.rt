@@ -4,7 +4,7 @@
 ghost use Rattle.std.specs.Prelude.{◌≡◌, ◌≤◌, ◌+◌, IfSome, List, Option, length, true, unwrap_or, [], ℕ};
 ghost use Rattle.ts_der.specs.Integer.{is_shortest};
 ghost use Rattle.ts_der.specs.Stands.{HavePart};
-ghost use Rattle.ts_name.specs.Fields.{Within, IsOid, IsInteger, IsBits};
+ghost use Rattle.ts_shape.specs.Fields.{Within, IsOid, IsInteger, IsBits};
 ghost use Rattle.ts_name.specs.NameSpelling.{IsName};
 ghost use Rattle.ts_cert.specs.Layout.{Spans, AreLaidOut, AreSoundExplicit, IsRepeated, IsVersion3};
 ghost use Rattle.ts_cert.specs.Spelling.{AreParameters, IsTime, IsAlgorithm, IsValidity, IsKeyInfo};

@@ -4,11 +4,11 @@ ghost use Rattle.std.specs.Prelude.{◌≡◌};
 ghost use Rattle.ts_der.specs.Answer.{Answers};
 ghost use Rattle.ts_der.specs.View.{now};
 ghost use Rattle.ts_cert.specs.Version.{number_of, version_of, version_at};
-ghost use Rattle.ts_name.specs.Steps.{TakesIn};
+ghost use Rattle.ts_shape.specs.Steps.{TakesIn};
 
 use crate::fields::INTEGER;
 use ts_der::{DerFault, Element, Reader};
-use ts_name::{CertFault, CertRule};
+use ts_shape::{CertFault, CertRule};
 
 /// The tag of the version, which is explicit (RFC 5280 4.1).
 pub(crate) const VERSION: u8 = 0xA0;

@@ -6,10 +6,10 @@ use Rattle.std.proofs.lemmas.Slice.Eq.{bytes_eq-Decides}
 use Rattle.ts_der.specs.Answer.{◌>>=◌}
 use Rattle.ts_der.specs.Octets.{AreOctets}
 use Rattle.ts_der.proofs.Laws.{bind_ok, ok_is}
-use Rattle.ts_name.specs.declared.fault.CertRule.TheVariants.{AlgorithmMismatch}
-use Rattle.ts_name.specs.declared.fault.CertFault.{CertFault}
-use Rattle.ts_name.specs.Fault.{breaks}
-use Rattle.ts_name.specs.Shape.{◌or_else◌}
+use Rattle.ts_shape.specs.declared.fault.CertRule.TheVariants.{AlgorithmMismatch}
+use Rattle.ts_shape.specs.declared.fault.CertFault.{CertFault}
+use Rattle.ts_shape.specs.Fault.{breaks}
+use Rattle.ts_shape.specs.Shape.{◌or_else◌}
 use Rattle.ts_cert.specs.Certificate.{Algorithm}
 use Rattle.ts_cert.proofs.Certificates.{one-algorithm}
 use Rattle.ts_crl.specs.List.{StandingList, CertificateList, said_list}

@@ -8,13 +8,13 @@ use Rattle.ts_der.specs.Answer.{◌>>=◌}
 use Rattle.ts_der.specs.Element.{Place, Tlv, inside}
 use Rattle.ts_der.specs.Reading.{end_at, many}
 use Rattle.ts_der.proofs.Laws.{bind_ok, ok_is}
-use Rattle.ts_name.specs.Fields.{Within, integer_at, optional_of}
-use Rattle.ts_name.specs.Items.{each, alone, of_tag, some_of}
-use Rattle.ts_name.proofs.FieldParts.{integer-part}
-use Rattle.ts_name.proofs.ItemParts.{tag-part, alone-found, alone-again, many-found, many-again}
-use Rattle.ts_name.proofs.OptionalParts.{optional-found, optional-again}
-use Rattle.ts_name.proofs.Parts.{Value, took}
-use Rattle.ts_name.proofs.Shapes.{end-ok, end-again}
+use Rattle.ts_shape.specs.Fields.{Within, integer_at, optional_of}
+use Rattle.ts_shape.specs.Items.{each, alone, of_tag, some_of}
+use Rattle.ts_shape.proofs.FieldParts.{integer-part}
+use Rattle.ts_shape.proofs.ItemParts.{tag-part, alone-found, alone-again, many-found, many-again}
+use Rattle.ts_shape.proofs.OptionalParts.{optional-found, optional-again}
+use Rattle.ts_shape.proofs.Parts.{Value, took}
+use Rattle.ts_shape.proofs.Endings.{end-ok, end-again}
 use Rattle.ts_cert.specs.declared.time.Time.{Time}
 use Rattle.ts_cert.specs.Time.{time_at}
 use Rattle.ts_cert.proofs.Periods.{time-part}

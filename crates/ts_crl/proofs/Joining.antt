@@ -8,12 +8,12 @@ use Rattle.ts_der.specs.Element.{Place, Tlv, inside}
 use Rattle.ts_der.specs.Reading.{end_at}
 use Rattle.ts_der.proofs.Laws.{ok_is}
 use Rattle.ts_der.proofs.Many.{with_front}
-use Rattle.ts_name.specs.declared.fault.CertFault.{CertFault}
-use Rattle.ts_name.specs.Fields.{integer_at, optional_of}
-use Rattle.ts_name.specs.Items.{some_of, items_at}
-use Rattle.ts_name.specs.Repeats.{first_repeated}
-use Rattle.ts_name.specs.Shape.{◌or_else◌}
-use Rattle.ts_name.proofs.ItemParts.{some-walked}
+use Rattle.ts_shape.specs.declared.fault.CertFault.{CertFault}
+use Rattle.ts_shape.specs.Fields.{integer_at, optional_of}
+use Rattle.ts_shape.specs.Items.{some_of, items_at}
+use Rattle.ts_shape.specs.Repeats.{first_repeated}
+use Rattle.ts_shape.specs.Shape.{◌or_else◌}
+use Rattle.ts_shape.proofs.ItemParts.{some-walked}
 use Rattle.ts_cert.specs.declared.time.Time.{Time}
 use Rattle.ts_cert.specs.Time.{time_at}
 use Rattle.ts_ext.specs.declared.known.Holder.TheVariants.{Entry}

@@ -8,17 +8,20 @@ use Rattle.ts_der.specs.Element.{Place, Tlv, inside}
 use Rattle.ts_der.specs.Integer.{integer_rules}
 use Rattle.ts_der.proofs.Laws.{ok_is}
 use Rattle.ts_der.specs.Reading.{element_of, behind, begins_with, element_at, value_at, optional_at, end_at, many}
-use Rattle.ts_name.specs.declared.fault.CertRule.{CertRule}
-use Rattle.ts_name.specs.declared.fault.CertRule.TheVariants.{Der, Version}
-use Rattle.ts_name.specs.declared.fault.CertFault.{CertFault}
-use Rattle.ts_name.specs.Fault.{der, breaks}
-use Rattle.ts_name.specs.Fields.{integer_at, bits_at, name_at, optional_of}
-use Rattle.ts_name.specs.Items.{each, of_tag}
-use Rattle.ts_name.specs.Rows.{object_identifier, integer, bit_string, name}
-use Rattle.ts_name.specs.Shape.{any, optional, Shape, items, nothing, plain, ◌then◌, ◌or_else◌, header_fault, row_fault, judge, der_rules, no_rules, one_rule, sequence}
-use Rattle.ts_name.proofs.ItemParts.{tag-reads, alone-judged}
-use Rattle.ts_name.proofs.Judging.{Judged, weaker, bind, no_more, no_less, element-judged, then-judged, end-judged, under, ends, value-judged, Whatever, integer-reads, bits-reads, name-reads, items-judged}
-use Rattle.ts_name.proofs.OptionalParts.{optional-judged}
+use Rattle.ts_shape.specs.declared.fault.CertRule.{CertRule}
+use Rattle.ts_shape.specs.declared.fault.CertRule.TheVariants.{Der, Version}
+use Rattle.ts_shape.specs.declared.fault.CertFault.{CertFault}
+use Rattle.ts_shape.specs.Fault.{der, breaks}
+use Rattle.ts_shape.specs.Fields.{integer_at, bits_at, optional_of}
+use Rattle.ts_name.specs.Names.{name_at}
+use Rattle.ts_shape.specs.Items.{each, of_tag}
+use Rattle.ts_shape.specs.Rows.{object_identifier, integer, bit_string}
+use Rattle.ts_name.specs.NameRows.{name}
+use Rattle.ts_shape.specs.Shape.{any, optional, Shape, items, nothing, plain, ◌then◌, ◌or_else◌, header_fault, row_fault, judge, der_rules, no_rules, one_rule, sequence}
+use Rattle.ts_shape.proofs.ItemParts.{tag-reads, alone-judged}
+use Rattle.ts_shape.proofs.Judging.{Judged, weaker, bind, no_more, no_less, element-judged, then-judged, end-judged, under, ends, value-judged, Whatever, integer-reads, bits-reads, items-judged}
+use Rattle.ts_name.proofs.NameJudging.{name-reads}
+use Rattle.ts_shape.proofs.OptionalParts.{optional-judged}
 use Rattle.ts_cert.specs.Reading.{algorithm_of, algorithm_at}
 use Rattle.ts_cert.specs.Table.{algorithm_identifier, time, from_front}
 use Rattle.ts_cert.specs.Time.{time_at}

@@ -1,10 +1,10 @@
 -- Where the first rule of extensions that is broken is none, they keep the rules, and the other way round.
 use Rattle.std.proofs.Common.{◌≡◌, ℕ, Bool, true, false, cond, List, [], ◌∷◌, Option, Some, None, refl, sym, ap, subst, ◌∙◌}
 use Rattle.std.specs.Prelude.{map, option_map, unwrap_or}
-use Rattle.ts_name.specs.declared.fault.CertRule.TheVariants.{DuplicateExtension}
-use Rattle.ts_name.specs.Fault.{breaks}
-use Rattle.ts_name.specs.Repeats.{is_among, first_repeated}
-use Rattle.ts_name.specs.Shape.{◌or_else◌}
+use Rattle.ts_shape.specs.declared.fault.CertRule.TheVariants.{DuplicateExtension}
+use Rattle.ts_shape.specs.Fault.{breaks}
+use Rattle.ts_shape.specs.Repeats.{is_among, first_repeated}
+use Rattle.ts_shape.specs.Shape.{◌or_else◌}
 use Rattle.ts_ext.specs.declared.known.Holder.{Holder}
 use Rattle.ts_ext.specs.declared.known.Holder.TheVariants.{List as ListHolder, Entry}
 use Rattle.ts_ext.specs.Extension.{Standing, said}

@@ -13,15 +13,17 @@ use Rattle.ts_der.specs.Rules.{value_unless}
 use Rattle.ts_der.specs.View.{StandsIfAny}
 use Rattle.ts_der.proofs.OctetLists.{AreOctets-back}
 use Rattle.ts_der.proofs.Laws.{bind_ok, ok_is, element-only, optional-found as element-if-any}
-use Rattle.ts_name.specs.declared.fault.CertRule.TheVariants.{Der, Version}
-use Rattle.ts_name.specs.declared.fault.CertFault.{CertFault}
+use Rattle.ts_shape.specs.declared.fault.CertRule.TheVariants.{Der, Version}
+use Rattle.ts_shape.specs.declared.fault.CertFault.{CertFault}
 use Rattle.ts_name.specs.Canon.{Attr}
-use Rattle.ts_name.specs.Fault.{der, breaks}
-use Rattle.ts_name.specs.Fields.{Within, bits_at, name_at, optional_of}
-use Rattle.ts_name.proofs.FieldParts.{bits-part, name-part}
-use Rattle.ts_name.proofs.OptionalParts.{begins-if-any, optional-found, optional-again}
-use Rattle.ts_name.proofs.Parts.{took, element-took, der-ok}
-use Rattle.ts_name.proofs.Shapes.{end-ok, end-again}
+use Rattle.ts_shape.specs.Fault.{der, breaks}
+use Rattle.ts_shape.specs.Fields.{Within, bits_at, optional_of}
+use Rattle.ts_name.specs.Names.{name_at}
+use Rattle.ts_shape.proofs.FieldParts.{bits-part}
+use Rattle.ts_name.proofs.NameParts.{name-part}
+use Rattle.ts_shape.proofs.OptionalParts.{begins-if-any, optional-found, optional-again}
+use Rattle.ts_shape.proofs.Parts.{took, element-took, der-ok}
+use Rattle.ts_shape.proofs.Endings.{end-ok, end-again}
 use Rattle.ts_cert.specs.declared.time.Time.{Time}
 use Rattle.ts_cert.specs.Certificate.{Algorithm}
 use Rattle.ts_cert.specs.Reading.{algorithm_of, algorithm_at}

@@ -12,9 +12,8 @@ use Rattle.ts_der.specs.Integer.{is_shortest, integer_rules}
 use Rattle.ts_der.specs.Reading.{is_end, next_at, element_at, value_at, end_at, located, many_from, many}
 use Rattle.ts_der.specs.Rules.{value_unless}
 use Rattle.ts_der.proofs.Laws.{bind_ok, ok_is}
-use Rattle.ts_name.specs.Fields.{integer_at, optional_of}
-use Rattle.ts_name.specs.Items.{each, tagged_as, of_tag, first_then, upto_from, items_at}
-use Rattle.ts_name.specs.Names.{within}
+use Rattle.ts_shape.specs.Fields.{integer_at, optional_of, within}
+use Rattle.ts_shape.specs.Items.{each, tagged_as, of_tag, first_then, upto_from, items_at}
 use Rattle.ts_cert.specs.Time.{time_at}
 use Rattle.ts_crl.specs.declared.entry.Entry.{Entry}
 use Rattle.ts_crl.specs.Entries.{has_serial}

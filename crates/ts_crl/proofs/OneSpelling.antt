@@ -1,6 +1,6 @@
 -- No two lists of octets are the fields of one list.
 use Rattle.std.proofs.Common.{◌≡◌, ℕ, List, Option, Some, None, refl, sym, ◌∙◌}
-use Rattle.ts_name.specs.Fields.{Within, IsInteger}
+use Rattle.ts_shape.specs.Fields.{Within, IsInteger}
 use Rattle.ts_name.specs.NameSpelling.{IsName}
 use Rattle.ts_cert.specs.declared.time.Time.{Time}
 use Rattle.ts_cert.proofs.OneSpelling.{One, one-within, one-algorithm, one-name, one-time, one-if-any, one-items, one-extension, one-explicit}

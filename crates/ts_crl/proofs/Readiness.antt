@@ -9,11 +9,11 @@ use Rattle.ts_der.specs.Reading.{begins_with, is_end, next_at, element_at, end_a
 use Rattle.ts_der.proofs.Elements.{next-found}
 use Rattle.ts_der.proofs.Laws.{bind_ok, ok_is}
 use Rattle.ts_der.proofs.OctetLists.{AreOctets-part, AreOctets-back}
-use Rattle.ts_name.specs.Fields.{integer_at, optional_of}
-use Rattle.ts_name.specs.Items.{each, alone, tagged_as, of_tag, some_of, items_at}
-use Rattle.ts_name.proofs.FieldParts.{integer-part}
-use Rattle.ts_name.proofs.ItemParts.{some-walked}
-use Rattle.ts_name.proofs.Parts.{took, element-took}
+use Rattle.ts_shape.specs.Fields.{integer_at, optional_of}
+use Rattle.ts_shape.specs.Items.{each, alone, tagged_as, of_tag, some_of, items_at}
+use Rattle.ts_shape.proofs.FieldParts.{integer-part}
+use Rattle.ts_shape.proofs.ItemParts.{some-walked}
+use Rattle.ts_shape.proofs.Parts.{took, element-took}
 use Rattle.ts_cert.specs.Time.{time_at}
 use Rattle.ts_cert.proofs.Periods.{time-part}
 use Rattle.ts_ext.specs.Extension.{Standing, standing_in}

@@ -6,9 +6,8 @@ use Rattle.ts_der.specs.Answer.{◌>>=◌}
 use Rattle.ts_der.specs.Element.{Place, Tlv, inside}
 use Rattle.ts_der.specs.Reading.{begins_with, is_end, next_at, element_at, value_at, end_at, many_from, many}
 use Rattle.ts_der.proofs.Laws.{ok_is}
-use Rattle.ts_name.specs.Names.{some_rules}
-use Rattle.ts_name.specs.Fields.{optional_of}
-use Rattle.ts_name.specs.Items.{each, alone, tagged_as, of_tag, some_of}
+use Rattle.ts_shape.specs.Items.{some_rules, each, alone, tagged_as, of_tag, some_of}
+use Rattle.ts_shape.specs.Fields.{optional_of}
 
 -- what is read, and then what it says
 abbrev pub say : {A B : Type 0} → (A → B) → Result A Fault → Result B Fault

@@ -10,13 +10,13 @@ use Rattle.ts_der.specs.Element.{Place, Tlv}
 use Rattle.ts_der.specs.Header.{header_rules, tag_of}
 use Rattle.ts_der.specs.Reading.{unless, fault_at, begins_with, element_of, behind, next_at, element_at}
 use Rattle.ts_der.proofs.Laws.{bind_ok, ok_is}
-use Rattle.ts_name.specs.declared.fault.CertFault.{CertFault}
-use Rattle.ts_name.specs.Fault.{der}
-use Rattle.ts_name.specs.Fields.{optional_of}
-use Rattle.ts_name.specs.Shape.{optional, Shape, ◌then◌, ◌or_else◌, header_fault, row_fault, judge}
-use Rattle.ts_name.proofs.Judging.{Judged, bind}
-use Rattle.ts_name.proofs.OptionalParts.{begins-within, begins-other}
-use Rattle.ts_name.proofs.Parts.{took}
+use Rattle.ts_shape.specs.declared.fault.CertFault.{CertFault}
+use Rattle.ts_shape.specs.Fault.{der}
+use Rattle.ts_shape.specs.Fields.{optional_of}
+use Rattle.ts_shape.specs.Shape.{optional, Shape, ◌then◌, ◌or_else◌, header_fault, row_fault, judge}
+use Rattle.ts_shape.proofs.Judging.{Judged, bind}
+use Rattle.ts_shape.proofs.OptionalParts.{begins-within, begins-other}
+use Rattle.ts_shape.proofs.Parts.{took}
 use Rattle.ts_cert.specs.declared.time.Time.{Time}
 use Rattle.ts_cert.specs.declared.time.TimeForm.{TimeForm}
 use Rattle.ts_cert.specs.declared.time.TimeForm.TheVariants.{Utc, General}

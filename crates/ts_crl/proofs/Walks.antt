@@ -4,8 +4,8 @@ use Rattle.ts_der.specs.declared.fault.Fault.{Fault}
 use Rattle.ts_der.specs.Answer.{refusal}
 use Rattle.ts_der.specs.Element.{Place, Tlv}
 use Rattle.ts_der.specs.Reading.{many}
-use Rattle.ts_name.specs.Items.{each, items_at}
-use Rattle.ts_name.proofs.ItemParts.{walk-all}
+use Rattle.ts_shape.specs.Items.{each, items_at}
+use Rattle.ts_shape.proofs.ItemParts.{walk-all}
 
 pub many-walked : {A : Type 0} (value : Tlv → Result A Fault) (here : Place) → None ≡ refusal (many (each value) here) → many (each value) here ≡ Ok (items_at value here)
 many-walked {A} value here ok = by_items (many (each value) here) refl ok

@@ -2,7 +2,7 @@
 use Rattle.std.specs.Prelude.{List, map, option_map}
 use Rattle.ts_der.specs.Element.{inside}
 use Rattle.ts_der.specs.View.{now}
-use Rattle.ts_name.specs.Items.{items_at}
+use Rattle.ts_shape.specs.Items.{items_at}
 use Rattle.ts_cert.specs.Period.{time_in}
 use Rattle.ts_ext.specs.declared.extension.Extension.{Extension as Lent}
 use Rattle.ts_ext.specs.Extension.{Extension, Standing, said, standing_in}

@@ -2,9 +2,9 @@
 -- without (RFC 5280 5, 6.3).
 use Rattle.std.specs.Prelude.{◌≡◌, ℕ, List, ◌++◌, codes, Result, Ok, Err}
 use Rattle.std.specs.Fmt.{decimal}
-use Rattle.ts_name.specs.declared.fault.CertFault.{CertFault}
-use Rattle.ts_name.specs.Fault.{code_of}
-use Rattle.ts_name.specs.Printed.{rule_name}
+use Rattle.ts_shape.specs.declared.fault.CertFault.{CertFault}
+use Rattle.ts_shape.specs.Fault.{code_of}
+use Rattle.ts_shape.specs.Printed.{rule_name}
 use Rattle.ts_crl.specs.declared.fault.CrlFault.{CrlFault}
 use Rattle.ts_crl.specs.declared.fault.CrlFault.TheVariants as lent
 

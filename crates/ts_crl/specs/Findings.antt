@@ -4,8 +4,8 @@ use Rattle.std.specs.Prelude.{◌≡◌, ℕ, ◌||◌, Bool, List, [], length, 
 use Rattle.std.specs.List.{list_any}
 use Rattle.ts_der.specs.declared.fault.Fault.{Fault}
 use Rattle.ts_der.specs.Element.{Place}
-use Rattle.ts_name.specs.declared.fault.CertFault.{CertFault}
-use Rattle.ts_name.specs.Shape.{◌or_else◌}
+use Rattle.ts_shape.specs.declared.fault.CertFault.{CertFault}
+use Rattle.ts_shape.specs.Shape.{◌or_else◌}
 use Rattle.ts_ext.specs.declared.known.Holder.TheVariants.{Entry}
 use Rattle.ts_ext.specs.declared.known.Known.TheVariants.{CertificateIssuer}
 use Rattle.ts_ext.specs.Extension.{Standing, said}

@@ -2,7 +2,7 @@
 -- (RFC 5280 5.1.2.5, 5.2, 5.3).
 use Rattle.std.specs.Prelude.{ℕ, ◌&&◌, ◌||◌, Bool, true, false, List, [], ◌∷◌, Option, Some, None, is_none, option_map, if◌then◌else◌}
 use Rattle.std.specs.List.{find, list_any}
-use Rattle.ts_name.specs.Shape.{◌or_else◌}
+use Rattle.ts_shape.specs.Shape.{◌or_else◌}
 use Rattle.ts_ext.specs.declared.known.Holder.{Holder}
 use Rattle.ts_ext.specs.declared.known.Holder.TheVariants.{List as ListHolder, Entry}
 use Rattle.ts_ext.specs.declared.known.Known.TheVariants.{DeltaCrlIndicator, IssuingDistributionPoint, CertificateIssuer}

@@ -6,11 +6,12 @@ use Rattle.ts_der.specs.declared.fault.Fault.{Fault}
 use Rattle.ts_der.specs.Answer.{◌>>=◌}
 use Rattle.ts_der.specs.Element.{Place, Tlv, inside}
 use Rattle.ts_der.specs.Reading.{element_at, end_at, many}
-use Rattle.ts_name.specs.declared.fault.CertRule.TheVariants.{Der}
-use Rattle.ts_name.specs.declared.fault.CertFault.{CertFault}
-use Rattle.ts_name.specs.Fault.{der, breaks}
-use Rattle.ts_name.specs.Fields.{integer_at, bits_at, name_at, optional_of}
-use Rattle.ts_name.specs.Items.{each, alone, of_tag, some_of}
+use Rattle.ts_shape.specs.declared.fault.CertRule.TheVariants.{Der}
+use Rattle.ts_shape.specs.declared.fault.CertFault.{CertFault}
+use Rattle.ts_shape.specs.Fault.{der, breaks}
+use Rattle.ts_shape.specs.Fields.{integer_at, bits_at, optional_of}
+use Rattle.ts_name.specs.Names.{name_at}
+use Rattle.ts_shape.specs.Items.{each, alone, of_tag, some_of}
 use Rattle.ts_cert.specs.declared.time.Time.{Time}
 use Rattle.ts_cert.specs.Reading.{algorithm_of, algorithm_at}
 use Rattle.ts_cert.specs.Time.{time_of, time_at}

@@ -1,11 +1,11 @@
 -- Rules of the extensions of a list and of its entries, whose places count (RFC 5280 4.2, 5.1.2.1, 5.2, 5.3).
 use Rattle.std.specs.Prelude.{◌≡◌, List, [], ◌∷◌, Option, Some, None, unwrap_or, if◌then◌else◌}
 use Rattle.std.specs.Str.{bytes_eq}
-use Rattle.ts_name.specs.declared.fault.CertFault.{CertFault}
-use Rattle.ts_name.specs.declared.fault.CertRule.TheVariants.{AlgorithmMismatch, ExtensionsInOldVersion}
-use Rattle.ts_name.specs.Fault.{breaks}
-use Rattle.ts_name.specs.Repeats.{first_repeated}
-use Rattle.ts_name.specs.Shape.{◌or_else◌}
+use Rattle.ts_shape.specs.declared.fault.CertFault.{CertFault}
+use Rattle.ts_shape.specs.declared.fault.CertRule.TheVariants.{AlgorithmMismatch, ExtensionsInOldVersion}
+use Rattle.ts_shape.specs.Fault.{breaks}
+use Rattle.ts_shape.specs.Repeats.{first_repeated}
+use Rattle.ts_shape.specs.Shape.{◌or_else◌}
 use Rattle.ts_ext.specs.declared.known.Holder.{Holder}
 use Rattle.ts_ext.specs.declared.known.Holder.TheVariants.{List as ListHolder, Entry}
 use Rattle.ts_ext.specs.Extension.{Extension}

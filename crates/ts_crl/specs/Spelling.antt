@@ -3,8 +3,8 @@
 use Rattle.std.specs.Prelude.{◌≡◌, ℕ, ◌≤◌, List, [], ◌∷◌, ◌++◌, length, Option, Some, None}
 use Rattle.ts_der.specs.Element.{spell}
 use Rattle.ts_name.specs.NameSpelling.{IsName}
-use Rattle.ts_name.specs.Fields.{Within, IfAny, IsInteger, IsBits}
-use Rattle.ts_name.specs.Items.{AreItems}
+use Rattle.ts_shape.specs.Fields.{Within, IfAny, IsInteger, IsBits}
+use Rattle.ts_shape.specs.Items.{AreItems}
 use Rattle.ts_cert.specs.declared.time.Time.{Time}
 use Rattle.ts_cert.specs.Spelling.{IsTime, IsAlgorithm}
 use Rattle.ts_ext.specs.Extension.{AreExtensions}

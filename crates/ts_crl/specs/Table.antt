@@ -4,11 +4,12 @@ use Rattle.std.specs.Prelude.{ℕ, ◌==◌, not, nat_lt, Bool, false, List, [],
 use Rattle.ts_der.specs.declared.fault.DerFault.TheVariants.{TooLarge}
 use Rattle.ts_der.specs.Answer.{◌>>=◌}
 use Rattle.ts_der.specs.Integer.{integer_rules}
-use Rattle.ts_name.specs.declared.fault.CertRule.TheVariants.{Der, Version}
-use Rattle.ts_name.specs.declared.fault.CertFault.{CertFault}
-use Rattle.ts_name.specs.Fault.{breaks}
-use Rattle.ts_name.specs.Shape.{ContentRules, Row, Shape, optional, tagged, no_other, items, nothing, ◌then◌, ◌or_else◌, judge, der_rules, no_rules, one_rule, primitive, sequence}
-use Rattle.ts_name.specs.Rows.{integer, bit_string, name}
+use Rattle.ts_shape.specs.declared.fault.CertRule.TheVariants.{Der, Version}
+use Rattle.ts_shape.specs.declared.fault.CertFault.{CertFault}
+use Rattle.ts_shape.specs.Fault.{breaks}
+use Rattle.ts_shape.specs.Shape.{ContentRules, Row, Shape, optional, tagged, no_other, items, nothing, ◌then◌, ◌or_else◌, judge, der_rules, no_rules, one_rule, primitive, sequence}
+use Rattle.ts_shape.specs.Rows.{integer, bit_string}
+use Rattle.ts_name.specs.NameRows.{name}
 use Rattle.ts_cert.specs.Table.{algorithm_identifier, time, from_front}
 use Rattle.ts_ext.specs.Extension.{extensions as extension_items}
 use Rattle.ts_ext.specs.Table.{list_rules}

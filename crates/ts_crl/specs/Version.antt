@@ -4,9 +4,9 @@ use Rattle.ts_der.specs.Answer.{◌>>=◌}
 use Rattle.ts_der.specs.Element.{Place, Tlv}
 use Rattle.ts_der.specs.Reading.{optional_at, value_at}
 use Rattle.ts_der.specs.Integer.{integer_rules}
-use Rattle.ts_name.specs.declared.fault.CertRule.TheVariants.{Version}
-use Rattle.ts_name.specs.declared.fault.CertFault.{CertFault}
-use Rattle.ts_name.specs.Fault.{der, breaks}
+use Rattle.ts_shape.specs.declared.fault.CertRule.TheVariants.{Version}
+use Rattle.ts_shape.specs.declared.fault.CertFault.{CertFault}
+use Rattle.ts_shape.specs.Fault.{der, breaks}
 use Rattle.ts_crl.specs.declared.version.ListVersion.{ListVersion}
 use Rattle.ts_crl.specs.declared.version.ListVersion.TheVariants.{V1, V2}
 

@@ -6,9 +6,9 @@ ghost use Rattle.std.specs.Str.{bytes_eq};
 ghost use Rattle.ts_der.specs.Answer.{Answers};
 ghost use Rattle.ts_der.specs.Element.{inside};
 ghost use Rattle.ts_der.specs.View.{now};
-ghost use Rattle.ts_name.specs.Fields.{optional_of};
-ghost use Rattle.ts_name.specs.Items.{items_at};
-ghost use Rattle.ts_name.specs.Steps.{Takes};
+ghost use Rattle.ts_shape.specs.Fields.{optional_of};
+ghost use Rattle.ts_shape.specs.Items.{items_at};
+ghost use Rattle.ts_shape.specs.Steps.{Takes};
 ghost use Rattle.ts_crl.specs.Entries.{has_serial};
 ghost use Rattle.ts_crl.specs.EntryView.{entry_in as said_in, entries_in, revoked_in};
 ghost use Rattle.ts_crl.specs.Findings.{Finds};
@@ -23,7 +23,7 @@ use crate::mark::Mark;
 use crate::noting::note_next;
 use crate::revoked::Revoked;
 use ts_der::{Element, Fault, Integer, Reader};
-use ts_name::{FromElement, SequenceItems};
+use ts_shape::{FromElement, SequenceItems};
 
 const SEQUENCE: u8 = 0x30;
 
@@ -79,7 +79,7 @@ fn read_revoked<'a>(element: Element<'a>) -> Result<Revoked<'a>, Fault>
 }
 
 /// The entries, where they stand next.
-#[tactic(auto, unfolding(ts_name::specs::Fields::optional_of, ts_der::specs::Reading::optional_at))]
+#[tactic(auto, unfolding(ts_shape::specs::Fields::optional_of, ts_der::specs::Reading::optional_at))]
 pub(crate) fn next_revoked_if_any<'a>(fields: &mut Reader<'a>) -> Result<Option<Revoked<'a>>, Fault>
     ensures { Takes (option_map revoked_in) fields.new result (optional_of 0x30 revoked_of fields.old) }
 {

@@ -12,7 +12,7 @@ use crate::values::value_if_any;
 use ts_cert::{Stamp, Time, next_integer, next_time};
 use ts_der::{Element, Fault, Integer};
 use ts_ext::{Ext, Extensions, Holder, InvalidityDate, Known, ReasonCode};
-use ts_name::{FromElement, tagged_as};
+use ts_shape::{FromElement, tagged_as};
 
 const SEQUENCE: u8 = 0x30;
 
@@ -36,7 +36,7 @@ impl<'a> FromElement<'a> for Entry<'a> {
 
     ghost key_of = { λ e. e.userCertificate };
 
-    #[tactic(auto, unfolding(ts_name::specs::Items::of_tag))]
+    #[tactic(auto, unfolding(ts_shape::specs::Items::of_tag))]
     fn read(element: Element<'a>) -> Result<Entry<'a>, Fault> {
         read_entry(tagged_as(element, SEQUENCE)?)
     }

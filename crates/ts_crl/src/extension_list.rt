@@ -3,14 +3,14 @@
 ghost use Rattle.std.specs.Prelude.{◌≡◌};
 ghost use Rattle.ts_der.specs.Answer.{Answers};
 ghost use Rattle.ts_der.specs.View.{now};
-ghost use Rattle.ts_name.specs.Items.{some_of};
+ghost use Rattle.ts_shape.specs.Items.{some_of};
 ghost use Rattle.ts_ext.specs.Extension.{standing_in};
 ghost use Rattle.ts_ext.specs.ExtensionView.{standings_in};
 ghost use Rattle.ts_crl.specs.EntryView.{listed_in};
 
 use ts_der::{Element, Fault};
 use ts_ext::{Extension, Extensions};
-use ts_name::SequenceOf;
+use ts_shape::SequenceOf;
 
 /// One extension or more. The language's borrow checker can't hand on a struct that holds `Extensions`, so that this
 /// keeps the SEQUENCE alone.

@@ -5,7 +5,7 @@ ghost use Rattle.ts_crl.specs.Fault.{fault_in, fault_code, fault_text};
 
 use std::error::Error;
 use std::fmt;
-use ts_name::CertFault;
+use ts_shape::CertFault;
 
 /// The first rule that a list breaks. The last five are of this profile, and have no place.
 #[derive(Clone, Copy, Debug, PartialEq, Eq)]

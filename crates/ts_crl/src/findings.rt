@@ -2,7 +2,7 @@
 
 ghost use Rattle.std.specs.Prelude.{◌≡◌, ◌||◌, [], ◌∷◌};
 ghost use Rattle.std.specs.Option.{option_copied};
-ghost use Rattle.ts_name.specs.Shape.{◌or_else◌};
+ghost use Rattle.ts_shape.specs.Shape.{◌or_else◌};
 ghost use Rattle.ts_ext.specs.declared.known.Holder.TheVariants.{Entry as EntryHolder};
 ghost use Rattle.ts_ext.specs.declared.known.Known.TheVariants.{CertificateIssuer};
 ghost use Rattle.ts_ext.specs.ExtensionView.{standing_as};
@@ -14,7 +14,7 @@ ghost use Rattle.ts_crl.specs.Profile.{unprocessed_in};
 ghost use Rattle.ts_crl.specs.Values.{is_known};
 
 use ts_ext::{Extension, Holder, Known};
-use ts_name::CertFault;
+use ts_shape::CertFault;
 
 /// What the rules of a list ask of the extensions of its entries (RFC 5280 4.2, 5.1.2.1, 5.3), found while these are read.
 #[derive(Clone, Copy)]

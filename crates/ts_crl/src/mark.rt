@@ -6,7 +6,7 @@ ghost use Rattle.ts_crl.specs.Marks.{mark_of};
 ghost use Rattle.ts_crl.specs.MarkView.{mark_as};
 
 use ts_der::{Element, Fault};
-use ts_name::FromElement;
+use ts_shape::FromElement;
 
 const INTEGER: u8 = 0x02;
 

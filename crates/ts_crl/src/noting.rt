@@ -2,10 +2,10 @@
 
 ghost use Rattle.std.specs.Prelude.{◌≡◌, [], ◌∷◌, length};
 ghost use Rattle.ts_der.specs.View.{now};
-ghost use Rattle.ts_name.specs.Fields.{optional_of};
-ghost use Rattle.ts_name.specs.Items.{each, some_of};
-ghost use Rattle.ts_name.specs.Shape.{◌or_else◌};
-ghost use Rattle.ts_name.specs.Steps.{Takes};
+ghost use Rattle.ts_shape.specs.Fields.{optional_of};
+ghost use Rattle.ts_shape.specs.Items.{each, some_of};
+ghost use Rattle.ts_shape.specs.Shape.{◌or_else◌};
+ghost use Rattle.ts_shape.specs.Steps.{Takes};
 ghost use Rattle.ts_ext.specs.declared.known.Holder.TheVariants.{Entry as EntryHolder};
 ghost use Rattle.ts_ext.specs.Extension.{standing_in};
 ghost use Rattle.ts_ext.specs.ExtensionView.{standing_as};
@@ -24,12 +24,12 @@ use crate::rules::rule_fault;
 use ts_cert::{next_integer, next_time};
 use ts_der::{DerFault, Element, Fault, Reader};
 use ts_ext::{Extension, Holder};
-use ts_name::{CertFault, FromElement, tagged_as};
+use ts_shape::{CertFault, FromElement, tagged_as};
 
 const SEQUENCE: u8 = 0x30;
 
 /// The next extension, which the reader has then passed.
-#[tactic(auto, unfolding(ts_name::specs::Items::each))]
+#[tactic(auto, unfolding(ts_shape::specs::Items::each))]
 fn next_extension<'a>(rest: &mut Reader<'a>) -> Result<Extension<'a>, Fault>
     ensures { Takes standing_as rest.new result (each standing_in rest.old) }
 {
@@ -94,7 +94,7 @@ fn note_placed<'a>(element: Element<'a>, findings: &mut Findings<'a>) -> Result<
 }
 
 /// The same of extensions that may stand next.
-#[tactic(auto, unfolding(ts_name::specs::Fields::optional_of, ts_der::specs::Reading::optional_at))]
+#[tactic(auto, unfolding(ts_shape::specs::Fields::optional_of, ts_der::specs::Reading::optional_at))]
 fn note_extensions_if_any<'a>(
     fields: &mut Reader<'a>,
     findings: &mut Findings<'a>,
@@ -121,7 +121,7 @@ fn note_entry<'a>(element: Element<'a>, findings: &mut Findings<'a>) -> Result<(
 }
 
 /// Reads the next entry, which the reader has then passed, and adds what is found in it to what was found before.
-#[tactic(auto, unfolding(ts_name::specs::Items::each, ts_name::specs::Items::of_tag))]
+#[tactic(auto, unfolding(ts_shape::specs::Items::each, ts_shape::specs::Items::of_tag))]
 pub(crate) fn note_next<'a>(rest: &mut Reader<'a>, findings: &mut Findings<'a>) -> Result<(), Fault>
     ensures { NotesNext (λ x. findings_of (x ∷ [])) rest.new (findings_in findings.old) (findings_in findings.new) result (each entry_in rest.old) }
 {

@@ -4,7 +4,7 @@ ghost use Rattle.std.specs.Prelude.{◌≡◌, None};
 ghost use Rattle.ts_der.specs.Answer.{refusal};
 ghost use Rattle.ts_der.specs.Element.{inside};
 ghost use Rattle.ts_der.specs.View.{now};
-ghost use Rattle.ts_name.specs.Items.{items_at};
+ghost use Rattle.ts_shape.specs.Items.{items_at};
 ghost use Rattle.ts_crl.specs.Findings.{findings_of};
 ghost use Rattle.ts_crl.specs.FindingsView.{findings_in};
 ghost use Rattle.ts_crl.specs.Reading.{entry_in, revoked_of};

@@ -11,7 +11,7 @@ use crate::placed::Placed;
 use crate::revoked::Revoked;
 use crate::version::ListVersion;
 use ts_ext::{Extension, Holder};
-use ts_name::{CertFault, CertRule, first_repeated};
+use ts_shape::{CertFault, CertRule, first_repeated};
 
 /// The first place at which extensions break a rule.
 pub(crate) fn rule_fault<'a>(

@@ -9,7 +9,7 @@ use crate::crl::{Crl, MAX_CRL};
 use crate::tbs::read_tbs;
 use ts_cert::{next_bits, read_algorithm};
 use ts_der::{DerFault, Element, Reader};
-use ts_name::{CertFault, CertRule};
+use ts_shape::{CertFault, CertRule};
 
 const SEQUENCE: u8 = 0x30;
 

@@ -14,7 +14,8 @@ use crate::update::next_update;
 use crate::version::{ListVersion, next_version};
 use ts_cert::{AlgorithmIdentifier, Stamp, Time, next_algorithm, next_name, next_time};
 use ts_der::Element;
-use ts_name::{CertFault, Name};
+use ts_name::Name;
+use ts_shape::CertFault;
 
 /// The fields that are signed, in the order of the standard (RFC 5280 5.1.2).
 #[derive(Clone, Copy)]

@@ -4,7 +4,7 @@ use super::*;
 use std::alloc::Global;
 use ts_cert::TimeForm;
 use ts_der::{DerFault, Integer};
-use ts_name::{CertFault, CertRule};
+use ts_shape::{CertFault, CertRule};
 
 /// Made by openssl: three entries, of serial numbers 5, 4095 and 4096, a key identifier and the number 10.
 const OPENSSL: &[u8] =

@@ -1,7 +1,7 @@
 //! When the next list is issued.
 
-ghost use Rattle.ts_name.specs.Fields.{optional_of};
-ghost use Rattle.ts_name.specs.Steps.{Takes};
+ghost use Rattle.ts_shape.specs.Fields.{optional_of};
+ghost use Rattle.ts_shape.specs.Steps.{Takes};
 ghost use Rattle.ts_cert.specs.Time.{time_of};
 ghost use Rattle.ts_crl.specs.Reading.{next_update_at};
 
@@ -13,7 +13,7 @@ const UTC_TIME: u8 = 0x17;
 const GENERALIZED_TIME: u8 = 0x18;
 
 /// A time in one of its forms, where an element of its tag stands next.
-#[tactic(auto, unfolding(ts_name::specs::Fields::optional_of, ts_der::specs::Reading::optional_at))]
+#[tactic(auto, unfolding(ts_shape::specs::Fields::optional_of, ts_der::specs::Reading::optional_at))]
 fn next_form_if_any(fields: &mut Reader<'_>, tag: u8) -> Result<Option<Time>, Fault>
     ensures { Takes (λ t. t) fields.new result (optional_of tag time_of fields.old) }
 {

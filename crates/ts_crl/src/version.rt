@@ -2,11 +2,11 @@
 
 ghost use Rattle.ts_der.specs.Answer.{Answers};
 ghost use Rattle.ts_der.specs.View.{now};
-ghost use Rattle.ts_name.specs.Steps.{TakesIn};
+ghost use Rattle.ts_shape.specs.Steps.{TakesIn};
 ghost use Rattle.ts_crl.specs.Version.{version_of, version_at};
 
 use ts_der::{Element, Reader};
-use ts_name::{CertFault, CertRule};
+use ts_shape::{CertFault, CertRule};
 
 const INTEGER: u8 = 0x02;
 

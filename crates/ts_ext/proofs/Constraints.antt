@@ -7,11 +7,11 @@ use Rattle.ts_der.specs.Element.{Place, Tlv, inside}
 use Rattle.ts_der.specs.Default.{flag_at}
 use Rattle.ts_der.specs.Reading.{begins_with, end_at}
 use Rattle.ts_der.proofs.Laws.{bind_ok, ok_is}
-use Rattle.ts_name.specs.Fields.{IfAny, optional_of}
-use Rattle.ts_name.specs.Shape.{optional, plain, nothing, ◌then◌, primitive, no_rules}
-use Rattle.ts_name.proofs.Judging.{no_more, under, ends, Whatever}
-use Rattle.ts_name.proofs.OptionalParts.{begins-if-any, optional-found, optional-again, optional-judged}
-use Rattle.ts_name.proofs.Shapes.{end-ok, end-again}
+use Rattle.ts_shape.specs.Fields.{IfAny, optional_of}
+use Rattle.ts_shape.specs.Shape.{optional, plain, nothing, ◌then◌, primitive, no_rules}
+use Rattle.ts_shape.proofs.Judging.{no_more, under, ends, Whatever}
+use Rattle.ts_shape.proofs.OptionalParts.{begins-if-any, optional-found, optional-again, optional-judged}
+use Rattle.ts_shape.proofs.Endings.{end-ok, end-again}
 use Rattle.ts_ext.specs.declared.basic_constraints.BasicConstraints.{BasicConstraints}
 use Rattle.ts_ext.specs.declared.policy_constraints.PolicyConstraints.{PolicyConstraints}
 use Rattle.ts_ext.specs.Spelling.{IsSmall, IsBasicConstraints, IsPolicyConstraints}

@@ -9,18 +9,18 @@ use Rattle.ts_der.specs.Default.{flag_at}
 use Rattle.ts_der.specs.Element.{Place, Tlv, inside}
 use Rattle.ts_der.specs.Reading.{begins_with, element_at, end_at, behind}
 use Rattle.ts_der.proofs.Laws.{bind_ok, ok_is, element-only}
-use Rattle.ts_name.specs.declared.fault.CertFault.{CertFault}
-use Rattle.ts_name.specs.Fault.{der, breaks}
-use Rattle.ts_name.specs.Fields.{Within, oid_at}
-use Rattle.ts_name.specs.Items.{each, of_tag}
-use Rattle.ts_name.specs.Rows.{object_identifier}
-use Rattle.ts_name.specs.Shape.{optional, plain, tagged, no_other, nothing, ◌then◌, ◌or_else◌, no_rules, primitive, judge}
-use Rattle.ts_name.proofs.FieldParts.{oid-part}
-use Rattle.ts_name.proofs.Judging.{Judged, no_more, under, ends, then-judged, element-judged, oid-reads, Whatever}
-use Rattle.ts_name.proofs.OptionalParts.{begins-if-any}
-use Rattle.ts_name.proofs.ItemParts.{tag-part, tag-reads, some-judged, alone-found, alone-again, alone-judged}
-use Rattle.ts_name.proofs.Parts.{Part, took, element-took}
-use Rattle.ts_name.proofs.Shapes.{end-ok, end-again}
+use Rattle.ts_shape.specs.declared.fault.CertFault.{CertFault}
+use Rattle.ts_shape.specs.Fault.{der, breaks}
+use Rattle.ts_shape.specs.Fields.{Within, oid_at}
+use Rattle.ts_shape.specs.Items.{each, of_tag}
+use Rattle.ts_shape.specs.Rows.{object_identifier}
+use Rattle.ts_shape.specs.Shape.{optional, plain, tagged, no_other, nothing, ◌then◌, ◌or_else◌, no_rules, primitive, judge}
+use Rattle.ts_shape.proofs.FieldParts.{oid-part}
+use Rattle.ts_shape.proofs.Judging.{Judged, no_more, under, ends, then-judged, element-judged, oid-reads, Whatever}
+use Rattle.ts_shape.proofs.OptionalParts.{begins-if-any}
+use Rattle.ts_shape.proofs.ItemParts.{tag-part, tag-reads, some-judged, alone-found, alone-again, alone-judged}
+use Rattle.ts_shape.proofs.Parts.{Part, took, element-took}
+use Rattle.ts_shape.proofs.Endings.{end-ok, end-again}
 use Rattle.ts_ext.specs.AuthorityKey.{AreOctetsOf}
 use Rattle.ts_ext.specs.Extension.{Extension, Standing, IsExtension, AreExtensions, AreExplicit, extension_fields, extension, extensions, explicit_extensions, said, standing_of, standing_in, extension_of, extensions_of, explicit_extensions_of, standings_of, explicit_standings_of}
 use Rattle.ts_ext.specs.Inner.{inner_fault}

@@ -5,13 +5,13 @@ use Rattle.ts_der.specs.Octets.{AreOctets}
 use Rattle.ts_der.specs.Answer.{◌>>=◌}
 use Rattle.ts_der.specs.Element.{Tlv}
 use Rattle.ts_der.proofs.Laws.{bind_ok, ok_is}
-use Rattle.ts_name.specs.declared.fault.CertFault.{CertFault}
-use Rattle.ts_name.specs.Fault.{der}
-use Rattle.ts_name.specs.Items.{each}
-use Rattle.ts_name.specs.Shape.{Shape, ContentRules}
-use Rattle.ts_name.proofs.Parts.{Part}
-use Rattle.ts_name.proofs.Judging.{Judged, no_less, Whatever, Reads}
-use Rattle.ts_name.proofs.ItemParts.{tag-part, tag-reads, alone-found, alone-again, alone-judged}
+use Rattle.ts_shape.specs.declared.fault.CertFault.{CertFault}
+use Rattle.ts_shape.specs.Fault.{der}
+use Rattle.ts_shape.specs.Items.{each}
+use Rattle.ts_shape.specs.Shape.{Shape, ContentRules}
+use Rattle.ts_shape.proofs.Parts.{Part}
+use Rattle.ts_shape.proofs.Judging.{Judged, no_less, Whatever, Reads}
+use Rattle.ts_shape.proofs.ItemParts.{tag-part, tag-reads, alone-found, alone-again, alone-judged}
 use Rattle.ts_ext.specs.declared.known.Known.{Known}
 use Rattle.ts_ext.specs.declared.known.Known.TheVariants as extension
 use Rattle.ts_ext.specs.Ext.{ExtValue, subjectKeyIdentifier, keyUsage, subjectAltName, issuerAltName, basicConstraints, cRLNumber, reasonCode, invalidityDate, deltaCRLIndicator, issuingDistributionPoint, certificateIssuer, nameConstraints, cRLDistributionPoints, certificatePolicies, policyMappings, authorityKeyIdentifier, policyConstraints, extKeyUsage, freshestCRL, inhibitAnyPolicy, unknown, As, IsContent, IsValue, IsExt, read_as, content_of, value_of, ext_of, layout_of, value_row, ext_fault}

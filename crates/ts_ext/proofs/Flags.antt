@@ -13,11 +13,11 @@ use Rattle.ts_der.specs.Default.{flag_of, flag_at, IsFlag}
 use Rattle.ts_der.specs.Reading.{fault_at, located, begins_with, value_at, element_at, optional_at, element_of, behind}
 use Rattle.ts_der.proofs.OctetLists.{AreOctets-back}
 use Rattle.ts_der.proofs.Flags.{flag-found, flag-absent, flag-present}
-use Rattle.ts_name.specs.declared.fault.CertRule.TheVariants.{Der}
-use Rattle.ts_name.specs.declared.fault.CertFault.{CertFault}
-use Rattle.ts_name.specs.Fault.{der, breaks}
-use Rattle.ts_name.specs.Shape.{Shape, optional, plain, ◌then◌, ◌or_else◌, header_fault, row_fault, judge}
-use Rattle.ts_name.proofs.Judging.{Judged, element-judged}
+use Rattle.ts_shape.specs.declared.fault.CertRule.TheVariants.{Der}
+use Rattle.ts_shape.specs.declared.fault.CertFault.{CertFault}
+use Rattle.ts_shape.specs.Fault.{der, breaks}
+use Rattle.ts_shape.specs.Shape.{Shape, optional, plain, ◌then◌, ◌or_else◌, header_fault, row_fault, judge}
+use Rattle.ts_shape.proofs.Judging.{Judged, element-judged}
 use Rattle.ts_ext.specs.Spelling.{IfTrue}
 use Rattle.ts_ext.specs.Table.{flag, flag_rules}
 

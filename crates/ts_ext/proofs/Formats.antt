@@ -10,12 +10,12 @@ use Rattle.ts_der.specs.Rules.{Rule, first_broken, value_unless}
 use Rattle.ts_der.specs.Element.{Tlv}
 use Rattle.ts_der.specs.Reading.{located, value_at}
 use Rattle.ts_der.proofs.Laws.{ok_is}
-use Rattle.ts_name.specs.declared.fault.CertRule.TheVariants.{Der}
-use Rattle.ts_name.specs.Fault.{about, der, breaks}
-use Rattle.ts_name.specs.Shape.{Shape, ContentRules, plain, der_rules, one_rule}
-use Rattle.ts_name.proofs.Judging.{Judged, refusal-judged, weaker, value-judged}
-use Rattle.ts_name.proofs.Parts.{Value}
-use Rattle.ts_name.proofs.Walks.{IfOk-answers, IsOkAnd-answers}
+use Rattle.ts_shape.specs.declared.fault.CertRule.TheVariants.{Der}
+use Rattle.ts_shape.specs.Fault.{about, der, breaks}
+use Rattle.ts_shape.specs.Shape.{Shape, ContentRules, plain, der_rules, one_rule}
+use Rattle.ts_shape.proofs.Judging.{Judged, refusal-judged, weaker, value-judged}
+use Rattle.ts_shape.proofs.Parts.{Value}
+use Rattle.ts_shape.proofs.Walks.{IfOk-answers, IsOkAnd-answers}
 use Rattle.ts_ext.specs.Inner.{inner_fault}
 
 pub record Format {A : Type 0} (value : Tlv → Result A Fault) (Is : List ℕ → A → Type 0) (shape : Shape) (rules : ContentRules) : Type 0 where

@@ -7,13 +7,13 @@ use Rattle.ts_der.specs.Element.{Tlv, inside}
 use Rattle.ts_der.specs.Integer.{integer_rules}
 use Rattle.ts_der.specs.Reading.{begins_with, end_at}
 use Rattle.ts_der.proofs.Laws.{bind_ok, ok_is}
-use Rattle.ts_name.specs.Names.{some_rules}
-use Rattle.ts_name.specs.Fields.{IsInteger, optional_of}
-use Rattle.ts_name.specs.Shape.{optional, items, plain, nothing, ◌then◌, der_rules, no_rules, primitive}
+use Rattle.ts_shape.specs.Items.{some_rules}
+use Rattle.ts_shape.specs.Fields.{IsInteger, optional_of}
+use Rattle.ts_shape.specs.Shape.{optional, items, plain, nothing, ◌then◌, der_rules, no_rules, primitive}
 use Rattle.ts_name.specs.SubtreeTable.{general_subtree}
-use Rattle.ts_name.proofs.Judging.{no_more, under, ends, Whatever}
-use Rattle.ts_name.proofs.OptionalParts.{begins-if-any, optional-found, optional-again, optional-judged}
-use Rattle.ts_name.proofs.Shapes.{end-ok, end-again}
+use Rattle.ts_shape.proofs.Judging.{no_more, under, ends, Whatever}
+use Rattle.ts_shape.proofs.OptionalParts.{begins-if-any, optional-found, optional-again, optional-judged}
+use Rattle.ts_shape.proofs.Endings.{end-ok, end-again}
 use Rattle.ts_ext.specs.GeneralNames.{AreGeneralNames, general_names_of, general_names_items, general_names}
 use Rattle.ts_ext.proofs.Formats.{Format, value_of}
 use Rattle.ts_ext.proofs.Names.{begins-last, general_names-format, subtrees-format}

@@ -2,11 +2,11 @@
 use Rattle.std.proofs.Common.{ℕ, List, Result}
 use Rattle.ts_der.specs.declared.fault.Fault.{Fault}
 use Rattle.ts_der.specs.Element.{Tlv}
-use Rattle.ts_name.specs.Fields.{Within}
-use Rattle.ts_name.specs.Items.{of_tag, some_of, AreSome}
-use Rattle.ts_name.specs.Shape.{Shape, ContentRules, tagged, no_other, items}
-use Rattle.ts_name.proofs.Judging.{Whatever}
-use Rattle.ts_name.proofs.ItemParts.{tag-part, tag-reads, some-found, some-again, some-judged}
+use Rattle.ts_shape.specs.Fields.{Within}
+use Rattle.ts_shape.specs.Items.{of_tag, some_of, AreSome}
+use Rattle.ts_shape.specs.Shape.{Shape, ContentRules, tagged, no_other, items}
+use Rattle.ts_shape.proofs.Judging.{Whatever}
+use Rattle.ts_shape.proofs.ItemParts.{tag-part, tag-reads, some-found, some-again, some-judged}
 use Rattle.ts_ext.specs.Table.{list_rules}
 use Rattle.ts_ext.proofs.Formats.{Format, value_of}
 

@@ -5,7 +5,7 @@ use Rattle.ts_der.specs.Rules.{first_broken, value_unless}
 use Rattle.ts_der.specs.BitString.{bits_of, bit_parts, named_bits_rules}
 use Rattle.ts_der.proofs.BitStrings.{bits-only, named-found, named-only}
 use Rattle.ts_der.proofs.RuleLists.{checked-value}
-use Rattle.ts_name.specs.Shape.{plain}
+use Rattle.ts_shape.specs.Shape.{plain}
 use Rattle.ts_ext.specs.NamedBits.{named_bits_in, IsNamedBits}
 use Rattle.ts_ext.specs.Spelling.{IsKeyUsage, AreReasonFlags}
 use Rattle.ts_ext.specs.Table.{key_usage_rules, reason_flags_rules}

@@ -7,24 +7,26 @@ use Rattle.ts_der.specs.Answer.{◌>>=◌}
 use Rattle.ts_der.specs.Element.{Tlv}
 use Rattle.ts_der.specs.Reading.{begins_with}
 use Rattle.ts_der.proofs.Laws.{bind_ok, ok_is}
-use Rattle.ts_name.specs.Names.{some_rules, rdn_of}
-use Rattle.ts_name.specs.Fields.{IfAny}
-use Rattle.ts_name.specs.Rows.{set_rules, attribute_type_and_value}
-use Rattle.ts_name.specs.declared.fault.CertFault.{CertFault}
-use Rattle.ts_name.specs.Fault.{der}
-use Rattle.ts_name.specs.Shape.{items, nothing, ◌then◌, row_fault, der_rules, no_rules}
-use Rattle.ts_name.specs.Items.{each}
+use Rattle.ts_shape.specs.Items.{some_rules, each}
+use Rattle.ts_name.specs.Names.{rdn_of}
+use Rattle.ts_shape.specs.Fields.{IfAny}
+use Rattle.ts_shape.specs.Rows.{set_rules}
+use Rattle.ts_name.specs.NameRows.{attribute_type_and_value}
+use Rattle.ts_shape.specs.declared.fault.CertFault.{CertFault}
+use Rattle.ts_shape.specs.Fault.{der}
+use Rattle.ts_shape.specs.Shape.{items, nothing, ◌then◌, row_fault, der_rules, no_rules}
 use Rattle.ts_name.specs.General.{IsGeneralName, general_of}
 use Rattle.ts_name.specs.GeneralTable.{general_name}
 use Rattle.ts_name.specs.Subtree.{IsSubtree, subtree_of}
 use Rattle.ts_name.specs.SubtreeTable.{general_subtree, subtree_fields}
-use Rattle.ts_name.proofs.Parts.{Part}
-use Rattle.ts_name.proofs.Judging.{Judged, weaker, Whatever, rdn-judged}
+use Rattle.ts_shape.proofs.Parts.{Part}
+use Rattle.ts_shape.proofs.Judging.{Judged, weaker, Whatever}
+use Rattle.ts_name.proofs.NameJudging.{rdn-judged}
 use Rattle.ts_name.proofs.Shapes.{rdn-codec}
-use Rattle.ts_name.proofs.ItemParts.{choice-found, choice-judged, form-part, each-reads, some-found, some-again, some-judged, alone-found, alone-again, alone-judged}
+use Rattle.ts_shape.proofs.ItemParts.{choice-found, choice-judged, form-part, each-reads, some-found, some-again, some-judged, alone-found, alone-again, alone-judged}
 use Rattle.ts_name.proofs.Generals.{general-part, general-reads}
 use Rattle.ts_name.proofs.Subtrees.{subtree-found, subtree-again, subtree-judged}
-use Rattle.ts_name.proofs.OptionalParts.{begins-if-any}
+use Rattle.ts_shape.proofs.OptionalParts.{begins-if-any}
 use Rattle.ts_ext.specs.GeneralNames.{AreGeneralNames, general_names_of, general_names_items}
 use Rattle.ts_ext.specs.Points.{PointName, fullName, nameRelativeToCRLIssuer, IsPointForm, IsPointName, point_name_of, wrapped_name_of, point_name}
 use Rattle.ts_ext.specs.NameConstraints.{AreSubtrees, subtrees_of}

@@ -11,8 +11,8 @@ use Rattle.ts_der.proofs.Laws.{ok_is}
 use Rattle.ts_der.proofs.OctetLists.{AreOctets-part, AreOctets-front, AreOctets-back}
 use Rattle.ts_der.proofs.Unique.{one-content, one-number}
 use Rattle.ts_name.specs.NameSpelling.{IsName}
-use Rattle.ts_name.specs.Fields.{Within, IfAny, IsOid}
-use Rattle.ts_name.specs.Items.{AreItems, AreSome, IsChoice}
+use Rattle.ts_shape.specs.Fields.{Within, IfAny, IsOid}
+use Rattle.ts_shape.specs.Items.{AreItems, AreSome, IsChoice}
 use Rattle.ts_name.specs.General.{GeneralName, otherName, rfc822Name, dNSName, x400Address, directoryName, ediPartyName, uniformResourceIdentifier, iPAddress, registeredID, IsForm, IsGeneralName}
 use Rattle.ts_name.specs.Subtree.{is_zero, IsDistance, IsSubtree}
 use Rattle.ts_time.proofs.TextLemmas.{IsGeneral-one_text}

@@ -7,12 +7,12 @@ use Rattle.ts_der.specs.Element.{Tlv, inside}
 use Rattle.ts_der.specs.Default.{flag_at}
 use Rattle.ts_der.specs.Reading.{begins_with, end_at}
 use Rattle.ts_der.proofs.Laws.{bind_ok, ok_is}
-use Rattle.ts_name.specs.Names.{some_rules}
-use Rattle.ts_name.specs.Fields.{optional_of}
-use Rattle.ts_name.specs.Shape.{Shape, optional, plain, nothing, ◌then◌, der_rules, no_rules, primitive}
-use Rattle.ts_name.proofs.Judging.{no_more, under, ends, Whatever}
-use Rattle.ts_name.proofs.OptionalParts.{begins-if-any, optional-found, optional-again, optional-judged}
-use Rattle.ts_name.proofs.Shapes.{end-ok, end-again}
+use Rattle.ts_shape.specs.Items.{some_rules}
+use Rattle.ts_shape.specs.Fields.{optional_of}
+use Rattle.ts_shape.specs.Shape.{Shape, optional, plain, nothing, ◌then◌, der_rules, no_rules, primitive}
+use Rattle.ts_shape.proofs.Judging.{no_more, under, ends, Whatever}
+use Rattle.ts_shape.proofs.OptionalParts.{begins-if-any, optional-found, optional-again, optional-judged}
+use Rattle.ts_shape.proofs.Endings.{end-ok, end-again}
 use Rattle.ts_ext.specs.Spelling.{IfTrue, AreReasonFlags}
 use Rattle.ts_ext.specs.Reading.{reason_flags_of}
 use Rattle.ts_ext.specs.Table.{flag, reason_flags_rules, list_rules}

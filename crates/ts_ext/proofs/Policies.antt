@@ -3,7 +3,7 @@ use Rattle.std.proofs.Common.{◌≡◌, ℕ, ◌+◌, Bool, true, false, not, c
 use Rattle.std.proofs.lemmas.List.{append-nil}
 use Rattle.ts_der.specs.declared.fault.DerFault.TheVariants.{OidForm}
 use Rattle.ts_der.specs.declared.fault.Fault.{Fault}
-use Rattle.ts_name.specs.declared.fault.CertFault.{CertFault}
+use Rattle.ts_shape.specs.declared.fault.CertFault.{CertFault}
 use Rattle.ts_der.specs.Answer.{◌>>=◌}
 use Rattle.ts_der.specs.Octets.{AreOctets}
 use Rattle.ts_der.specs.Element.{Place, Tlv, inside}
@@ -11,16 +11,16 @@ use Rattle.ts_der.specs.ObjectIdentifier.{is_oid, oid_rules}
 use Rattle.ts_der.specs.Reading.{value_at, next_at, end_at, behind}
 use Rattle.ts_der.proofs.Elements.{next-found}
 use Rattle.ts_der.proofs.Laws.{bind_ok, ok_is, next-only}
-use Rattle.ts_name.specs.Fault.{der}
-use Rattle.ts_name.specs.Fields.{IsAny, IsOid, oid_at, optional_of}
-use Rattle.ts_name.specs.Items.{some_of}
-use Rattle.ts_name.specs.Rows.{object_identifier}
-use Rattle.ts_name.specs.Shape.{any, optional, items, plain, nothing, ◌then◌, judge, no_rules, der_rules}
-use Rattle.ts_name.proofs.FieldParts.{oid-part}
-use Rattle.ts_name.proofs.Judging.{Judged, no_more, under, ends, then-judged, next-judged, oid-reads, Whatever}
-use Rattle.ts_name.proofs.OptionalParts.{optional-found, optional-again, optional-judged}
-use Rattle.ts_name.proofs.Parts.{took}
-use Rattle.ts_name.proofs.Shapes.{end-ok, end-again}
+use Rattle.ts_shape.specs.Fault.{der}
+use Rattle.ts_shape.specs.Fields.{IsAny, IsOid, oid_at, optional_of}
+use Rattle.ts_shape.specs.Items.{some_of}
+use Rattle.ts_shape.specs.Rows.{object_identifier}
+use Rattle.ts_shape.specs.Shape.{any, optional, items, plain, nothing, ◌then◌, judge, no_rules, der_rules}
+use Rattle.ts_shape.proofs.FieldParts.{oid-part}
+use Rattle.ts_shape.proofs.Judging.{Judged, no_more, under, ends, then-judged, next-judged, oid-reads, Whatever}
+use Rattle.ts_shape.proofs.OptionalParts.{optional-found, optional-again, optional-judged}
+use Rattle.ts_shape.proofs.Parts.{took}
+use Rattle.ts_shape.proofs.Endings.{end-ok, end-again}
 use Rattle.ts_ext.specs.Policies.{Qualifier, Information, Mapping}
 use Rattle.ts_ext.specs.Spelling.{IsPolicyQualifier, ArePolicyQualifiers, IsPolicyInformation, AreCertificatePolicies, IsPolicyMapping, ArePolicyMappings, AreKeyPurposes}
 use Rattle.ts_ext.specs.Table.{policy_qualifier_info, policy_qualifiers, list_rules, certificate_policies, policy_mappings, ext_key_usage}

@@ -5,9 +5,8 @@ use Rattle.ts_der.specs.declared.fault.Fault.{Fault}
 use Rattle.ts_der.specs.Answer.{◌>>=◌, Answers}
 use Rattle.ts_der.specs.Element.{Place, Tlv, inside}
 use Rattle.ts_der.specs.Reading.{begins_with, next_at, element_at, value_at, end_at, is_end, many, many_from}
-use Rattle.ts_name.specs.Fields.{optional_of}
-use Rattle.ts_name.specs.Items.{each, alone, tagged_as, of_tag, some_of}
-use Rattle.ts_name.specs.Names.{some_rules}
+use Rattle.ts_shape.specs.Fields.{optional_of}
+use Rattle.ts_shape.specs.Items.{each, alone, tagged_as, of_tag, some_of, some_rules}
 use Rattle.ts_ext.specs.Extension.{Extension, Standing, said, standing_of, standing_in, extension_of, extensions_of, explicit_extensions_of, standings_of, explicit_standings_of}
 use Rattle.ts_ext.specs.ExtensionView.{standings_in, extensions_in}
 use Rattle.ts_ext.specs.declared.extensions.Extensions.{Extensions}

@@ -9,15 +9,15 @@ use Rattle.ts_der.specs.Element.{Place, Tlv, inside}
 use Rattle.ts_der.specs.Reading.{element_at}
 use Rattle.ts_der.specs.Answer.{◌>>=◌, refusal}
 use Rattle.ts_der.proofs.Laws.{bind_ok, ok_is, err_not_ok}
-use Rattle.ts_name.specs.declared.fault.CertFault.{CertFault}
-use Rattle.ts_name.specs.declared.fault.CertRule.TheVariants.{DuplicateExtension}
-use Rattle.ts_name.specs.Fault.{breaks}
-use Rattle.ts_name.specs.Fields.{Within}
-use Rattle.ts_name.specs.Items.{AreItems, items_at}
-use Rattle.ts_name.proofs.ItemParts.{some-walked}
-use Rattle.ts_name.specs.Repeats.{HaveEnds, is_among, first_repeated}
-use Rattle.ts_name.specs.Shape.{◌or_else◌}
-use Rattle.ts_name.proofs.Parts.{element-took}
+use Rattle.ts_shape.specs.declared.fault.CertFault.{CertFault}
+use Rattle.ts_shape.specs.declared.fault.CertRule.TheVariants.{DuplicateExtension}
+use Rattle.ts_shape.specs.Fault.{breaks}
+use Rattle.ts_shape.specs.Fields.{Within}
+use Rattle.ts_shape.specs.Items.{AreItems, items_at}
+use Rattle.ts_shape.proofs.ItemParts.{some-walked}
+use Rattle.ts_shape.specs.Repeats.{HaveEnds, is_among, first_repeated}
+use Rattle.ts_shape.specs.Shape.{◌or_else◌}
+use Rattle.ts_shape.proofs.Parts.{element-took}
 use Rattle.ts_ext.specs.declared.known.Holder.TheVariants.{Certificate}
 use Rattle.ts_ext.specs.Extension.{Extension, IsExtension, AreExtensions, Standing, said, standing_of, standing_in, standings_of, extensions_of}
 use Rattle.ts_ext.specs.Sound.{IsNewKey, IsSoundUnder, IsSoundAndNew, AreSoundOnce}

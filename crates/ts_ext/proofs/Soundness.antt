@@ -10,16 +10,16 @@ use Rattle.ts_der.specs.Reading.{next_at, element_at, end_at, is_end}
 use Rattle.ts_der.proofs.Elements.{next-found}
 use Rattle.ts_der.proofs.Laws.{bind_ok, ok_is}
 use Rattle.ts_der.proofs.OctetLists.{AreOctets-part, AreOctets-back}
-use Rattle.ts_name.specs.declared.fault.CertFault.{CertFault}
-use Rattle.ts_name.specs.declared.fault.CertRule.{CertRule}
-use Rattle.ts_name.specs.Fault.{about, der, breaks}
-use Rattle.ts_name.specs.Fields.{oid_at}
-use Rattle.ts_name.specs.Items.{each, alone, tagged_as, of_tag, first_then, upto_from, items_at}
-use Rattle.ts_name.specs.Shape.{◌or_else◌}
-use Rattle.ts_name.proofs.FieldParts.{oid-part}
-use Rattle.ts_name.proofs.ItemParts.{some-walked}
-use Rattle.ts_name.proofs.Judging.{Judged}
-use Rattle.ts_name.proofs.Parts.{took, element-took}
+use Rattle.ts_shape.specs.declared.fault.CertFault.{CertFault}
+use Rattle.ts_shape.specs.declared.fault.CertRule.{CertRule}
+use Rattle.ts_shape.specs.Fault.{about, der, breaks}
+use Rattle.ts_shape.specs.Fields.{oid_at}
+use Rattle.ts_shape.specs.Items.{each, alone, tagged_as, of_tag, first_then, upto_from, items_at}
+use Rattle.ts_shape.specs.Shape.{◌or_else◌}
+use Rattle.ts_shape.proofs.FieldParts.{oid-part}
+use Rattle.ts_shape.proofs.ItemParts.{some-walked}
+use Rattle.ts_shape.proofs.Judging.{Judged}
+use Rattle.ts_shape.proofs.Parts.{took, element-took}
 use Rattle.ts_ext.specs.declared.known.Holder.{Holder}
 use Rattle.ts_ext.specs.declared.known.Known.{Known}
 use Rattle.ts_ext.specs.Ext.{ExtValue, ext_of, ext_fault}

@@ -8,8 +8,8 @@ use Rattle.ts_der.specs.Element.{length_octets}
 use Rattle.ts_der.specs.Text.{is_ascii}
 use Rattle.ts_der.proofs.Lengths.{length_octets-short}
 use Rattle.ts_der.proofs.Standing.{spelled-out}
-use Rattle.ts_name.specs.Fields.{Within}
-use Rattle.ts_name.specs.Items.{AreItems}
+use Rattle.ts_shape.specs.Fields.{Within}
+use Rattle.ts_shape.specs.Items.{AreItems}
 use Rattle.ts_name.specs.General.{uniformResourceIdentifier, IsGeneralName}
 use Rattle.ts_ext.specs.Ext.{cRLDistributionPoints}
 use Rattle.ts_ext.specs.GeneralNames.{AreGeneralNames}

@@ -4,11 +4,11 @@ use Rattle.std.specs.Prelude.{option_map}
 use Rattle.ts_der.specs.declared.fault.Fault.{Fault}
 use Rattle.ts_der.specs.Answer.{Answers}
 use Rattle.ts_der.specs.Element.{Tlv}
-use Rattle.ts_name.specs.declared.fault.CertFault.{CertFault}
-use Rattle.ts_name.specs.declared.fault.CertRule.{CertRule}
-use Rattle.ts_name.specs.Fault.{about, der, breaks}
-use Rattle.ts_name.specs.Shape.{◌or_else◌}
-use Rattle.ts_name.proofs.Judging.{Judged}
+use Rattle.ts_shape.specs.declared.fault.CertFault.{CertFault}
+use Rattle.ts_shape.specs.declared.fault.CertRule.{CertRule}
+use Rattle.ts_shape.specs.Fault.{about, der, breaks}
+use Rattle.ts_shape.specs.Shape.{◌or_else◌}
+use Rattle.ts_shape.proofs.Judging.{Judged}
 use Rattle.ts_ext.specs.declared.known.Known.{Known}
 use Rattle.ts_ext.specs.Ext.{ExtValue, ext_of, ext_fault}
 use Rattle.ts_ext.specs.ValueRules.{rule_of, content_fault}

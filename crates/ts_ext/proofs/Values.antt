@@ -10,7 +10,7 @@ use Rattle.ts_der.specs.Element.{number}
 use Rattle.ts_der.specs.Integer.{is_shortest, is_negative, integer_rules, small_rules}
 use Rattle.ts_time.specs.Reading.{general_in}
 use Rattle.ts_time.proofs.ReadingLemmas.{general_in-found, general_in-only}
-use Rattle.ts_name.specs.Shape.{plain}
+use Rattle.ts_shape.specs.Shape.{plain}
 use Rattle.ts_ext.specs.declared.reason_code.ReasonCode.{ReasonCode}
 use Rattle.ts_ext.specs.declared.reason_code.ReasonCode.TheVariants.{Unspecified, KeyCompromise, CaCompromise, AffiliationChanged, Superseded, CessationOfOperation, CertificateHold, RemoveFromCrl, PrivilegeWithdrawn, AaCompromise}
 use Rattle.ts_ext.specs.Spelling.{IsSmall, IsCrlNumber, IsBaseCrlNumber, reason_number, IsReasonCode, IsInvalidityDate}

@@ -4,13 +4,13 @@ use Rattle.ts_der.specs.Element.{Place, Tlv}
 use Rattle.ts_der.specs.Reading.{element_at, is_end, many}
 use Rattle.ts_der.proofs.Many.{with_front, goes_on, breaks_off}
 use Rattle.ts_der.specs.declared.fault.Fault.{Fault}
-use Rattle.ts_name.specs.declared.fault.CertFault.{CertFault}
-use Rattle.ts_name.specs.Items.{each, items_at}
-use Rattle.ts_name.specs.Names.{within}
-use Rattle.ts_name.specs.Repeats.{first_repeated, HaveEnds, is_among}
-use Rattle.ts_name.specs.Shape.{◌or_else◌}
-use Rattle.ts_name.proofs.FirstRepeats.{seen-next}
-use Rattle.ts_name.proofs.ItemParts.{each-tag, each-consumes, walk-step}
+use Rattle.ts_shape.specs.declared.fault.CertFault.{CertFault}
+use Rattle.ts_shape.specs.Items.{each, items_at}
+use Rattle.ts_shape.specs.Fields.{within}
+use Rattle.ts_shape.specs.Repeats.{first_repeated, HaveEnds, is_among}
+use Rattle.ts_shape.specs.Shape.{◌or_else◌}
+use Rattle.ts_shape.proofs.FirstRepeats.{seen-next}
+use Rattle.ts_shape.proofs.ItemParts.{each-tag, each-consumes, walk-step}
 use Rattle.ts_ext.specs.declared.known.Holder.{Holder}
 use Rattle.ts_ext.specs.Extension.{Standing, standing_of, standing_in}
 use Rattle.ts_ext.specs.ValueRules.{value_fault, values_fault}

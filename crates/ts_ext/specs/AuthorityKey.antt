@@ -3,12 +3,11 @@ use Rattle.std.specs.Prelude.{◌≡◌, ℕ, ◌++◌, List, Option, Result, Ok
 use Rattle.ts_der.specs.declared.fault.Fault.{Fault}
 use Rattle.ts_der.specs.Answer.{◌>>=◌}
 use Rattle.ts_der.specs.Element.{Tlv, inside}
-use Rattle.ts_der.specs.Reading.{end_at}
+use Rattle.ts_der.specs.Reading.{end_at, value_at}
 use Rattle.ts_der.specs.Integer.{integer_rules}
-use Rattle.ts_der.specs.Reading.{value_at}
-use Rattle.ts_name.specs.Fields.{IfAny, IsInteger, optional_of}
+use Rattle.ts_shape.specs.Fields.{IfAny, IsInteger, optional_of}
 use Rattle.ts_name.specs.General.{GeneralName}
-use Rattle.ts_name.specs.Shape.{Shape, optional, nothing, ◌then◌, der_rules, no_rules, primitive}
+use Rattle.ts_shape.specs.Shape.{Shape, optional, nothing, ◌then◌, der_rules, no_rules, primitive}
 use Rattle.ts_ext.specs.GeneralNames.{AreGeneralNames, general_names_of, general_names}
 
 pub record AuthorityKey : Type 0 where

@@ -3,10 +3,10 @@ use Rattle.std.specs.Prelude.{◌≡◌, ℕ, Bool, ℤ, List, Option, Some, Non
 use Rattle.ts_der.specs.declared.fault.Fault.{Fault}
 use Rattle.ts_der.specs.Answer.{◌>>=◌}
 use Rattle.ts_der.specs.Element.{Tlv, inside}
-use Rattle.ts_name.specs.declared.fault.CertFault.{CertFault}
-use Rattle.ts_name.specs.Fields.{Within}
-use Rattle.ts_name.specs.Items.{alone, of_tag}
-use Rattle.ts_name.specs.Shape.{Row, Shape, ContentRules, tagged, no_other, plain, nothing, ◌then◌, no_rules, judge}
+use Rattle.ts_shape.specs.declared.fault.CertFault.{CertFault}
+use Rattle.ts_shape.specs.Fields.{Within}
+use Rattle.ts_shape.specs.Items.{alone, of_tag}
+use Rattle.ts_shape.specs.Shape.{Row, Shape, ContentRules, tagged, no_other, plain, nothing, ◌then◌, no_rules, judge}
 use Rattle.ts_ext.specs.declared.known.Known.{Known}
 use Rattle.ts_ext.specs.declared.known.Known.TheVariants as extension
 use Rattle.ts_ext.specs.declared.basic_constraints.BasicConstraints.{BasicConstraints}

@@ -5,10 +5,10 @@ use Rattle.ts_der.specs.Answer.{◌>>=◌}
 use Rattle.ts_der.specs.Default.{flag_at}
 use Rattle.ts_der.specs.Element.{Tlv, inside}
 use Rattle.ts_der.specs.Reading.{element_at, end_at}
-use Rattle.ts_name.specs.Fields.{Within, IsOid, oid_at}
-use Rattle.ts_name.specs.Items.{alone, of_tag, some_of, AreSome}
-use Rattle.ts_name.specs.Rows.{object_identifier}
-use Rattle.ts_name.specs.Shape.{Row, Shape, items, optional, tagged, no_other, nothing, ◌then◌, no_rules, primitive, sequence}
+use Rattle.ts_shape.specs.Fields.{Within, IsOid, oid_at}
+use Rattle.ts_shape.specs.Items.{alone, of_tag, some_of, AreSome}
+use Rattle.ts_shape.specs.Rows.{object_identifier}
+use Rattle.ts_shape.specs.Shape.{Row, Shape, items, optional, tagged, no_other, nothing, ◌then◌, no_rules, primitive, sequence}
 use Rattle.ts_ext.specs.AuthorityKey.{AreOctetsOf}
 use Rattle.ts_ext.specs.Spelling.{IfTrue}
 use Rattle.ts_ext.specs.Table.{flag, list_rules}

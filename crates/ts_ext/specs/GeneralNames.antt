@@ -2,11 +2,10 @@
 use Rattle.std.specs.Prelude.{ℕ, List, Result}
 use Rattle.ts_der.specs.declared.fault.Fault.{Fault}
 use Rattle.ts_der.specs.Element.{Tlv}
-use Rattle.ts_name.specs.Names.{some_rules}
-use Rattle.ts_name.specs.Items.{some_of, AreSome}
+use Rattle.ts_shape.specs.Items.{some_rules, some_of, AreSome}
 use Rattle.ts_name.specs.General.{GeneralName, IsGeneralName, general_of}
 use Rattle.ts_name.specs.GeneralTable.{general_name}
-use Rattle.ts_name.specs.Shape.{Row, Shape, tagged, no_other, items, der_rules}
+use Rattle.ts_shape.specs.Shape.{Row, Shape, tagged, no_other, items, der_rules}
 
 -- GeneralNames ::= SEQUENCE SIZE (1..MAX) OF GeneralName (4.2.1.6), by its content
 abbrev pub AreGeneralNames : List ℕ → List GeneralName → Type 0

@@ -4,12 +4,11 @@ use Rattle.ts_der.specs.declared.fault.Fault.{Fault}
 use Rattle.ts_der.specs.Answer.{◌>>=◌}
 use Rattle.ts_der.specs.Element.{Tlv, inside}
 use Rattle.ts_der.specs.Reading.{end_at}
-use Rattle.ts_name.specs.Names.{some_rules}
-use Rattle.ts_name.specs.Fields.{Within, IfAny, optional_of}
-use Rattle.ts_name.specs.Items.{of_tag, some_of, AreSome}
+use Rattle.ts_shape.specs.Items.{some_rules, of_tag, some_of, AreSome}
+use Rattle.ts_shape.specs.Fields.{Within, IfAny, optional_of}
 use Rattle.ts_name.specs.Subtree.{GeneralSubtree, IsSubtree, subtree_of}
 use Rattle.ts_name.specs.SubtreeTable.{general_subtree}
-use Rattle.ts_name.specs.Shape.{Row, Shape, tagged, no_other, optional, items, nothing, ◌then◌, der_rules}
+use Rattle.ts_shape.specs.Shape.{Row, Shape, tagged, no_other, optional, items, nothing, ◌then◌, der_rules}
 
 pub record Constraints : Type 0 where
   pub permittedSubtrees : Option (List GeneralSubtree)

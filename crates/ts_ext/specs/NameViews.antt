@@ -5,9 +5,9 @@ use Rattle.ts_der.specs.View.{now}
 use Rattle.ts_der.specs.BitsView.{bits_in}
 use Rattle.ts_name.specs.declared.general.General.{General}
 use Rattle.ts_name.specs.declared.subtree.Subtree.{Subtree}
-use Rattle.ts_name.specs.declared.sequence_of.SequenceOf.{SequenceOf}
+use Rattle.ts_shape.specs.declared.sequence_of.SequenceOf.{SequenceOf}
 use Rattle.ts_name.specs.NameView.{attributes_in}
-use Rattle.ts_name.specs.Items.{of_tag, items_at}
+use Rattle.ts_shape.specs.Items.{of_tag, items_at}
 use Rattle.ts_name.specs.General.{GeneralName, general_of}
 use Rattle.ts_name.specs.Subtree.{GeneralSubtree, subtree_of}
 use Rattle.ts_ext.specs.declared.distribution_point.PointName as point

@@ -11,8 +11,8 @@ use Rattle.ts_der.specs.Default.{flag_at}
 use Rattle.ts_der.specs.Integer.{integer_rules, small_rules}
 use Rattle.ts_der.specs.BitString.{named_bits_rules}
 use Rattle.ts_time.specs.Reading.{general_value}
-use Rattle.ts_name.specs.Fields.{oid_at, optional_of}
-use Rattle.ts_name.specs.Items.{of_tag, some_of}
+use Rattle.ts_shape.specs.Fields.{oid_at, optional_of}
+use Rattle.ts_shape.specs.Items.{of_tag, some_of}
 use Rattle.ts_ext.specs.declared.basic_constraints.BasicConstraints.{BasicConstraints}
 use Rattle.ts_ext.specs.declared.policy_constraints.PolicyConstraints.{PolicyConstraints}
 use Rattle.ts_ext.specs.declared.reason_code.ReasonCode.{ReasonCode}

@@ -1,10 +1,10 @@
 -- The rules of the values of extensions beside those of DER, in the order in which they count.
 use Rattle.std.specs.Prelude.{Bool, true, not, ◌&&◌, List, [], Option, Some, None, is_none, if◌then◌else◌}
 use Rattle.std.specs.List.{list_all}
-use Rattle.ts_name.specs.declared.fault.CertRule.{CertRule}
-use Rattle.ts_name.specs.declared.fault.CertRule.TheVariants.{SubtreeBounds, AddressLength, DuplicatePolicy}
+use Rattle.ts_shape.specs.declared.fault.CertRule.{CertRule}
+use Rattle.ts_shape.specs.declared.fault.CertRule.TheVariants.{SubtreeBounds, AddressLength, DuplicatePolicy}
 use Rattle.ts_name.specs.General.{has_address_length, has_range_length}
-use Rattle.ts_name.specs.Repeats.{first_repeated}
+use Rattle.ts_shape.specs.Repeats.{first_repeated}
 use Rattle.ts_name.specs.Subtree.{GeneralSubtree, is_unbounded}
 use Rattle.ts_ext.specs.Policies.{Information}
 use Rattle.ts_ext.specs.Points.{PointName, fullName, Point}

@@ -1,7 +1,7 @@
 -- Extensions of a certificate that break no rule (RFC 5280 4.2).
 use Rattle.std.specs.Prelude.{◌≡◌, ℕ, false, Bool, List, [], ◌∷◌, None}
-use Rattle.ts_name.specs.Fields.{Within}
-use Rattle.ts_name.specs.Repeats.{HaveEnds, is_among, first_repeated}
+use Rattle.ts_shape.specs.Fields.{Within}
+use Rattle.ts_shape.specs.Repeats.{HaveEnds, is_among, first_repeated}
 use Rattle.ts_ext.specs.declared.known.Holder.TheVariants.{Certificate}
 use Rattle.ts_ext.specs.Extension.{Extension, IsExtension, AreExtensions}
 use Rattle.ts_ext.specs.ValueRules.{IsSound, AreSound}

@@ -3,8 +3,8 @@ use Rattle.std.specs.Prelude.{◌≡◌, ℕ, ◌<◌, ◌^◌, Bool, true, fals
 use Rattle.ts_der.specs.Element.{number, spell}
 use Rattle.ts_der.specs.Boolean.{boolean_content}
 use Rattle.ts_der.specs.Integer.{is_shortest, is_negative}
-use Rattle.ts_name.specs.Fields.{Within, IfAny, IsAny, IsOid, IsInteger}
-use Rattle.ts_name.specs.Items.{AreSome}
+use Rattle.ts_shape.specs.Fields.{Within, IfAny, IsAny, IsOid, IsInteger}
+use Rattle.ts_shape.specs.Items.{AreSome}
 use Rattle.ts_time.specs.Text.{IsGeneral}
 use Rattle.ts_ext.specs.declared.reason_code.ReasonCode.{ReasonCode}
 use Rattle.ts_ext.specs.declared.reason_code.ReasonCode.TheVariants.{Unspecified, KeyCompromise, CaCompromise, AffiliationChanged, Superseded, CessationOfOperation, CertificateHold, RemoveFromCrl, PrivilegeWithdrawn, AaCompromise}

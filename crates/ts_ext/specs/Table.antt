@@ -7,10 +7,10 @@ use Rattle.ts_der.specs.Integer.{is_shortest, is_negative, integer_rules, small_
 use Rattle.ts_der.specs.Boolean.{boolean_rules, boolean_value}
 use Rattle.ts_der.specs.BitString.{named_bits_rules}
 use Rattle.ts_time.specs.Reading.{general_in}
-use Rattle.ts_name.specs.declared.fault.CertRule.TheVariants.{Der}
-use Rattle.ts_name.specs.Names.{some_rules}
-use Rattle.ts_name.specs.Shape.{ContentRules, Row, tagged, no_other, any, optional, Shape, items, nothing, ◌then◌, ◌or_else◌, der_rules, one_rule, primitive, sequence}
-use Rattle.ts_name.specs.Rows.{object_identifier}
+use Rattle.ts_shape.specs.declared.fault.CertRule.TheVariants.{Der}
+use Rattle.ts_shape.specs.Items.{some_rules}
+use Rattle.ts_shape.specs.Shape.{ContentRules, Row, tagged, no_other, any, optional, Shape, items, nothing, ◌then◌, ◌or_else◌, der_rules, one_rule, primitive, sequence}
+use Rattle.ts_shape.specs.Rows.{object_identifier}
 use Rattle.ts_ext.specs.declared.reason_code.ReasonCode.{ReasonCode}
 use Rattle.ts_ext.specs.declared.reason_code.ReasonCode.TheVariants.{Unspecified, KeyCompromise, CaCompromise, AffiliationChanged, Superseded, CessationOfOperation, CertificateHold, RemoveFromCrl, PrivilegeWithdrawn, AaCompromise}
 use Rattle.ts_ext.specs.Spelling.{reason_number}

@@ -2,7 +2,7 @@
 use Rattle.std.specs.Prelude.{ℕ, List, option_map}
 use Rattle.ts_der.specs.Element.{inside}
 use Rattle.ts_der.specs.View.{now}
-use Rattle.ts_name.specs.Items.{items_at}
+use Rattle.ts_shape.specs.Items.{items_at}
 use Rattle.ts_ext.specs.declared.policy_qualifier.PolicyQualifier.{PolicyQualifier}
 use Rattle.ts_ext.specs.declared.policy_information.PolicyInformation.{PolicyInformation}
 use Rattle.ts_ext.specs.declared.policy_mapping.PolicyMapping.{PolicyMapping}

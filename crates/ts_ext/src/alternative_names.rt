@@ -3,8 +3,8 @@
 ghost use Rattle.std.specs.Prelude.{◌≡◌, List, IfOk, IsOkAnd, option_map};
 ghost use Rattle.ts_der.specs.Answer.{Answers, refusal};
 ghost use Rattle.ts_der.specs.View.{now};
-ghost use Rattle.ts_name.specs.Fault.{about};
-ghost use Rattle.ts_name.specs.Items.{items_at};
+ghost use Rattle.ts_shape.specs.Fault.{about};
+ghost use Rattle.ts_shape.specs.Items.{items_at};
 ghost use Rattle.ts_name.specs.General.{GeneralName, general_of};
 ghost use Rattle.ts_ext.specs.Inner.{inner_fault};
 ghost use Rattle.ts_ext.specs.Table.{list_rules};
@@ -12,7 +12,8 @@ ghost use Rattle.ts_ext.specs.GeneralNames.{AreGeneralNames, general_names_of, g
 ghost use Rattle.ts_ext.specs.NameViews.{alternatives_in};
 
 use ts_der::{Element, Fault};
-use ts_name::{General, GeneralNames, SequenceItems, SequenceOf};
+use ts_name::{General, GeneralNames};
+use ts_shape::{SequenceItems, SequenceOf};
 
 /// Names of a subject or an issuer, one or more, of any form (RFC 5280 4.2.1.6, 4.2.1.7, 5.3.3).
 #[derive(Clone, Copy)]

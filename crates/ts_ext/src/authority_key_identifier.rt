@@ -3,10 +3,10 @@
 ghost use Rattle.std.specs.Prelude.{◌≡◌, IfOk, IsOkAnd, option_map};
 ghost use Rattle.ts_der.specs.Answer.{Answers, refusal};
 ghost use Rattle.ts_der.specs.View.{now};
-ghost use Rattle.ts_name.specs.Fault.{about};
-ghost use Rattle.ts_name.specs.Fields.{optional_of};
-ghost use Rattle.ts_name.specs.Shape.{no_rules};
-ghost use Rattle.ts_name.specs.Steps.{Takes};
+ghost use Rattle.ts_shape.specs.Fault.{about};
+ghost use Rattle.ts_shape.specs.Fields.{optional_of};
+ghost use Rattle.ts_shape.specs.Shape.{no_rules};
+ghost use Rattle.ts_shape.specs.Steps.{Takes};
 ghost use Rattle.ts_ext.specs.Inner.{inner_fault};
 ghost use Rattle.ts_ext.specs.NameViews.{authority_key_in};
 ghost use Rattle.ts_ext.specs.AuthorityKey.{octets_of, serial_of, authority_key_of, authority_key_fields, IsAuthorityKey, AuthorityKey};
@@ -33,7 +33,7 @@ pub struct AuthorityKeyIdentifier<'a> {
 }
 
 /// The octets of a key identifier, where one stands next.
-#[tactic(auto, unfolding(ts_name::specs::Fields::optional_of, ts_der::specs::Reading::optional_at))]
+#[tactic(auto, unfolding(ts_shape::specs::Fields::optional_of, ts_der::specs::Reading::optional_at))]
 fn next_key<'a>(fields: &mut Reader<'a>) -> Result<Option<&'a [u8]>, Fault>
     ensures { Takes (option_map (λ k. k.now)) fields.new result (optional_of 0x80 octets_of fields.old) }
 {
@@ -44,7 +44,7 @@ fn next_key<'a>(fields: &mut Reader<'a>) -> Result<Option<&'a [u8]>, Fault>
 }
 
 /// A serial number, where one stands next.
-#[tactic(auto, unfolding(ts_name::specs::Fields::optional_of, ts_der::specs::Reading::optional_at))]
+#[tactic(auto, unfolding(ts_shape::specs::Fields::optional_of, ts_der::specs::Reading::optional_at))]
 fn next_serial<'a>(fields: &mut Reader<'a>) -> Result<Option<Integer<'a>>, Fault>
     ensures { Takes (option_map (λ s. s.octets.now)) fields.new result (optional_of 0x82 serial_of fields.old) }
 {

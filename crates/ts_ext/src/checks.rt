@@ -3,7 +3,7 @@
 ghost use Rattle.std.specs.Prelude.{◌≡◌};
 ghost use Rattle.ts_der.specs.Answer.{Answers};
 ghost use Rattle.ts_der.specs.View.{now};
-ghost use Rattle.ts_name.specs.Items.{alone};
+ghost use Rattle.ts_shape.specs.Items.{alone};
 ghost use Rattle.ts_ext.specs.Ext.{content_of, value_of, ext_of};
 ghost use Rattle.ts_ext.specs.ExtensionView.{standing_as};
 ghost use Rattle.ts_ext.specs.ValueRules.{rule_place, rule_of, value_fault};
@@ -15,7 +15,7 @@ use crate::key_usage::KeyUsage;
 use crate::known::{Holder, Known};
 use crate::reason_code::ReasonCode;
 use ts_der::{Element, Fault};
-use ts_name::{CertFault, CertRule, tagged_as};
+use ts_shape::{CertFault, CertRule, tagged_as};
 
 /// The rule beside those of DER that the value breaks which an element's content is. The values that stand in most roots
 /// and entries can break none, so that no room is made for them.
@@ -42,7 +42,7 @@ fn check_content(known: Known, element: Element<'_>) -> Result<Option<CertRule>,
 }
 
 /// The same of the one value within an OCTET STRING.
-#[tactic(auto, unfolding(ts_name::specs::Items::alone, ts_name::specs::Items::each, ts_name::specs::Items::of_tag))]
+#[tactic(auto, unfolding(ts_shape::specs::Items::alone, ts_shape::specs::Items::each, ts_shape::specs::Items::of_tag))]
 #[inline(always)]
 fn check_alone(known: Known, octets: Element<'_>) -> Result<Option<CertRule>, Fault>
     ensures { Answers (λ rule. rule) result (rule_of (alone (value_of known) (now octets.entry))) }

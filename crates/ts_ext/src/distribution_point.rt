@@ -3,10 +3,10 @@
 ghost use Rattle.std.specs.Prelude.{◌≡◌, IfOk, IsOkAnd, option_map};
 ghost use Rattle.ts_der.specs.Answer.{Answers, refusal};
 ghost use Rattle.ts_der.specs.View.{now};
-ghost use Rattle.ts_name.specs.Fault.{about};
-ghost use Rattle.ts_name.specs.Fields.{optional_of};
-ghost use Rattle.ts_name.specs.Shape.{no_rules};
-ghost use Rattle.ts_name.specs.Steps.{Takes};
+ghost use Rattle.ts_shape.specs.Fault.{about};
+ghost use Rattle.ts_shape.specs.Fields.{optional_of};
+ghost use Rattle.ts_shape.specs.Shape.{no_rules};
+ghost use Rattle.ts_shape.specs.Steps.{Takes};
 ghost use Rattle.ts_ext.specs.Inner.{inner_fault};
 ghost use Rattle.ts_ext.specs.NameViews.{point_name_in, point_in};
 ghost use Rattle.ts_ext.specs.Points.{point_name_of, wrapped_name_of, point_of, point_fields, IsPoint, Point};
@@ -14,7 +14,8 @@ ghost use Rattle.ts_ext.specs.Points.{point_name_of, wrapped_name_of, point_of, 
 use crate::fields::{SEQUENCE, next_flags_if_any, next_names_if_any};
 use crate::reason_flags::ReasonFlags;
 use ts_der::{DerFault, Element, Fault, Reader};
-use ts_name::{FromElement, GeneralNames, Rdn, SequenceOf, tagged_as};
+use ts_name::{GeneralNames, Rdn};
+use ts_shape::{FromElement, SequenceOf, tagged_as};
 
 pub(crate) const POINT_NAME: u8 = 0xA0;
 
@@ -62,7 +63,7 @@ fn point_name<'a>(element: Element<'a>) -> Result<PointName<'a>, Fault>
 }
 
 /// The one name of a distribution point within an element.
-#[tactic(auto, unfolding(ts_name::specs::Items::alone, ts_name::specs::Items::each))]
+#[tactic(auto, unfolding(ts_shape::specs::Items::alone, ts_shape::specs::Items::each))]
 fn wrapped_name<'a>(element: Element<'a>) -> Result<PointName<'a>, Fault>
     ensures { Answers point_name_in result (wrapped_name_of (now element.entry)) }
 {
@@ -73,7 +74,7 @@ fn wrapped_name<'a>(element: Element<'a>) -> Result<PointName<'a>, Fault>
 }
 
 /// The name of a distribution point, where one stands next.
-#[tactic(auto, unfolding(ts_name::specs::Fields::optional_of, ts_der::specs::Reading::optional_at))]
+#[tactic(auto, unfolding(ts_shape::specs::Fields::optional_of, ts_der::specs::Reading::optional_at))]
 pub(crate) fn next_point_name<'a>(fields: &mut Reader<'a>) -> Result<Option<PointName<'a>>, Fault>
     ensures { Takes (option_map point_name_in) fields.new result (optional_of 0xA0 wrapped_name_of fields.old) }
 {
@@ -130,7 +131,7 @@ impl<'a> FromElement<'a> for DistributionPoint<'a> {
 
     ghost key_of = { λ _. [] };
 
-    #[tactic(auto, unfolding(ts_name::specs::Items::of_tag))]
+    #[tactic(auto, unfolding(ts_shape::specs::Items::of_tag))]
     fn read(element: Element<'a>) -> Result<DistributionPoint<'a>, Fault> {
         read_point(tagged_as(element, SEQUENCE)?)
     }

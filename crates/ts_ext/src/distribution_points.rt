@@ -3,8 +3,8 @@
 ghost use Rattle.std.specs.Prelude.{◌≡◌, List, IfOk, IsOkAnd, option_map};
 ghost use Rattle.ts_der.specs.Answer.{Answers, refusal};
 ghost use Rattle.ts_der.specs.View.{now};
-ghost use Rattle.ts_name.specs.Fault.{about};
-ghost use Rattle.ts_name.specs.Items.{items_at};
+ghost use Rattle.ts_shape.specs.Fault.{about};
+ghost use Rattle.ts_shape.specs.Items.{items_at};
 ghost use Rattle.ts_ext.specs.Inner.{inner_fault};
 ghost use Rattle.ts_ext.specs.Table.{list_rules};
 ghost use Rattle.ts_ext.specs.Points.{Point, ArePoints, point_item, points_of, points_items};
@@ -12,7 +12,7 @@ ghost use Rattle.ts_ext.specs.NameViews.{points_in};
 
 use crate::distribution_point::DistributionPoint;
 use ts_der::{Element, Fault};
-use ts_name::{SequenceItems, SequenceOf};
+use ts_shape::{SequenceItems, SequenceOf};
 
 /// Where the lists of a certificate, or the latest changes of a list, are found, one place or more (RFC 5280 4.2.1.13,
 /// 4.2.1.15, 5.2.6).

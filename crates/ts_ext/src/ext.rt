@@ -3,8 +3,8 @@
 ghost use Rattle.std.specs.Prelude.{◌≡◌, IfOk, IsOkAnd, option_map};
 ghost use Rattle.ts_der.specs.Answer.{Answers, refusal};
 ghost use Rattle.ts_der.specs.View.{now};
-ghost use Rattle.ts_name.specs.Fault.{about};
-ghost use Rattle.ts_name.specs.Items.{alone};
+ghost use Rattle.ts_shape.specs.Fault.{about};
+ghost use Rattle.ts_shape.specs.Items.{alone};
 ghost use Rattle.ts_ext.specs.Known.{known_at};
 ghost use Rattle.ts_ext.specs.Ext.{ExtValue, IsExt, content_of, value_of, ext_of, ext_fault};
 ghost use Rattle.ts_ext.specs.ExtView.{ext_in};
@@ -26,7 +26,7 @@ use crate::policy_mappings::PolicyMappings;
 use crate::reason_code::ReasonCode;
 use crate::skip_certs::SkipCerts;
 use ts_der::{Element, Fault, OidRef};
-use ts_name::tagged_as;
+use ts_shape::tagged_as;
 
 /// The value of an extension (RFC 5280 4.2, 5.2, 5.3).
 #[derive(Clone, Copy)]
@@ -90,7 +90,7 @@ pub(crate) fn read_content<'a>(known: Known, element: Element<'a>) -> Result<Ext
 }
 
 /// The value of an extension that an element of its tag is.
-#[tactic(auto, unfolding(ts_name::specs::Items::of_tag))]
+#[tactic(auto, unfolding(ts_shape::specs::Items::of_tag))]
 #[inline(always)]
 fn read_value<'a>(known: Known, element: Element<'a>) -> Result<Ext<'a>, Fault>
     ensures { Answers ext_in result (value_of known (now element.entry)) }
@@ -99,7 +99,7 @@ fn read_value<'a>(known: Known, element: Element<'a>) -> Result<Ext<'a>, Fault>
 }
 
 /// The one value within an OCTET STRING.
-#[tactic(auto, unfolding(ts_name::specs::Items::alone, ts_name::specs::Items::each))]
+#[tactic(auto, unfolding(ts_shape::specs::Items::alone, ts_shape::specs::Items::each))]
 #[inline(always)]
 fn read_alone<'a>(known: Known, octets: Element<'a>) -> Result<Ext<'a>, Fault>
     ensures { Answers ext_in result (alone (value_of known) (now octets.entry)) }

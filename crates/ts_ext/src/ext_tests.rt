@@ -4,7 +4,8 @@ use super::*;
 use crate::tests::{Refusal, refusal};
 use std::test::Fail;
 use ts_der::{DerFault, Fault, Reader};
-use ts_name::{CertRule, General, GeneralNames};
+use ts_name::{General, GeneralNames};
+use ts_shape::CertRule;
 
 const SUBJECT_KEY_IDENTIFIER: &[u8] = b"\x06\x03\x55\x1d\x0e";
 

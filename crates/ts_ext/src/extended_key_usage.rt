@@ -3,8 +3,8 @@
 ghost use Rattle.std.specs.Prelude.{◌≡◌, ℕ, List, IfOk, IsOkAnd, option_map};
 ghost use Rattle.ts_der.specs.Answer.{Answers, refusal};
 ghost use Rattle.ts_der.specs.View.{now};
-ghost use Rattle.ts_name.specs.Fault.{about};
-ghost use Rattle.ts_name.specs.Items.{items_at};
+ghost use Rattle.ts_shape.specs.Fault.{about};
+ghost use Rattle.ts_shape.specs.Items.{items_at};
 ghost use Rattle.ts_ext.specs.Inner.{inner_fault};
 ghost use Rattle.ts_ext.specs.Spelling.{AreKeyPurposes};
 ghost use Rattle.ts_ext.specs.Table.{ext_key_usage, list_rules};
@@ -12,7 +12,7 @@ ghost use Rattle.ts_ext.specs.Reading.{key_purpose_in, ext_key_usage_of};
 ghost use Rattle.ts_ext.specs.View.{purposes_in};
 
 use ts_der::{Element, Fault, OidRef};
-use ts_name::{SequenceItems, SequenceOf};
+use ts_shape::{SequenceItems, SequenceOf};
 
 /// For which purposes a key may be used, one or more (RFC 5280 4.2.1.12).
 #[derive(Clone, Copy)]

@@ -7,7 +7,7 @@ ghost use Rattle.ts_ext.specs.ExtensionView.{standing_as};
 
 use crate::fields::{BOOLEAN, OCTET_STRING, SEQUENCE, next_oid};
 use ts_der::{Element, Fault, OidRef};
-use ts_name::{FromElement, Keyed, tagged_as};
+use ts_shape::{FromElement, Keyed, tagged_as};
 
 /// An extension of a certificate, of a list or of an entry, as it lies in the source (RFC 5280 4.1, 4.2).
 #[derive(Clone, Copy)]
@@ -33,7 +33,7 @@ impl<'a> FromElement<'a> for Extension<'a> {
 
     ghost key_of = { λ x. x.extnID };
 
-    #[tactic(auto, unfolding(ts_name::specs::Items::of_tag))]
+    #[tactic(auto, unfolding(ts_shape::specs::Items::of_tag))]
     #[inline(always)]
     fn read(element: Element<'a>) -> Result<Extension<'a>, Fault> {
         read_extension(tagged_as(element, SEQUENCE)?)

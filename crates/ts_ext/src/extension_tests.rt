@@ -4,7 +4,7 @@ use super::*;
 use crate::tests::refusal;
 use std::test::Fail;
 use ts_der::{DerFault, Fault, Reader};
-use ts_name::CertRule;
+use ts_shape::CertRule;
 
 /// The subject's alternative name, the host `a`.
 const HOST: &[u8] = b"\x30\x0e\x30\x0c\x06\x03\x55\x1d\x11\x04\x05\x30\x03\x82\x01\x61";

@@ -6,9 +6,9 @@ ghost use Rattle.std.specs.Prelude.{◌≡◌, ◌↔◌, ℕ, List, [], None, I
 ghost use Rattle.ts_der.specs.Answer.{Answers, refusal};
 ghost use Rattle.ts_der.specs.Element.{inside};
 ghost use Rattle.ts_der.specs.View.{now};
-ghost use Rattle.ts_name.specs.Fault.{about};
-ghost use Rattle.ts_name.specs.Items.{items_at};
-ghost use Rattle.ts_name.specs.Repeats.{first_repeated as first_repeated_of};
+ghost use Rattle.ts_shape.specs.Fault.{about};
+ghost use Rattle.ts_shape.specs.Items.{items_at};
+ghost use Rattle.ts_shape.specs.Repeats.{first_repeated as first_repeated_of};
 ghost use Rattle.ts_ext.specs.Inner.{inner_fault};
 ghost use Rattle.ts_ext.specs.Extension.{Extension as Stated, AreExtensions, extensions, standing_in, extensions_of, standings_of};
 ghost use Rattle.ts_ext.specs.ExtensionView.{standing_as, standings_in, extensions_in};
@@ -19,7 +19,7 @@ ghost use Rattle.ts_ext.specs.ValueRules.{value_fault, values_fault, AreSound};
 use crate::extension::Extension;
 use crate::known::{Holder, Known};
 use ts_der::{Element, Fault};
-use ts_name::{CertFault, SequenceItems, SequenceOf, first_repeated};
+use ts_shape::{CertFault, SequenceItems, SequenceOf, first_repeated};
 
 /// Extensions, one or more (RFC 5280 4.1, 4.2).
 #[derive(Clone, Copy)]

@@ -4,10 +4,10 @@ ghost use Rattle.std.specs.Prelude.{◌≡◌, List, [], true, None, IfOk, IsOkA
 ghost use Rattle.ts_der.specs.Answer.{Answers, refusal};
 ghost use Rattle.ts_der.specs.Element.{inside};
 ghost use Rattle.ts_der.specs.View.{now};
-ghost use Rattle.ts_name.specs.Fault.{about};
-ghost use Rattle.ts_name.specs.Items.{items_at};
-ghost use Rattle.ts_name.specs.Repeats.{first_repeated as first_repeated_of};
-ghost use Rattle.ts_name.specs.Shape.{no_rules};
+ghost use Rattle.ts_shape.specs.Fault.{about};
+ghost use Rattle.ts_shape.specs.Items.{items_at};
+ghost use Rattle.ts_shape.specs.Repeats.{first_repeated as first_repeated_of};
+ghost use Rattle.ts_shape.specs.Shape.{no_rules};
 ghost use Rattle.ts_ext.specs.Inner.{inner_fault};
 ghost use Rattle.ts_ext.specs.Extension.{Extension as Stated, AreExplicit, explicit_extensions, standing_in, standings_of, explicit_standings_of};
 ghost use Rattle.ts_ext.specs.ExtensionView.{standings_in, extensions_in};
@@ -20,7 +20,7 @@ use crate::known::Holder;
 use crate::usual::usual_arc;
 use crate::usual_list::have_ends_of_their_own;
 use ts_der::{DerFault, Element, Fault};
-use ts_name::{CertFault, CertRule, Ends, Keyed, first_repeated, tagged_as};
+use ts_shape::{CertFault, CertRule, Ends, Keyed, first_repeated, tagged_as};
 
 /// Extensions that were read, and the first rule that they break.
 #[derive(Clone, Copy)]
@@ -52,7 +52,7 @@ impl<'a> Judged<'a> {
     }
 }
 
-#[tactic(auto, unfolding(ts_name::specs::Items::alone, ts_name::specs::Items::each, ts_name::specs::Items::of_tag))]
+#[tactic(auto, unfolding(ts_shape::specs::Items::alone, ts_shape::specs::Items::each, ts_shape::specs::Items::of_tag))]
 #[inline(always)]
 fn judge_explicit<'a>(element: Element<'a>, holder: Holder) -> Result<Judged<'a>, Fault>
     ensures placed { Answers (λ j. standings_in j.extensions) result (explicit_standings_of (now element.entry)) }
@@ -154,8 +154,8 @@ fn walk(list: Element<'_>, holder: Holder) -> Result<Findings, Fault>
 
 impl Findings {
     ghost use Rattle.std.specs.Prelude.{◌≡◌, ◌∷◌, ℕ, List, true, false};
-    ghost use Rattle.ts_name.specs.Repeats.{HaveEnds, is_among};
-    ghost use Rattle.ts_name.specs.Shape.{◌or_else◌};
+    ghost use Rattle.ts_shape.specs.Repeats.{HaveEnds, is_among};
+    ghost use Rattle.ts_shape.specs.Shape.{◌or_else◌};
     ghost use Rattle.ts_ext.specs.ExtensionView.{standing_as};
     ghost use Rattle.ts_ext.specs.ValueRules.{value_fault};
 

@@ -4,8 +4,8 @@ ghost use Rattle.std.specs.Prelude.{◌≡◌, ℕ, Bool, List, IfOk, IsOkAnd, o
 ghost use Rattle.ts_der.specs.Answer.{Answers, refusal};
 ghost use Rattle.ts_der.specs.View.{now};
 ghost use Rattle.ts_der.specs.BitsView.{bits_in};
-ghost use Rattle.ts_name.specs.Fault.{about};
-ghost use Rattle.ts_name.specs.Shape.{plain};
+ghost use Rattle.ts_shape.specs.Fault.{about};
+ghost use Rattle.ts_shape.specs.Shape.{plain};
 ghost use Rattle.ts_ext.specs.Inner.{inner_fault};
 ghost use Rattle.ts_ext.specs.NamedBits.{bit};
 ghost use Rattle.ts_ext.specs.Spelling.{IsKeyUsage};

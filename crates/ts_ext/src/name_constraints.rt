@@ -3,16 +3,17 @@
 ghost use Rattle.std.specs.Prelude.{◌≡◌, ℕ, IfOk, IsOkAnd, option_map};
 ghost use Rattle.ts_der.specs.Answer.{Answers, refusal};
 ghost use Rattle.ts_der.specs.View.{now};
-ghost use Rattle.ts_name.specs.Fault.{about};
-ghost use Rattle.ts_name.specs.Fields.{optional_of};
-ghost use Rattle.ts_name.specs.Shape.{no_rules};
-ghost use Rattle.ts_name.specs.Steps.{Takes};
+ghost use Rattle.ts_shape.specs.Fault.{about};
+ghost use Rattle.ts_shape.specs.Fields.{optional_of};
+ghost use Rattle.ts_shape.specs.Shape.{no_rules};
+ghost use Rattle.ts_shape.specs.Steps.{Takes};
 ghost use Rattle.ts_ext.specs.Inner.{inner_fault};
 ghost use Rattle.ts_ext.specs.NameViews.{subtrees_in, name_constraints_in};
 ghost use Rattle.ts_ext.specs.NameConstraints.{subtrees_of, name_constraints_of, name_constraints_fields, AreConstraints, Constraints};
 
 use ts_der::{Element, Fault, Reader};
-use ts_name::{SequenceOf, Subtree};
+use ts_name::Subtree;
+use ts_shape::SequenceOf;
 
 const PERMITTED_SUBTREES: u8 = 0xA0;
 
@@ -27,7 +28,7 @@ pub struct NameConstraints<'a> {
 }
 
 /// Subtrees, where an element of this tag stands next.
-#[tactic(auto, unfolding(ts_name::specs::Fields::optional_of, ts_der::specs::Reading::optional_at))]
+#[tactic(auto, unfolding(ts_shape::specs::Fields::optional_of, ts_der::specs::Reading::optional_at))]
 fn next_subtrees<'a>(
     fields: &mut Reader<'a>,
     tag: u8,

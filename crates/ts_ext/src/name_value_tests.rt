@@ -4,7 +4,8 @@ use super::*;
 use crate::tests::{Refusal, answer, refusal, value};
 use std::test::Fail;
 use ts_der::{DerFault, Fault};
-use ts_name::{General, GeneralNames, SequenceOf, Subtree};
+use ts_name::{General, GeneralNames, Subtree};
+use ts_shape::SequenceOf;
 
 fn names(octets: &[u8]) -> Result<AlternativeNames<'_>, Fault> {
     AlternativeNames::read(value(octets)?)

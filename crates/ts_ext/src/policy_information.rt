@@ -4,16 +4,16 @@ ghost use Rattle.std.specs.Prelude.{option_map};
 ghost use Rattle.ts_der.specs.Answer.{Answers};
 ghost use Rattle.ts_der.specs.Element.{inside};
 ghost use Rattle.ts_der.specs.View.{now};
-ghost use Rattle.ts_name.specs.Fields.{optional_of};
-ghost use Rattle.ts_name.specs.Items.{some_of, items_at};
-ghost use Rattle.ts_name.specs.Steps.{Takes};
+ghost use Rattle.ts_shape.specs.Fields.{optional_of};
+ghost use Rattle.ts_shape.specs.Items.{some_of, items_at};
+ghost use Rattle.ts_shape.specs.Steps.{Takes};
 ghost use Rattle.ts_ext.specs.Reading.{policy_qualifier_in, policy_information_of};
 ghost use Rattle.ts_ext.specs.View.{information_in};
 
 use crate::fields::{SEQUENCE, next_oid};
 use crate::policy_qualifier::PolicyQualifier;
 use ts_der::{Element, Fault, OidRef, Reader};
-use ts_name::{FromElement, Keyed, SequenceOf, tagged_as};
+use ts_shape::{FromElement, Keyed, SequenceOf, tagged_as};
 
 /// A policy of a certificate, as it lies in the source (RFC 5280 4.2.1.4).
 #[derive(Clone, Copy)]
@@ -36,7 +36,7 @@ impl<'a> FromElement<'a> for PolicyInformation<'a> {
 
     ghost key_of = { λ p. p.policyIdentifier };
 
-    #[tactic(auto, unfolding(ts_name::specs::Items::of_tag))]
+    #[tactic(auto, unfolding(ts_shape::specs::Items::of_tag))]
     #[inline(always)]
     fn read(element: Element<'a>) -> Result<PolicyInformation<'a>, Fault> {
         read_policy_information(tagged_as(element, SEQUENCE)?)
@@ -67,7 +67,7 @@ fn read_policy_information<'a>(element: Element<'a>) -> Result<PolicyInformation
 }
 
 /// The qualifiers, where a SEQUENCE stands.
-#[tactic(auto, unfolding(ts_name::specs::Fields::optional_of, ts_der::specs::Reading::optional_at))]
+#[tactic(auto, unfolding(ts_shape::specs::Fields::optional_of, ts_der::specs::Reading::optional_at))]
 #[inline(always)]
 fn next_qualifiers_if_any<'a>(
     fields: &mut Reader<'a>,

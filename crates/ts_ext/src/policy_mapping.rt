@@ -7,7 +7,7 @@ ghost use Rattle.ts_ext.specs.View.{mapping_in};
 
 use crate::fields::{SEQUENCE, next_oid};
 use ts_der::{Element, Fault, OidRef};
-use ts_name::{FromElement, tagged_as};
+use ts_shape::{FromElement, tagged_as};
 
 /// Two policies that an authority considers equivalent (RFC 5280 4.2.1.5).
 #[derive(Clone, Copy, Debug)]
@@ -31,7 +31,7 @@ impl<'a> FromElement<'a> for PolicyMapping<'a> {
 
     ghost key_of = { λ _. [] };
 
-    #[tactic(auto, unfolding(ts_name::specs::Items::of_tag))]
+    #[tactic(auto, unfolding(ts_shape::specs::Items::of_tag))]
     fn read(element: Element<'a>) -> Result<PolicyMapping<'a>, Fault> {
         read_policy_mapping(tagged_as(element, SEQUENCE)?)
     }

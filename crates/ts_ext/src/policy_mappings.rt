@@ -3,8 +3,8 @@
 ghost use Rattle.std.specs.Prelude.{◌≡◌, ℕ, List, IfOk, IsOkAnd, option_map};
 ghost use Rattle.ts_der.specs.Answer.{Answers, refusal};
 ghost use Rattle.ts_der.specs.View.{now};
-ghost use Rattle.ts_name.specs.Fault.{about};
-ghost use Rattle.ts_name.specs.Items.{items_at};
+ghost use Rattle.ts_shape.specs.Fault.{about};
+ghost use Rattle.ts_shape.specs.Items.{items_at};
 ghost use Rattle.ts_ext.specs.Inner.{inner_fault};
 ghost use Rattle.ts_ext.specs.Policies.{Mapping};
 ghost use Rattle.ts_ext.specs.Spelling.{ArePolicyMappings};
@@ -14,7 +14,7 @@ ghost use Rattle.ts_ext.specs.View.{mappings_in};
 
 use crate::policy_mapping::PolicyMapping;
 use ts_der::{Element, Fault};
-use ts_name::{SequenceItems, SequenceOf};
+use ts_shape::{SequenceItems, SequenceOf};
 
 /// Which policies an authority considers equivalent, one pair or more (RFC 5280 4.2.1.5).
 #[derive(Clone, Copy)]

@@ -7,7 +7,7 @@ ghost use Rattle.ts_ext.specs.View.{qualifier_in};
 
 use crate::fields::{SEQUENCE, next_oid};
 use ts_der::{Element, Fault, OidRef};
-use ts_name::{FromElement, tagged_as};
+use ts_shape::{FromElement, tagged_as};
 
 /// A qualifier of a policy, as it lies in the source (RFC 5280 4.2.1.4, `PolicyQualifierInfo`).
 #[derive(Clone, Copy, Debug)]
@@ -31,7 +31,7 @@ impl<'a> FromElement<'a> for PolicyQualifier<'a> {
 
     ghost key_of = { λ _. [] };
 
-    #[tactic(auto, unfolding(ts_name::specs::Items::of_tag))]
+    #[tactic(auto, unfolding(ts_shape::specs::Items::of_tag))]
     fn read(element: Element<'a>) -> Result<PolicyQualifier<'a>, Fault> {
         read_policy_qualifier(tagged_as(element, SEQUENCE)?)
     }

@@ -11,8 +11,8 @@ ghost use Rattle.ts_ext.specs.Ext.{nameConstraints};
 ghost use Rattle.ts_ext.specs.Reading.{policy_information_in};
 ghost use Rattle.ts_der.specs.Element.{inside};
 ghost use Rattle.ts_der.specs.View.{now};
-ghost use Rattle.ts_name.specs.Items.{items_at};
-ghost use Rattle.ts_name.specs.declared.fault.CertRule.TheVariants.{AddressLength};
+ghost use Rattle.ts_shape.specs.Items.{items_at};
+ghost use Rattle.ts_shape.specs.declared.fault.CertRule.TheVariants.{AddressLength};
 
 use crate::distribution_point::{DistributionPoint, PointName};
 use crate::distribution_points::DistributionPoints;
@@ -20,7 +20,8 @@ use crate::ext::Ext;
 use crate::name_constraints::NameConstraints;
 use crate::policy_information::PolicyInformation;
 use ts_der::Element;
-use ts_name::{CertRule, GeneralNames, SequenceOf, Subtree, first_repeated};
+use ts_name::{GeneralNames, Subtree};
+use ts_shape::{CertRule, SequenceOf, first_repeated};
 
 /// Whether each IP address among names has 4 octets or 16.
 fn have_address_length(names: GeneralNames<'_>) -> bool

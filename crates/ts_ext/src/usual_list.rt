@@ -1,7 +1,6 @@
 //! The extensions of a certificate, told at a glance where they are those of most.
 
-ghost use Rattle.std.specs.Prelude.{◌≡◌, ◌≤◌, ◌↔◌, IsTrue, true, IfSome, length, take};
-ghost use Rattle.std.specs.Prelude.{None, Ok};
+ghost use Rattle.std.specs.Prelude.{◌≡◌, ◌≤◌, ◌↔◌, IsTrue, true, IfSome, length, take, None, Ok};
 ghost use Rattle.ts_der.specs.View.{now};
 ghost use Rattle.ts_ext.specs.declared.known.Holder.TheVariants.{Certificate};
 ghost use Rattle.ts_ext.specs.Extension.{Standing, standing_of};
@@ -15,7 +14,7 @@ use crate::known::Holder;
 use crate::usual::usual_arc;
 use crate::usual_extension::usual_size;
 use ts_der::{Element, Reader};
-use ts_name::{Ends, Keyed};
+use ts_shape::{Ends, Keyed};
 
 /// A list of more octets is not looked at: one that breaks a rule is walked once more, and may be made to be slow.
 const SHORT: usize = 4_096;

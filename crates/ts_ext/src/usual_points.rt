@@ -1,7 +1,7 @@
 //! Distribution points as most certificates have them, told at a glance.
 
 ghost use Rattle.std.specs.Prelude.{◌≡◌, ◌++◌, true, ℕ, List, IfSome, map};
-ghost use Rattle.ts_name.specs.Fields.{Within};
+ghost use Rattle.ts_shape.specs.Fields.{Within};
 ghost use Rattle.ts_ext.specs.Points.{IsPoint, ArePoints, point_of_uri};
 
 use crate::distribution_point::{FULL_NAME, POINT_NAME};

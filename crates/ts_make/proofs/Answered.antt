@@ -6,18 +6,17 @@ use Rattle.std.specs.declared.alloc.Global.{Global}
 use Rattle.std.proofs.lemmas.Slice.Eq.{bytes_eq-Decides}
 use Rattle.sha2.specs.Sha256.{sha256}
 use Rattle.ts_der.specs.declared.fault.DerFault.TheVariants.{TimeForm}
-use Rattle.ts_name.specs.declared.fault.CertRule.TheVariants.{Der}
-use Rattle.ts_name.specs.declared.fault.CertFault.{CertFault}
+use Rattle.ts_shape.specs.declared.fault.CertRule.TheVariants.{Der}
+use Rattle.ts_shape.specs.declared.fault.CertFault.{CertFault}
 use Rattle.ts_time.specs.Civil.{IsInYears}
 use Rattle.ts_cert.specs.declared.time.Time.{Time}
-use Rattle.ts_name.specs.Fault.{breaks}
-use Rattle.ts_cert.specs.Certificate.{Certificate}
+use Rattle.ts_shape.specs.Fault.{breaks}
+use Rattle.ts_cert.specs.Certificate.{Certificate, all_extensions}
 use Rattle.ts_cert.specs.Reading.{unless_broken, certificate_of}
 use Rattle.ts_cert.specs.declared.version.Version.TheVariants.{V3}
-use Rattle.ts_cert.specs.Certificate.{all_extensions}
 use Rattle.ts_cert.specs.Rules.{LateFields, extensions_fault}
 use Rattle.ts_cert.proofs.FieldRules.{Has, KeepsRules, rules-again}
-use Rattle.ts_name.specs.Repeats.{first_repeated}
+use Rattle.ts_shape.specs.Repeats.{first_repeated}
 use Rattle.ts_ext.specs.declared.known.Holder.TheVariants.{Certificate as CertificateHolder}
 use Rattle.ts_ext.specs.Extension.{Extension}
 use Rattle.ts_ext.specs.ValueRules.{AreSound}

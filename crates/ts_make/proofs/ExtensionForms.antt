@@ -3,8 +3,8 @@ use Rattle.std.proofs.Common.{◌≡◌, ℕ, ◌≤◌, Bool, true, false, List
 use Rattle.std.specs.List.{flat_map, AllByRecursion}
 use Rattle.ts_der.specs.Element.{spell}
 use Rattle.ts_der.specs.ObjectIdentifier.{is_oid, series_of, subidentifier}
-use Rattle.ts_name.specs.Fields.{Within, IfAny}
-use Rattle.ts_name.specs.Items.{AreItems}
+use Rattle.ts_shape.specs.Fields.{Within, IfAny}
+use Rattle.ts_shape.specs.Items.{AreItems}
 use Rattle.ts_ext.specs.Extension.{Extension, IsExtension, AreExplicit}
 use Rattle.ts_ext.specs.Spelling.{IfTrue}
 use Rattle.ts_make.specs.declared.description.ExtensionText.{ExtensionText}

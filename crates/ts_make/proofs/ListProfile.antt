@@ -2,22 +2,21 @@
 -- for no other issuer, and has no relative name.
 use Rattle.std.proofs.Common.{◌≡◌, ℕ, ◌+◌, ◌≤◌, ◌||◌, Bool, true, false, eqb, List, [], ◌∷◌, ◌++◌, length, Option, Some, None, Result, Ok, Err, refl, sym, ap, ◌∙◌, arith, length-append}
 use Rattle.std.specs.Prelude.{map, unwrap_or, option_map}
-use Rattle.std.specs.List.{AllByRecursion, list_any}
+use Rattle.std.specs.List.{AllByRecursion, list_any, flat_map}
 use Rattle.std.specs.Borrow.{Bor}
 use Rattle.std.specs.Str.{bytes_eq}
 use Rattle.std.proofs.lemmas.Slice.Eq.{bytes_eq-Decides}
 use Rattle.std.proofs.lemmas.List.{append-nil}
-use Rattle.std.specs.List.{flat_map}
 use Rattle.ts_der.specs.declared.fault.Fault.{Fault}
 use Rattle.ts_der.specs.Answer.{◌>>=◌}
 use Rattle.ts_der.specs.Default.{flag_at}
 use Rattle.ts_der.specs.Element.{Place, Tlv, Fits, spell, inside, spelled_at}
 use Rattle.ts_der.specs.Reading.{begins_with, element_of, end_at, optional_at}
 use Rattle.ts_der.proofs.Laws.{element-only, next-only}
-use Rattle.ts_name.specs.Fields.{optional_of}
+use Rattle.ts_shape.specs.Fields.{optional_of}
 use Rattle.ts_name.specs.General.{GeneralName}
-use Rattle.ts_name.specs.Items.{each, alone}
-use Rattle.ts_name.specs.Shape.{◌or_else◌}
+use Rattle.ts_shape.specs.Items.{each, alone}
+use Rattle.ts_shape.specs.Shape.{◌or_else◌}
 use Rattle.ts_ext.specs.declared.known.Holder.TheVariants.{List as ListHolder}
 use Rattle.ts_ext.specs.declared.known.Known.TheVariants.{DeltaCrlIndicator}
 use Rattle.ts_ext.specs.Extension.{Standing, Extension, said}

@@ -6,10 +6,10 @@ use Rattle.ts_der.specs.declared.fault.DerFault.TheVariants.{TimeForm as TimeRul
 use Rattle.ts_der.specs.Element.{Place, Tlv, Fits, spell, inside, spelled_at}
 use Rattle.ts_der.specs.Reading.{fault_at, begins_with, optional_at}
 use Rattle.ts_der.proofs.Laws.{element-only}
-use Rattle.ts_name.specs.declared.fault.CertRule.TheVariants.{Der}
-use Rattle.ts_name.specs.Fault.{breaks}
-use Rattle.ts_name.specs.Fields.{optional_of}
-use Rattle.ts_name.proofs.FieldParts.{name-part}
+use Rattle.ts_shape.specs.declared.fault.CertRule.TheVariants.{Der}
+use Rattle.ts_shape.specs.Fault.{breaks}
+use Rattle.ts_shape.specs.Fields.{optional_of}
+use Rattle.ts_name.proofs.NameParts.{name-part}
 use Rattle.sha2.specs.Sha256.{sha256}
 use Rattle.ts_sig.specs.StandIn.{algorithm_identifier}
 use Rattle.ts_time.specs.Civil.{IsInYears}

@@ -8,8 +8,8 @@ use Rattle.ts_der.specs.declared.oid.OidRef.{OidRef}
 use Rattle.ts_der.specs.Element.{spell}
 use Rattle.ts_der.specs.ObjectIdentifier.{is_oid, series_of, subidentifier}
 use Rattle.ts_sig.specs.StandIn.{algorithm_identifier}
-use Rattle.ts_name.specs.Fields.{Within, IfAny}
-use Rattle.ts_name.specs.Items.{AreItems}
+use Rattle.ts_shape.specs.Fields.{Within, IfAny}
+use Rattle.ts_shape.specs.Items.{AreItems}
 use Rattle.ts_cert.specs.declared.time.Time.{Time}
 use Rattle.ts_cert.specs.Spelling.{IsTime}
 use Rattle.ts_ext.specs.Extension.{Extension, IsExtension, AreExtensions}

@@ -11,8 +11,8 @@ use Rattle.ts_der.specs.Answer.{◌>>=◌}
 use Rattle.ts_der.specs.Element.{Place, Tlv, Fits, length_octets, spell, inside, spelled_at}
 use Rattle.ts_der.specs.Reading.{end_at}
 use Rattle.ts_der.proofs.Laws.{next-only}
-use Rattle.ts_name.specs.Items.{each, alone, of_tag, tagged_as}
-use Rattle.ts_name.specs.Shape.{◌or_else◌}
+use Rattle.ts_shape.specs.Items.{each, alone, of_tag, tagged_as}
+use Rattle.ts_shape.specs.Shape.{◌or_else◌}
 use Rattle.ts_cert.specs.declared.time.Time.{Time}
 use Rattle.ts_ext.specs.declared.known.Holder.TheVariants.{List as ListHolder}
 use Rattle.ts_ext.specs.declared.known.Known.TheVariants.{IssuingDistributionPoint}

@@ -8,7 +8,7 @@ use Rattle.ts_der.specs.Element.{Fits, spell}
 use Rattle.ts_der.specs.ObjectIdentifier.{is_oid, series_of, subidentifier, arcs, IsOid}
 use Rattle.ts_name.specs.Names.{text_rules}
 use Rattle.ts_name.specs.NameSpelling.{attribute_content, rdn_content, spelled_rdn, IsRdn, IsName}
-use Rattle.ts_name.specs.Fields.{Within}
+use Rattle.ts_shape.specs.Fields.{Within}
 use Rattle.ts_make.specs.declared.description.AttributeType.{AttributeType}
 use Rattle.ts_make.specs.declared.description.AttributeType.TheVariants.{CommonName, OrganizationName}
 use Rattle.ts_make.specs.declared.description.RdnText.{RdnText}

@@ -4,7 +4,7 @@ use Rattle.std.proofs.lemmas.Bool.{cases_lt, cases_eq, lt-ltb, le-ltb, ne_eqb}
 use Rattle.ts_der.specs.Element.{number, spell}
 use Rattle.ts_der.specs.Integer.{is_shortest, is_negative, twos_complement}
 use Rattle.ts_der.specs.Integer as integers
-use Rattle.ts_name.specs.Fields.{Within, IsInteger}
+use Rattle.ts_shape.specs.Fields.{Within, IsInteger}
 use Rattle.ts_ext.specs.Spelling.{IsSmall}
 use Rattle.ts_make.specs.Serial.{serial_content}
 use Rattle.ts_make.proofs.StandIns.{content-short}

@@ -6,8 +6,8 @@ use Rattle.std.proofs.lemmas.Slice.Eq.{bytes_eq-Decides}
 use Rattle.std.proofs.lemmas.List.{append-nil}
 use Rattle.ts_der.specs.Element.{Place, spell, spelled_at}
 use Rattle.ts_der.proofs.Laws.{element-only}
-use Rattle.ts_name.specs.Fields.{Within}
-use Rattle.ts_name.proofs.Shapes.{end-again}
+use Rattle.ts_shape.specs.Fields.{Within}
+use Rattle.ts_shape.proofs.Endings.{end-again}
 use Rattle.ts_cert.specs.Certificate.{Algorithm, Certificate}
 use Rattle.ts_cert.specs.Rules.{LateFields, extensions_fault}
 use Rattle.ts_cert.specs.Spelling.{IsSigned}

@@ -5,7 +5,7 @@ use Rattle.ts_der.specs.Element.{spell}
 use Rattle.ts_sig.specs.StandIn.{algorithm_identifier}
 use Rattle.ts_cert.specs.declared.version.Version.TheVariants.{V3}
 use Rattle.ts_cert.specs.declared.time.Time.{Time}
-use Rattle.ts_name.specs.Fields.{Within}
+use Rattle.ts_shape.specs.Fields.{Within}
 use Rattle.ts_cert.specs.Spelling.{IsTime, IsTbs, IsSigned, version_octets}
 use Rattle.ts_make.specs.declared.description.CertText.{CertText}
 use Rattle.ts_make.specs.Serial.{serial_content}

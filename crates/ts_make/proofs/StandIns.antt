@@ -4,7 +4,7 @@ use Rattle.std.proofs.lemmas.List.{append-nil}
 use Rattle.ts_der.specs.Element.{Fits, spell, length_octets}
 use Rattle.ts_der.specs.ObjectIdentifier.{series_of, subidentifier, is_oid}
 use Rattle.ts_sig.specs.StandIn.{identifier, algorithm_identifier}
-use Rattle.ts_name.specs.Fields.{Within, IsBits}
+use Rattle.ts_shape.specs.Fields.{Within, IsBits}
 use Rattle.ts_cert.specs.Spelling.{IsAlgorithm, IsKeyInfo}
 use Rattle.ts_make.specs.Description.{stand_in}
 use Rattle.ts_make.specs.Made.{bit_octets, key_octets}

@@ -4,8 +4,8 @@ use Rattle.std.proofs.lemmas.List.{append-nil}
 use Rattle.std.specs.List.{flat_map, AllByRecursion}
 use Rattle.ts_der.specs.Element.{spell}
 use Rattle.ts_der.specs.ObjectIdentifier.{is_oid}
-use Rattle.ts_name.specs.Fields.{Within, IsOid}
-use Rattle.ts_name.specs.Items.{AreItems}
+use Rattle.ts_shape.specs.Fields.{Within, IsOid}
+use Rattle.ts_shape.specs.Items.{AreItems}
 use Rattle.ts_ext.specs.declared.known.Known.TheVariants as extension
 use Rattle.ts_ext.specs.Ext.{IsExt, certificatePolicies, policyMappings, extKeyUsage}
 use Rattle.ts_ext.specs.Spelling.{IsPolicyInformation, IsPolicyMapping}

@@ -3,8 +3,8 @@ use Rattle.std.proofs.Common.{◌≡◌, ◌≢◌, ℕ, ◌≤◌, ◌<◌, ◌
 use Rattle.std.proofs.lemmas.List.{append-nil}
 use Rattle.std.specs.List.{flat_map}
 use Rattle.ts_der.specs.Element.{spell}
-use Rattle.ts_name.specs.Fields.{Within, IfAny}
-use Rattle.ts_name.specs.Items.{AreItems}
+use Rattle.ts_shape.specs.Fields.{Within, IfAny}
+use Rattle.ts_shape.specs.Items.{AreItems}
 use Rattle.ts_name.specs.General.{IsGeneralName, uniformResourceIdentifier}
 use Rattle.ts_name.specs.Subtree.{GeneralSubtree, IsSubtree}
 use Rattle.ts_ext.specs.declared.known.Known.TheVariants as extension

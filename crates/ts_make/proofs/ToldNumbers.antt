@@ -6,7 +6,7 @@ use Rattle.std.proofs.lemmas.List.{append-nil}
 use Rattle.std.proofs.lemmas.List.Concat.{flat_map-append}
 use Rattle.ts_der.specs.Element.{spell, length_octets}
 use Rattle.ts_der.specs.Boolean.{boolean_content}
-use Rattle.ts_name.specs.Fields.{Within, IfAny}
+use Rattle.ts_shape.specs.Fields.{Within, IfAny}
 use Rattle.ts_ext.specs.declared.known.Known.TheVariants as extension
 use Rattle.ts_ext.specs.Ext.{IsExt, basicConstraints, inhibitAnyPolicy, policyConstraints}
 use Rattle.ts_ext.specs.Spelling.{IsSmall}

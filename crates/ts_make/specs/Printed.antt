@@ -1,7 +1,7 @@
 -- What is printed of why a certificate was not made.
 use Rattle.std.specs.Prelude.{ℕ, List, ◌++◌, codes}
 use Rattle.std.specs.Fmt.{decimal}
-use Rattle.ts_name.specs.Printed.{rule_name}
+use Rattle.ts_shape.specs.Printed.{rule_name}
 use Rattle.ts_make.specs.declared.fault.MakeFault.{MakeFault}
 use Rattle.ts_make.specs.declared.fault.MakeFault.TheVariants.{Memory, TooLong, Unreadable}
 

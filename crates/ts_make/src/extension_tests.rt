@@ -3,7 +3,7 @@
 use super::*;
 use std::alloc::Global;
 use ts_der::{DerFault, Fault, OidRef, Reader};
-use ts_name::{CertFault, CertRule};
+use ts_shape::{CertFault, CertRule};
 use ts_time::Moment;
 
 /// Serial number 1, issuer and subject CN=R, 2026-01-01 to 2027-01-01, a CA without a limit.

@@ -7,7 +7,7 @@ ghost use Rattle.ts_make.specs.Printed.{fault_text};
 use std::alloc::{AllocError, AllocFailed};
 use std::error::Error;
 use std::fmt;
-use ts_name::CertFault;
+use ts_shape::CertFault;
 
 /// Why [`make_cert`](crate::make_cert) made no certificate.
 #[derive(Clone, Copy, Debug, PartialEq, Eq)]

@@ -5,7 +5,7 @@ use std::alloc::Global;
 use ts_crl::{Crl, CrlFault};
 use ts_der::{DerFault, Fault, OidRef, Reader};
 use ts_ext::ReasonCode;
-use ts_name::{CertFault, CertRule};
+use ts_shape::{CertFault, CertRule};
 use ts_time::Moment;
 
 /// Issuer CN=Y, 2026-05-01 to 2026-07-01, number 1, under the key "a".

@@ -3,7 +3,7 @@
 use super::*;
 use std::alloc::{AllocError, Global};
 use ts_der::DerFault;
-use ts_name::{CertFault, CertRule};
+use ts_shape::{CertFault, CertRule};
 use ts_time::Moment;
 
 /// Serial number 1, issuer and subject CN=R, 2026-01-01 to 2027-01-01, with a key of one octet, signed by itself.

@@ -13,21 +13,23 @@ use Rattle.ts_der.specs.ObjectIdentifier.{is_oid, oid_rules}
 use Rattle.ts_der.specs.Reading.{located, value_at, end_at}
 use Rattle.ts_der.specs.Text.{is_ascii, ascii_rules}
 use Rattle.ts_der.proofs.Laws.{bind_ok, ok_is}
-use Rattle.ts_name.specs.declared.fault.CertFault.{CertFault}
+use Rattle.ts_shape.specs.declared.fault.CertFault.{CertFault}
 use Rattle.ts_name.specs.Canon.{Attr}
-use Rattle.ts_name.specs.Fault.{der, breaks}
-use Rattle.ts_name.specs.Fields.{Within, name_at}
+use Rattle.ts_shape.specs.Fault.{der, breaks}
+use Rattle.ts_shape.specs.Fields.{Within}
+use Rattle.ts_name.specs.Names.{name_at}
 use Rattle.ts_name.specs.NameSpelling.{IsName}
-use Rattle.ts_name.specs.Items.{each}
+use Rattle.ts_shape.specs.Items.{each}
 use Rattle.ts_name.specs.General.{GeneralName, otherName, rfc822Name, dNSName, x400Address, directoryName, ediPartyName, uniformResourceIdentifier, iPAddress, registeredID, IsForm, IsGeneralName, directory_of, general_of, general_at, has_range_length}
 use Rattle.ts_name.specs.GeneralTable.{general_name}
-use Rattle.ts_name.specs.Rows.{name}
-use Rattle.ts_name.specs.Shape.{nothing, plain, ◌then◌, ◌or_else◌, row_fault, judge, der_rules, no_rules}
-use Rattle.ts_name.proofs.Shapes.{end-ok, end-again}
-use Rattle.ts_name.proofs.Parts.{Part, took}
-use Rattle.ts_name.proofs.ItemParts.{choice-found, choice-judged, form-part}
-use Rattle.ts_name.proofs.FieldParts.{name-part}
-use Rattle.ts_name.proofs.Judging.{Judged, no_more, under, then-judged, ends, Whatever, Reads, next-reads, name-reads}
+use Rattle.ts_name.specs.NameRows.{name}
+use Rattle.ts_shape.specs.Shape.{nothing, plain, ◌then◌, ◌or_else◌, row_fault, judge, der_rules, no_rules}
+use Rattle.ts_shape.proofs.Endings.{end-ok, end-again}
+use Rattle.ts_shape.proofs.Parts.{Part, took}
+use Rattle.ts_shape.proofs.ItemParts.{choice-found, choice-judged, form-part}
+use Rattle.ts_name.proofs.NameParts.{name-part}
+use Rattle.ts_shape.proofs.Judging.{Judged, no_more, under, then-judged, ends, Whatever, Reads, next-reads}
+use Rattle.ts_name.proofs.NameJudging.{name-reads}
 
 -- ---- directory names
 
@@ -125,7 +127,7 @@ formed-judged : (rules : List Rule) (form : List ℕ → GeneralName) (e : Tlv)
     → Judged (der (value_at rules (λ c. c) e >>= λ text. Ok (form text))) (option_map (breaks e.at) (der_rules rules e.content)) (λ x. Unit {0})
 formed-judged rules form e = by_rules (first_broken rules e.content)
   where
-    by_rules : (o : Option DerFault) → Judged (der (located e.at (value_unless o e.content) >>= λ text. Ok (form text))) (option_map (breaks e.at) (option_map Rattle.ts_name.specs.declared.fault.CertRule.TheVariants.Der o)) (λ x. Unit {0})
+    by_rules : (o : Option DerFault) → Judged (der (located e.at (value_unless o e.content) >>= λ text. Ok (form text))) (option_map (breaks e.at) (option_map Rattle.ts_shape.specs.declared.fault.CertRule.TheVariants.Der o)) (λ x. Unit {0})
     by_rules None = (refl, tt)
     by_rules (Some k) = refl
 

@@ -10,7 +10,7 @@ use Rattle.ts_name.specs.declared.rdn.Rdn.{Rdn}
 use Rattle.ts_name.specs.Canon.{Attr, CanonAttr, canon_attr, count_of, is_same}
 use Rattle.ts_name.specs.Names.{attribute_at, attribute_of}
 use Rattle.ts_name.specs.NameView.{attributes_in}
-use Rattle.ts_name.proofs.Walks.{many-short, ok_unwrapped}
+use Rattle.ts_shape.proofs.Walks.{many-short, ok_unwrapped}
 use Rattle.ts_name.proofs.Order.{is_same-itself, one_if_same}
 
 -- there are fewer attributes than a usize counts

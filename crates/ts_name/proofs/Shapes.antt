@@ -18,27 +18,17 @@ use Rattle.ts_der.proofs.Sets.{members-again}
 use Rattle.ts_der.proofs.OctetLists.{AreOctets-back}
 use Rattle.ts_der.proofs.Elements.{next-found}
 use Rattle.ts_der.proofs.Laws.{bind_ok, ok_is, element-found, element-only, next-only}
+use Rattle.ts_shape.proofs.Endings.{end-ok, end-again}
 use Rattle.ts_name.specs.Canon.{Attr}
-use Rattle.ts_name.specs.Names.{text_rules, some_rules, attribute_of, attribute_at, rdn_of, name_of}
+use Rattle.ts_name.specs.Names.{text_rules, attribute_of, attribute_at, rdn_of, name_of}
+use Rattle.ts_shape.specs.Items.{some_rules}
 use Rattle.ts_name.specs.NameSpelling.{attribute_content, spelled_attribute, rdn_content, IsAttribute, IsRdn, IsName}
-use Rattle.ts_name.proofs.Codecs.{Codec, many-found, many-again}
+use Rattle.ts_shape.proofs.Codecs.{Codec, many-found, many-again}
 
 -- a value that was located
 value-ok : {A : Type 0} (o : Option DerFault) (at : ℕ) (x y : A) → located at (value_unless o x) ≡ Ok y → (o ≡ None) × (x ≡ y)
 value-ok None at x y e = (refl, ok_is {E = Fault} x y e)
 value-ok (Some k) at x y e = absurd cc
-
-pub end-ok : (here : Place) (u : Unit {0}) → end_at here ≡ Ok u → here.rest ≡ []
-unfolding end_at
-end-ok here u e = by_rest here.rest here.at e
-  where
-    by_rest : (rest : List ℕ) (at : ℕ) → end_at (record { rest = rest; at = at }) ≡ Ok u → rest ≡ []
-    by_rest [] at e = refl
-    by_rest (o ∷ rest) at e = absurd cc
-
-pub end-again : (at : ℕ) → end_at (record { rest = []; at = at }) ≡ Ok tt
-unfolding end_at
-end-again at = refl
 
 oid-ok : (c : List ℕ) → cond (not (is_oid c)) (Some Rattle.ts_der.specs.declared.fault.DerFault.TheVariants.OidForm) None ≡ None → is_oid c ≡ true
 oid-ok c e = by_test (is_oid c) e

@@ -20,7 +20,7 @@ use Rattle.ts_der.proofs.Texts.{is_utf8_is, below-all, all-below}
 use Rattle.ts_name.specs.Canon.{Attr}
 use Rattle.ts_name.specs.Names.{text_rules, rdn_at, name_of}
 use Rattle.ts_name.specs.NameSpelling.{attribute_content, rdn_content, spelled_rdn, IsAttribute, IsRdn, IsRdnContent, IsName}
-use Rattle.ts_name.proofs.Walks.{not_refused_is, refused_is}
+use Rattle.ts_shape.proofs.Walks.{not_refused_is, refused_is}
 use Rattle.ts_name.proofs.Shapes.{name-found, name-again}
 use Rattle.ts_der.proofs.Laws.{err_not_ok}
 

@@ -13,20 +13,20 @@ use Rattle.ts_der.specs.Header.{header_rules}
 use Rattle.ts_der.specs.Integer.{is_shortest, integer_rules}
 use Rattle.ts_der.specs.Reading.{unless, located, begins_with, is_end, element_of, behind, next_at, element_at, end_at}
 use Rattle.ts_der.proofs.Laws.{bind_ok, ok_is, element-only}
-use Rattle.ts_name.specs.declared.fault.CertRule.TheVariants.{SubtreeBounds, AddressLength}
-use Rattle.ts_name.specs.declared.fault.CertFault.{CertFault}
-use Rattle.ts_name.specs.Fault.{der, breaks}
-use Rattle.ts_name.specs.Items.{each}
-use Rattle.ts_name.specs.Fields.{IsInteger, optional_of}
+use Rattle.ts_shape.specs.declared.fault.CertRule.TheVariants.{SubtreeBounds, AddressLength}
+use Rattle.ts_shape.specs.declared.fault.CertFault.{CertFault}
+use Rattle.ts_shape.specs.Fault.{der, breaks}
+use Rattle.ts_shape.specs.Items.{each}
+use Rattle.ts_shape.specs.Fields.{IsInteger, optional_of}
 use Rattle.ts_name.specs.General.{GeneralName, general_of, general_at, has_range_length}
 use Rattle.ts_name.specs.GeneralTable.{general_name}
 use Rattle.ts_name.specs.Subtree.{GeneralSubtree, is_zero, is_unbounded, IsDistance, IsSubtree, IsConstraint, minimum_rules, minimum_of, maximum_of, subtree_of, constrained, constraint_of}
 use Rattle.ts_name.specs.SubtreeTable.{minimum, maximum, subtree_fields, general_subtree, input, bounds_fault, address_fault, constraint_fault}
-use Rattle.ts_name.specs.Shape.{optional, nothing, plain, ◌then◌, ◌or_else◌, header_fault, row_fault, judge, der_rules, no_rules}
-use Rattle.ts_name.proofs.Shapes.{end-ok, end-again}
-use Rattle.ts_name.proofs.Parts.{Value, took, element-took, der-ok}
-use Rattle.ts_name.proofs.OptionalParts.{begins-if-any, optional-found, optional-again, optional-judged}
-use Rattle.ts_name.proofs.Judging.{Judged, refusal-judged, weaker, no_more, regroup, under, then-judged, element-judged, end-judged, ends, value-judged, Whatever}
+use Rattle.ts_shape.specs.Shape.{optional, nothing, plain, ◌then◌, ◌or_else◌, header_fault, row_fault, judge, der_rules, no_rules}
+use Rattle.ts_shape.proofs.Endings.{end-ok, end-again}
+use Rattle.ts_shape.proofs.Parts.{Value, took, element-took, der-ok}
+use Rattle.ts_shape.proofs.OptionalParts.{begins-if-any, optional-found, optional-again, optional-judged}
+use Rattle.ts_shape.proofs.Judging.{Judged, refusal-judged, weaker, no_more, regroup, under, then-judged, element-judged, end-judged, ends, value-judged, Whatever}
 use Rattle.ts_name.proofs.Generals.{general-part, general-reads, range-is}
 
 -- ---- minimum and maximum

@@ -8,9 +8,10 @@ use Rattle.ts_der.specs.ObjectIdentifier.{oid_rules}
 use Rattle.ts_der.specs.Reading.{fault_at, value_at, end_at}
 use Rattle.ts_der.specs.Text.{is_ascii, ascii_rules}
 use Rattle.ts_name.specs.Canon.{Attr}
-use Rattle.ts_name.specs.Fields.{Within, IsOid, name_at}
+use Rattle.ts_shape.specs.Fields.{Within, IsOid}
+use Rattle.ts_name.specs.Names.{name_at}
 use Rattle.ts_name.specs.NameSpelling.{IsName}
-use Rattle.ts_name.specs.Items.{each, IsChoice}
+use Rattle.ts_shape.specs.Items.{each, IsChoice}
 
 -- GeneralName, by its content: octets, or the relative distinguished names of a directory name
 pub data GeneralName : Type 0 where

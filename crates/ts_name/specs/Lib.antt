@@ -1,4 +1,3 @@
-pub mod Fault
 pub mod Canon
 pub mod Gaps
 pub mod Folding
@@ -6,12 +5,7 @@ pub mod View
 pub mod CanonView
 pub mod Names
 pub mod NameView
-pub mod Steps
 pub mod NameSpelling
-pub mod Shape
-pub mod Rows
-pub mod Fields
-pub mod Items
 pub mod General
 pub mod GeneralTable
 pub mod GeneralView
@@ -19,6 +13,4 @@ pub mod Subtree
 pub mod SubtreeTable
 pub mod SubtreeView
 pub mod Sameness
-pub mod Printed
-pub mod Repeats
-pub mod Suspects
+pub mod NameRows

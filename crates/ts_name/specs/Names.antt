@@ -10,24 +10,15 @@ use Rattle.ts_der.specs.Reading.{is_end, next_at, element_at, value_at, many, en
 use Rattle.ts_der.specs.ObjectIdentifier.{oid_rules}
 use Rattle.ts_der.specs.Text.{utf8_rules, ascii_rules}
 use Rattle.ts_der.specs.SetOf.{set_of_at}
+use Rattle.ts_shape.specs.Fields.{within}
+use Rattle.ts_shape.specs.Items.{some_rules}
 use Rattle.ts_name.specs.Canon.{Attr}
 
 -- the rules of a value's text: UTF8String, PrintableString and IA5String have a character set here
 abbrev pub text_rules : ℕ → List Rule
 text_rules tag = if tag == 0x0C then utf8_rules else (if tag == 0x13 || tag == 0x16 then ascii_rules else [])
 
--- a set of one element or more
-abbrev pub some_rules : List Rule
-some_rules = rule Empty (λ c. is_end c) ∷ []
-
 -- ---- reading
-
--- an element of this tag, and what is read within it
-unfoldable pub within : {A : Type 0} → ℕ → (Tlv → Result A Fault) → Place → Result (A × Place) Fault
-within tag value here = do
-  e ← element_at tag here
-  x ← value e.0
-  Ok (x, e.1)
 
 -- AttributeTypeAndValue: SEQUENCE { OBJECT IDENTIFIER, one element }
 unfoldable pub attribute_of : Tlv → Result Attr Fault
@@ -56,6 +47,10 @@ rdn_at = within 0x31 rdn_of
 -- Name: SEQUENCE OF RelativeDistinguishedName
 unfoldable pub name_of : Tlv → Result (List (List Attr)) Fault
 name_of e = many rdn_at (inside e)
+
+-- Name
+unfoldable pub name_at : Place → Result (List (List Attr) × Place) Fault
+name_at = within 0x30 name_of
 
 -- ---- what is left of a name that was read
 

@@ -7,10 +7,10 @@ use Rattle.ts_der.specs.Rules.{Rule, rule}
 use Rattle.ts_der.specs.Element.{Tlv, inside}
 use Rattle.ts_der.specs.Integer.{is_shortest, integer_rules}
 use Rattle.ts_der.specs.Reading.{element_at, value_at, end_at}
-use Rattle.ts_name.specs.declared.fault.CertRule.TheVariants.{SubtreeBounds, AddressLength}
-use Rattle.ts_name.specs.declared.fault.CertFault.{CertFault}
-use Rattle.ts_name.specs.Fault.{der, breaks}
-use Rattle.ts_name.specs.Fields.{Within, IfAny, IsInteger, optional_of}
+use Rattle.ts_shape.specs.declared.fault.CertRule.TheVariants.{SubtreeBounds, AddressLength}
+use Rattle.ts_shape.specs.declared.fault.CertFault.{CertFault}
+use Rattle.ts_shape.specs.Fault.{der, breaks}
+use Rattle.ts_shape.specs.Fields.{Within, IfAny, IsInteger, optional_of}
 use Rattle.ts_name.specs.General.{GeneralName, IsGeneralName, general_at, has_range_length}
 
 -- GeneralSubtree; minimum and maximum are the content octets of INTEGERs

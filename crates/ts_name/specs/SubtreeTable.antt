@@ -3,10 +3,10 @@ use Rattle.std.specs.Prelude.{ℕ, ◌==◌, ◌&&◌, ◌||◌, not, List, leng
 use Rattle.ts_der.specs.Element.{Place, Tlv, inside}
 use Rattle.ts_der.specs.Integer.{integer_rules}
 use Rattle.ts_der.specs.Reading.{is_end, element_of, behind}
-use Rattle.ts_name.specs.declared.fault.CertRule.TheVariants.{SubtreeBounds, AddressLength}
-use Rattle.ts_name.specs.declared.fault.CertFault.{CertFault}
-use Rattle.ts_name.specs.Fault.{breaks}
-use Rattle.ts_name.specs.Shape.{Row, optional, Shape, nothing, ◌then◌, ◌or_else◌, judge, der_rules, primitive, sequence}
+use Rattle.ts_shape.specs.declared.fault.CertRule.TheVariants.{SubtreeBounds, AddressLength}
+use Rattle.ts_shape.specs.declared.fault.CertFault.{CertFault}
+use Rattle.ts_shape.specs.Fault.{breaks}
+use Rattle.ts_shape.specs.Shape.{Row, optional, Shape, nothing, ◌then◌, ◌or_else◌, judge, der_rules, primitive, sequence}
 use Rattle.ts_name.specs.GeneralTable.{general_name}
 use Rattle.ts_name.specs.Subtree.{minimum_rules}
 

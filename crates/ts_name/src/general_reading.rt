@@ -3,17 +3,17 @@
 ghost use Rattle.std.specs.Prelude.{◌≡◌, IfOk, IsOkAnd, option_map};
 ghost use Rattle.ts_der.specs.Answer.{Answers, refusal};
 ghost use Rattle.ts_der.specs.View.{now};
-ghost use Rattle.ts_name.specs.Fault.{about};
+ghost use Rattle.ts_shape.specs.Fault.{about};
 ghost use Rattle.ts_name.specs.General.{GeneralName, IsForm, directory_of, general_of, has_address_length, has_range_length};
 ghost use Rattle.ts_name.specs.GeneralTable.{general_name};
 ghost use Rattle.ts_name.specs.GeneralView.{general_in};
 ghost use Rattle.ts_name.specs.NameView.{rdns_in};
-ghost use Rattle.ts_name.specs.Shape.{row_fault};
+ghost use Rattle.ts_shape.specs.Shape.{row_fault};
 
 use crate::general::General;
 use crate::name::Name;
 use crate::name_reading::SEQUENCE;
-use crate::sequence_of::{FromElement, SequenceOf};
+use ts_shape::{FromElement, SequenceOf};
 use ts_der::{DerFault, Element, Fault};
 
 /// General names, of which there is one or more (RFC 5280 4.2.1.6, `GeneralNames`).
@@ -38,7 +38,7 @@ const IP_ADDRESS: u8 = 0x87;
 const REGISTERED_ID: u8 = 0x88;
 
 /// The name that a directory name holds, and nothing behind it.
-#[tactic(auto, unfolding(crate::specs::General::directory_of, crate::specs::Fields::name_at, crate::specs::Names::within))]
+#[tactic(auto, unfolding(crate::specs::General::directory_of, crate::specs::Names::name_at, ts_shape::specs::Fields::within))]
 fn read_directory<'a>(element: Element<'a>) -> Result<Name<'a>, Fault>
     ensures { Answers rdns_in result (directory_of (now element.entry)) }
 {

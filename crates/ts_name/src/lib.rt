@@ -5,7 +5,6 @@
 mod attribute;
 mod canon;
 mod canonical;
-mod fault;
 mod folded;
 mod general;
 mod general_reading;
@@ -18,32 +17,22 @@ mod name_reading;
 #[cfg(test)]
 mod name_tests;
 mod rdn;
-mod repeats;
-#[cfg(test)]
-mod repeats_tests;
 mod sameness;
-mod sequence_of;
-#[cfg(test)]
-mod sequence_tests;
 mod short_names;
 mod subtree;
 mod subtree_reading;
 #[cfg(test)]
 mod subtree_tests;
-mod suspects;
 #[cfg(test)]
 mod tests;
 
 pub use attribute::{Attribute, IA5_STRING, PRINTABLE_STRING, UTF8_STRING};
 pub use canon::{Canon, CanonAttribute, CanonRdn, canon_attribute};
-pub use fault::{CertFault, CertRule};
 pub use folded::same_text;
 pub use general::General;
 pub use general_reading::GeneralNames;
 pub use name::Name;
 pub use name_items::{Attributes, Rdns};
 pub use rdn::Rdn;
-pub use repeats::{Ends, Keyed, first_repeated};
-pub use sequence_of::{FromElement, SequenceItems, SequenceOf, next_item, tagged_as};
 pub use short_names::is_name;
 pub use subtree::Subtree;

@@ -8,13 +8,13 @@ ghost use Rattle.ts_der.specs.Element.{inside};
 ghost use Rattle.ts_der.specs.View.{now};
 ghost use Rattle.ts_der.specs.Reading.{value_at, many};
 ghost use Rattle.ts_name.specs.Names.{attribute_of, attribute_at, rdn_of, rdn_at, name_of, text_rules};
-ghost use Rattle.ts_name.specs.Steps.{Takes, Passes};
+ghost use Rattle.ts_shape.specs.Steps.{Takes, Passes};
 ghost use Rattle.ts_name.specs.Canon.{Attr};
-ghost use Rattle.ts_name.specs.Fault.{about};
+ghost use Rattle.ts_shape.specs.Fault.{about};
 ghost use Rattle.ts_name.specs.NameSpelling.{IsRdnContent, IsName};
 ghost use Rattle.ts_name.specs.NameView.{rdns_in, attributes_in};
-ghost use Rattle.ts_name.specs.Rows.{relative_distinguished_name, rdn_fault};
-ghost use Rattle.ts_name.specs.Shape.{items, judge};
+ghost use Rattle.ts_name.specs.NameRows.{relative_distinguished_name, rdn_fault};
+ghost use Rattle.ts_shape.specs.Shape.{items, judge};
 ghost use Rattle.ts_name.specs.View.{attr_of};
 
 use crate::attribute::{Attribute, IA5_STRING, PRINTABLE_STRING, UTF8_STRING};
@@ -59,7 +59,7 @@ pub(crate) fn read_attribute<'a>(element: Element<'a>) -> Result<Attribute<'a>, 
 }
 
 /// The next attribute of a set, which the reader has then passed.
-#[tactic(auto, unfolding(crate::specs::Names::within))]
+#[tactic(auto, unfolding(ts_shape::specs::Fields::within))]
 #[inline(always)]
 fn next_attribute<'a>(rest: &mut Reader<'a>) -> Result<Attribute<'a>, Fault>
     ensures { Takes attr_of rest.new result (attribute_at rest.old) }

@@ -4,20 +4,20 @@ ghost use Rattle.std.specs.Prelude.{◌≡◌, IfOk, IsOkAnd, option_map};
 ghost use Rattle.ts_der.specs.Answer.{Answers, refusal};
 ghost use Rattle.ts_der.specs.Element.{inside};
 ghost use Rattle.ts_der.specs.View.{now};
-ghost use Rattle.ts_name.specs.Fault.{about};
-ghost use Rattle.ts_name.specs.Fields.{optional_of};
+ghost use Rattle.ts_shape.specs.Fault.{about};
+ghost use Rattle.ts_shape.specs.Fields.{optional_of};
 ghost use Rattle.ts_name.specs.General.{has_range_length};
 ghost use Rattle.ts_name.specs.GeneralView.{general_in};
-ghost use Rattle.ts_name.specs.Shape.{judge};
-ghost use Rattle.ts_name.specs.Steps.{Takes};
+ghost use Rattle.ts_shape.specs.Shape.{judge};
+ghost use Rattle.ts_shape.specs.Steps.{Takes};
 ghost use Rattle.ts_name.specs.Subtree.{GeneralSubtree, is_unbounded, IsSubtree, IsConstraint, minimum_of, maximum_of, subtree_of, constrained, constraint_of};
 ghost use Rattle.ts_name.specs.SubtreeTable.{subtree_fields, constraint_fault};
 ghost use Rattle.ts_name.specs.SubtreeView.{subtree_in};
 
-use crate::fault::{CertFault, CertRule};
+use ts_shape::{CertFault, CertRule};
 use crate::general::General;
 use crate::name_reading::SEQUENCE;
-use crate::sequence_of::{FromElement, tagged_as};
+use ts_shape::{FromElement, tagged_as};
 use crate::subtree::Subtree;
 use ts_der::{DerFault, Element, Fault, Integer, Reader};
 
@@ -41,7 +41,7 @@ fn read_minimum<'a>(element: Element<'a>) -> Result<Integer<'a>, Fault>
 }
 
 /// The minimum, if one stands next, which the reader has then passed.
-#[tactic(auto, using(crate::proofs::OptionalReads::optional_fails, crate::proofs::OptionalReads::optional_is_absent, crate::proofs::OptionalReads::optional_reads, crate::proofs::OptionalReads::optional_refuses))]
+#[tactic(auto, using(ts_shape::proofs::OptionalReads::optional_fails, ts_shape::proofs::OptionalReads::optional_is_absent, ts_shape::proofs::OptionalReads::optional_reads, ts_shape::proofs::OptionalReads::optional_refuses))]
 #[inline(always)]
 fn next_minimum<'a>(fields: &mut Reader<'a>) -> Result<Option<Integer<'a>>, Fault>
     ensures { Takes (λ m. option_map (λ i. i.octets.now) m) fields.new result (optional_of 0x80 minimum_of fields.old) }
@@ -53,7 +53,7 @@ fn next_minimum<'a>(fields: &mut Reader<'a>) -> Result<Option<Integer<'a>>, Faul
 }
 
 /// The maximum, if one stands next, which the reader has then passed.
-#[tactic(auto, using(crate::proofs::OptionalReads::optional_fails, crate::proofs::OptionalReads::optional_is_absent, crate::proofs::OptionalReads::optional_reads, crate::proofs::OptionalReads::optional_refuses))]
+#[tactic(auto, using(ts_shape::proofs::OptionalReads::optional_fails, ts_shape::proofs::OptionalReads::optional_is_absent, ts_shape::proofs::OptionalReads::optional_reads, ts_shape::proofs::OptionalReads::optional_refuses))]
 #[inline(always)]
 fn next_maximum<'a>(fields: &mut Reader<'a>) -> Result<Option<Integer<'a>>, Fault>
     ensures { Takes (λ m. option_map (λ i. i.octets.now) m) fields.new result (optional_of 0x81 maximum_of fields.old) }
@@ -65,7 +65,7 @@ fn next_maximum<'a>(fields: &mut Reader<'a>) -> Result<Option<Integer<'a>>, Faul
 }
 
 /// The subtree that a SEQUENCE is.
-#[tactic(auto, unfolding(crate::specs::Subtree::subtree_of, crate::specs::Items::each))]
+#[tactic(auto, unfolding(crate::specs::Subtree::subtree_of, ts_shape::specs::Items::each))]
 #[inline(always)]
 fn read_subtree<'a>(element: Element<'a>) -> Result<Subtree<'a>, Fault>
     ensures { Answers subtree_in result (subtree_of (now element.entry)) }
@@ -170,7 +170,7 @@ impl<'a> Subtree<'a> {
 
 impl<'a> FromElement<'a> for Subtree<'a> {
     ghost use Rattle.std.specs.Prelude.{[]};
-    ghost use Rattle.ts_name.specs.Items.{of_tag};
+    ghost use Rattle.ts_shape.specs.Items.{of_tag};
     ghost use Rattle.ts_name.specs.Subtree.{GeneralSubtree, subtree_of};
     ghost use Rattle.ts_name.specs.SubtreeView.{subtree_in};
 
@@ -182,7 +182,7 @@ impl<'a> FromElement<'a> for Subtree<'a> {
 
     ghost key_of = { λ _. [] };
 
-    #[tactic(auto, unfolding(crate::specs::Items::of_tag))]
+    #[tactic(auto, unfolding(ts_shape::specs::Items::of_tag))]
     #[inline(always)]
     fn read(element: Element<'a>) -> Result<Subtree<'a>, Fault> {
         read_subtree(tagged_as(element, SEQUENCE)?)

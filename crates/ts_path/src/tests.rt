@@ -4,7 +4,7 @@ use super::*;
 use std::alloc::Global;
 use ts_cert::Cert;
 use ts_der::Reader;
-use ts_name::CertFault;
+use ts_shape::CertFault;
 use ts_sig::DigestCheck;
 use ts_time::Moment;
 

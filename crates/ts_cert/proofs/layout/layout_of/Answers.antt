@@ -2,7 +2,7 @@ use Rattle.std.proofs.Common.{◌≡◌, ℕ, false, List, [], ◌++◌, length,
 use Rattle.std.proofs.lemmas.List.{append-nil, drop_all}
 use Rattle.ts_der.specs.Element.{spell}
 use Rattle.ts_der.specs.Reading.{begins_with}
-use Rattle.ts_name.proofs.OptionalParts.{begins-other, begins-if-any}
+use Rattle.ts_shape.proofs.OptionalParts.{begins-other, begins-if-any}
 use Rattle.ts_ext.specs.Extension.{AreExplicit}
 use Rattle.ts_cert.specs.Spelling.{IsUniqueIdentifier}
 use Rattle.ts_cert.proofs.Layouts.{lies, passed, if-passed, version-passed}

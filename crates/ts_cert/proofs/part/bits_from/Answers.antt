@@ -1,6 +1,6 @@
 use Rattle.std.proofs.Math.Logic.{∥∥₁_elim}
 use Rattle.std.proofs.Props.{props}
-use Rattle.ts_name.proofs.FieldParts.{bits-part}
+use Rattle.ts_shape.proofs.FieldParts.{bits-part}
 use Rattle.ts_cert.proofs.Held.{only-there, never-refused}
 use Rattle.ts_cert.proofs.part.bits_from.Goals as goal
 

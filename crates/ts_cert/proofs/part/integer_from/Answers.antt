@@ -1,6 +1,6 @@
 use Rattle.std.proofs.Math.Logic.{∥∥₁_elim}
 use Rattle.std.proofs.Props.{props}
-use Rattle.ts_name.proofs.FieldParts.{integer-part}
+use Rattle.ts_shape.proofs.FieldParts.{integer-part}
 use Rattle.ts_cert.proofs.Held.{only-there, never-refused}
 use Rattle.ts_cert.proofs.part.integer_from.Goals as goal
 

@@ -1,7 +1,7 @@
 use Rattle.std.proofs.Common.{ap, sym, ◌∙◌}
 use Rattle.std.specs.Prelude.{Result}
 use Rattle.ts_der.specs.Answer.{refusal}
-use Rattle.ts_name.specs.declared.fault.CertFault.{CertFault}
+use Rattle.ts_shape.specs.declared.fault.CertFault.{CertFault}
 use Rattle.ts_cert.specs.Certificate.{Certificate}
 use Rattle.ts_cert.proofs.Held.{is-read}
 use Rattle.ts_cert.proofs.Judging.{judged}

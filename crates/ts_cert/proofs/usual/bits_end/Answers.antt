@@ -1,6 +1,6 @@
 use Rattle.std.proofs.Common.{drop}
 use Rattle.ts_der.specs.Stands.{between}
-use Rattle.ts_name.specs.Fields.{IsBits}
+use Rattle.ts_shape.specs.Fields.{IsBits}
 use Rattle.ts_cert.proofs.Spanned.{spans, first-octet}
 use Rattle.ts_cert.proofs.usual.bits_end.Goals as goal
 

@@ -1,5 +1,5 @@
 use Rattle.std.proofs.Common.{refl, sym, ◌∙◌}
-use Rattle.ts_name.specs.Fields.{IsInteger}
+use Rattle.ts_shape.specs.Fields.{IsInteger}
 use Rattle.ts_cert.proofs.Spanned.{spans}
 use Rattle.ts_cert.proofs.usual.integer_end.Goals as goal
 

@@ -1,4 +1,4 @@
-use Rattle.ts_name.specs.Fields.{Within}
+use Rattle.ts_shape.specs.Fields.{Within}
 use Rattle.ts_name.specs.NameSpelling.{IsName}
 use Rattle.ts_cert.proofs.Spanned.{again}
 use Rattle.ts_cert.proofs.usual.name_end_beside.Goals as goal

@@ -1,5 +1,5 @@
 use Rattle.std.proofs.Common.{refl}
-use Rattle.ts_name.specs.Fields.{IsOid}
+use Rattle.ts_shape.specs.Fields.{IsOid}
 use Rattle.ts_cert.proofs.Spanned.{spans}
 use Rattle.ts_cert.proofs.usual.oid_end.Goals as goal
 

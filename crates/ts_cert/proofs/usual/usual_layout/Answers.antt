@@ -1,5 +1,5 @@
 use Rattle.std.proofs.Common.{refl, subst, sym, ◌∙◌, ℕ, arith}
-use Rattle.ts_name.specs.Fields.{Within, IsBits}
+use Rattle.ts_shape.specs.Fields.{Within, IsBits}
 use Rattle.ts_cert.specs.Layout.{Spans}
 use Rattle.ts_cert.proofs.UsualLayout.{usual-laid-out}
 use Rattle.ts_cert.proofs.usual.usual_layout.Goals as goal

@@ -1,6 +1,6 @@
 use Rattle.std.proofs.Common.{refl, ap, sym, ◌∙◌}
 use Rattle.ts_der.specs.View.{now}
-use Rattle.ts_name.specs.Fields.{integer_at}
+use Rattle.ts_shape.specs.Fields.{integer_at}
 use Rattle.ts_crl.specs.Findings.{joined}
 use Rattle.ts_crl.specs.FindingsView.{findings_in}
 use Rattle.ts_crl.specs.List.{StandingEntry}

@@ -4,8 +4,8 @@ use Rattle.ts_der.specs.Element.{inside}
 use Rattle.ts_der.specs.Reading.{many}
 use Rattle.ts_der.specs.View.{now}
 use Rattle.ts_der.proofs.Many.{goes_on, breaks_off, is_done}
-use Rattle.ts_name.specs.Items.{each, some_of}
-use Rattle.ts_name.proofs.ItemParts.{each-consumes, some-is, none-is}
+use Rattle.ts_shape.specs.Items.{each, some_of}
+use Rattle.ts_shape.proofs.ItemParts.{each-consumes, some-is, none-is}
 use Rattle.ts_ext.specs.Extension.{standing_in}
 use Rattle.ts_ext.specs.ExtensionView.{standing_as}
 use Rattle.ts_crl.specs.FindingsView.{findings_in}

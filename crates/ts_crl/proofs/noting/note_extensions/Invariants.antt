@@ -3,7 +3,7 @@ use Rattle.ts_der.specs.Element.{inside}
 use Rattle.ts_der.specs.Reading.{many}
 use Rattle.ts_der.specs.View.{now}
 use Rattle.ts_der.proofs.Many.{with_front}
-use Rattle.ts_name.specs.Items.{each}
+use Rattle.ts_shape.specs.Items.{each}
 use Rattle.ts_ext.specs.Extension.{Standing, standing_in}
 use Rattle.ts_crl.specs.Findings.{joined, found_among}
 use Rattle.ts_crl.specs.FindingsView.{findings_in}

@@ -1,7 +1,7 @@
 use Rattle.std.proofs.Common.{List, Ok, length, refl, ap, sym, ◌∙◌}
 use Rattle.ts_der.specs.Element.{inside}
 use Rattle.ts_der.specs.View.{now}
-use Rattle.ts_name.specs.Items.{items_at}
+use Rattle.ts_shape.specs.Items.{items_at}
 use Rattle.ts_ext.specs.Extension.{Standing, standing_in}
 use Rattle.ts_crl.specs.Findings.{joined, found_among}
 use Rattle.ts_crl.specs.FindingsView.{findings_in}

@@ -1,6 +1,6 @@
 use Rattle.std.proofs.Common.{◌≡◌}
 use Rattle.std.specs.Prelude.{map}
-use Rattle.ts_name.specs.Items.{items_at}
+use Rattle.ts_shape.specs.Items.{items_at}
 use Rattle.ts_ext.specs.Extension.{said, standing_in}
 use Rattle.ts_crl.specs.EntryView.{listed_in}
 use Rattle.ts_crl.specs.Profile.{unprocessed_in}

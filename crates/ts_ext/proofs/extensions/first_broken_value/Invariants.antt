@@ -1,5 +1,5 @@
 use Rattle.std.proofs.Common.{◌≡◌}
-use Rattle.ts_name.specs.Items.{items_at}
+use Rattle.ts_shape.specs.Items.{items_at}
 use Rattle.ts_ext.specs.Extension.{standing_in}
 use Rattle.ts_ext.specs.ExtensionView.{standings_in}
 use Rattle.ts_ext.specs.ValueRules.{values_fault}

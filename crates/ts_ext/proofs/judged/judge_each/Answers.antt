@@ -1,6 +1,6 @@
 use Rattle.std.proofs.Common.{List, Ok, ap, sym, ◌∙◌}
 use Rattle.ts_der.specs.View.{now}
-use Rattle.ts_name.proofs.ItemParts.{some-walked}
+use Rattle.ts_shape.proofs.ItemParts.{some-walked}
 use Rattle.ts_ext.specs.Extension.{Standing, standing_in}
 use Rattle.ts_ext.proofs.judged.judge_each.Goals as goal
 

@@ -4,13 +4,13 @@ use Rattle.ts_der.specs.Element.{inside}
 use Rattle.ts_der.specs.Reading.{many}
 use Rattle.ts_der.specs.View.{now}
 use Rattle.ts_der.proofs.Many.{is_done}
-use Rattle.ts_name.specs.declared.fault.CertFault.{CertFault}
-use Rattle.ts_name.specs.Items.{each, some_of}
-use Rattle.ts_name.specs.Shape.{◌or_else◌}
-use Rattle.ts_name.proofs.FirstRepeats.{seen-end}
-use Rattle.ts_name.specs.Repeats.{is_among, HaveEnds}
-use Rattle.ts_name.proofs.Walks.{within-consumes}
-use Rattle.ts_name.proofs.ItemParts.{some-is, none-is, walk-end}
+use Rattle.ts_shape.specs.declared.fault.CertFault.{CertFault}
+use Rattle.ts_shape.specs.Items.{each, some_of}
+use Rattle.ts_shape.specs.Shape.{◌or_else◌}
+use Rattle.ts_shape.proofs.FirstRepeats.{seen-end}
+use Rattle.ts_shape.specs.Repeats.{is_among, HaveEnds}
+use Rattle.ts_shape.proofs.Walks.{within-consumes}
+use Rattle.ts_shape.proofs.ItemParts.{some-is, none-is, walk-end}
 use Rattle.ts_ext.specs.Extension.{Standing, standing_of, standing_in}
 use Rattle.ts_ext.specs.ExtensionView.{standing_as}
 use Rattle.ts_ext.specs.ValueRules.{values_fault}

@@ -1,7 +1,7 @@
 use Rattle.std.proofs.Common.{◌≡◌, ◌&&◌}
 use Rattle.std.specs.Prelude.{option_map}
 use Rattle.std.specs.List.{list_all}
-use Rattle.ts_name.specs.Items.{items_at, of_tag}
+use Rattle.ts_shape.specs.Items.{items_at, of_tag}
 use Rattle.ts_name.specs.Subtree.{is_unbounded, subtree_of}
 use Rattle.ts_name.specs.General.{has_range_length}
 use Rattle.ts_ext.specs.NameViews.{subtrees_in}

@@ -1,6 +1,6 @@
 use Rattle.std.proofs.Common.{◌≡◌}
 use Rattle.std.specs.List.{list_all}
-use Rattle.ts_name.specs.Items.{items_at}
+use Rattle.ts_shape.specs.Items.{items_at}
 use Rattle.ts_ext.specs.NameViews.{points_in}
 use Rattle.ts_ext.specs.Points.{point_item}
 use Rattle.ts_ext.specs.Rules.{has_addresses}

@@ -1,7 +1,7 @@
 use Rattle.std.proofs.Common.{◌∷◌, [], sym}
 use Rattle.std.proofs.lemmas.List.{nil_from_length}
 use Rattle.std.proofs.lemmas.Bool.{eqb-true}
-use Rattle.ts_name.specs.Fields.{Within}
+use Rattle.ts_shape.specs.Fields.{Within}
 use Rattle.ts_ext.specs.Points.{IsPoint}
 use Rattle.ts_ext.proofs.UriPoints.{uris-more, some-items}
 use Rattle.ts_ext.proofs.usual_points.are_uris.Goals as goal

@@ -1,7 +1,7 @@
 use Rattle.std.proofs.Common.{List, ℕ, length}
 use Rattle.std.specs.Prelude.{map}
-use Rattle.ts_name.specs.Fields.{Within}
-use Rattle.ts_name.specs.Items.{AreItems}
+use Rattle.ts_shape.specs.Fields.{Within}
+use Rattle.ts_shape.specs.Items.{AreItems}
 use Rattle.ts_ext.specs.Points.{IsPoint, point_of_uri}
 use Rattle.ts_ext.proofs.usual_points.are_uris.Given as goal
 

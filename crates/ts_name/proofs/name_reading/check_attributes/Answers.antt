@@ -8,7 +8,7 @@ use Rattle.ts_der.proofs.Many.{goes_on, breaks_off, is_done}
 use Rattle.ts_name.specs.Canon.{Attr}
 use Rattle.ts_name.specs.Names.{attribute_at, attribute_of}
 use Rattle.ts_name.specs.View.{attr_of}
-use Rattle.ts_name.proofs.Walks.{within-consumes}
+use Rattle.ts_shape.proofs.Walks.{within-consumes}
 use Rattle.ts_name.proofs.name_reading.check_attributes.Goals as goal
 
 pub loop-rest-smaller : goal.loop-rest-smaller

@@ -3,7 +3,7 @@ use Rattle.std.proofs.lemmas.Result.{err_from_is_err_and}
 use Rattle.ts_der.specs.Reading.{many}
 use Rattle.ts_der.proofs.Many.{goes_on, breaks_off, is_done}
 use Rattle.ts_name.specs.Names.{rdn_at, rdn_of}
-use Rattle.ts_name.proofs.Walks.{within-consumes}
+use Rattle.ts_shape.proofs.Walks.{within-consumes}
 use Rattle.ts_name.proofs.name_reading.check_rdns.Goals as goal
 
 pub loop-rest-smaller : goal.loop-rest-smaller

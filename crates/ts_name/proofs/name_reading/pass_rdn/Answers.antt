@@ -1,7 +1,7 @@
 use Rattle.std.proofs.lemmas.Result.{err_from_is_err_and}
 use Rattle.ts_der.specs.View.{now}
 use Rattle.ts_name.specs.Names.{rdn_of}
-use Rattle.ts_name.proofs.Walks.{passes, fails}
+use Rattle.ts_shape.proofs.Walks.{passes, fails}
 use Rattle.ts_name.proofs.name_reading.pass_rdn.Goals as goal
 
 pub returns-in_err-set : goal.returns-in_err-set

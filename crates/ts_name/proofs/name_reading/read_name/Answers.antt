@@ -1,7 +1,7 @@
 use Rattle.std.proofs.Common.{[]}
 use Rattle.ts_der.specs.View.{now}
 use Rattle.ts_name.specs.Names.{name_of}
-use Rattle.ts_name.proofs.Walks.{not_refused, not_refused_is}
+use Rattle.ts_shape.proofs.Walks.{not_refused, not_refused_is}
 use Rattle.ts_name.proofs.name_reading.read_name.Goals as goal
 
 pub invariant_of-result : goal.invariant_of-result

@@ -6,7 +6,7 @@ use Rattle.ts_der.specs.Reading.{many}
 use Rattle.ts_der.specs.View.{now}
 use Rattle.ts_name.specs.Canon.{Attr}
 use Rattle.ts_name.specs.Names.{rdn_of, attribute_at}
-use Rattle.ts_name.proofs.Walks.{not_refused_is}
+use Rattle.ts_shape.proofs.Walks.{not_refused_is}
 use Rattle.ts_name.proofs.Shapes.{rdn_items}
 use Rattle.ts_name.proofs.name_reading.read_rdn.Goals as goal
 

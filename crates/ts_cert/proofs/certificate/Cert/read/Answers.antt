@@ -1,5 +1,5 @@
 use Rattle.std.proofs.Common.{◌≡◌, refl, arith}
-use Rattle.ts_name.proofs.Walks.{IfOk-answers, IsOkAnd-answers}
+use Rattle.ts_shape.proofs.Walks.{IfOk-answers, IsOkAnd-answers}
 use Rattle.ts_cert.specs.Certificate.{Certificate}
 use Rattle.ts_cert.specs.CertView.{cert_in}
 use Rattle.ts_cert.specs.Reading.{certificate_of}

@@ -1,7 +1,7 @@
 use Rattle.std.proofs.Common.{ap, sym}
 use Rattle.ts_der.specs.Answer.{refusal}
 use Rattle.ts_der.specs.View.{now}
-use Rattle.ts_name.proofs.ItemParts.{some-walked}
+use Rattle.ts_shape.proofs.ItemParts.{some-walked}
 use Rattle.ts_ext.specs.Extension.{standing_in}
 use Rattle.ts_crl.proofs.extension_list.ExtensionList.read.Goals as goal
 

@@ -2,7 +2,7 @@ use Rattle.std.proofs.Common.{Option, sym, ap, subst, ◌∙◌}
 use Rattle.std.specs.Prelude.{option_map}
 use Rattle.ts_der.specs.Element.{inside}
 use Rattle.ts_der.specs.View.{now}
-use Rattle.ts_name.specs.Items.{items_at}
+use Rattle.ts_shape.specs.Items.{items_at}
 use Rattle.ts_crl.specs.declared.mark.Mark.{Mark as Lent}
 use Rattle.ts_crl.specs.EntryView.{entry_in as said_in}
 use Rattle.ts_crl.specs.Marks.{Mark}

@@ -3,7 +3,7 @@ use Rattle.std.specs.List.{find}
 use Rattle.std.specs.Str.{bytes_eq}
 use Rattle.ts_der.specs.Element.{inside}
 use Rattle.ts_der.specs.View.{now}
-use Rattle.ts_name.specs.Items.{items_at}
+use Rattle.ts_shape.specs.Items.{items_at}
 use Rattle.ts_crl.specs.Marks.{mark_of}
 use Rattle.ts_crl.proofs.revoked.Revoked.mark_of.Given as goal
 

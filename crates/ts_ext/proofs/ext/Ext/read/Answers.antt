@@ -1,7 +1,7 @@
 use Rattle.std.proofs.Common.{◌≡◌, refl}
 use Rattle.ts_der.specs.View.{now}
-use Rattle.ts_name.proofs.Walks.{IfOk-answers, IsOkAnd-answers}
-use Rattle.ts_name.proofs.Judging.{about-judged}
+use Rattle.ts_shape.proofs.Walks.{IfOk-answers, IsOkAnd-answers}
+use Rattle.ts_shape.proofs.Judging.{about-judged}
 use Rattle.ts_ext.specs.Known.{known_at}
 use Rattle.ts_ext.specs.Ext.{ExtValue, IsExt}
 use Rattle.ts_ext.specs.ExtView.{ext_in}

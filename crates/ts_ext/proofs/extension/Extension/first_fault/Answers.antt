@@ -1,8 +1,8 @@
 use Rattle.std.proofs.Common.{ℕ, Some, Ok, Err, ap, sym, ◌∙◌}
 use Rattle.std.specs.Prelude.{option_map}
 use Rattle.ts_der.specs.View.{now}
-use Rattle.ts_name.specs.declared.fault.CertFault.{CertFault}
-use Rattle.ts_name.specs.Fault.{breaks}
+use Rattle.ts_shape.specs.declared.fault.CertFault.{CertFault}
+use Rattle.ts_shape.specs.Fault.{breaks}
 use Rattle.ts_ext.specs.Known.{known_at}
 use Rattle.ts_ext.specs.ValueRules.{rule_place}
 use Rattle.ts_ext.proofs.ValueFaults.{value-checked}

@@ -1,7 +1,7 @@
 use Rattle.std.proofs.Common.{◌≡◌}
 use Rattle.std.specs.List.{find}
 use Rattle.std.specs.Str.{bytes_eq}
-use Rattle.ts_name.specs.Items.{items_at}
+use Rattle.ts_shape.specs.Items.{items_at}
 use Rattle.ts_ext.specs.Extension.{standing_in}
 use Rattle.ts_ext.specs.ExtensionView.{standings_in}
 use Rattle.ts_ext.specs.Known.{identifier_of}

@@ -2,9 +2,9 @@ use Rattle.std.proofs.Common.{◌≡◌, refl}
 use Rattle.ts_der.specs.View.{now}
 use Rattle.ts_name.specs.General.{IsForm, general_of}
 use Rattle.ts_name.specs.GeneralView.{general_in}
-use Rattle.ts_name.proofs.Walks.{IfOk-answers, IsOkAnd-answers}
+use Rattle.ts_shape.proofs.Walks.{IfOk-answers, IsOkAnd-answers}
 use Rattle.ts_name.proofs.Generals.{general-found, general-again, general-judged}
-use Rattle.ts_name.proofs.Judging.{about-judged}
+use Rattle.ts_shape.proofs.Judging.{about-judged}
 use Rattle.ts_name.proofs.general.General.read.Goals as goal
 
 pub returns-clause-found : goal.returns-clause-found

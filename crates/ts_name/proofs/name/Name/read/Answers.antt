@@ -2,8 +2,9 @@ use Rattle.std.proofs.Common.{◌≡◌, refl}
 use Rattle.ts_der.specs.View.{now}
 use Rattle.ts_name.specs.NameSpelling.{IsName}
 use Rattle.ts_name.specs.NameView.{rdns_in}
-use Rattle.ts_name.proofs.Walks.{IfOk-answers, IsOkAnd-answers}
-use Rattle.ts_name.proofs.Judging.{about-judged, no_less, name-judged}
+use Rattle.ts_shape.proofs.Walks.{IfOk-answers, IsOkAnd-answers}
+use Rattle.ts_shape.proofs.Judging.{about-judged, no_less}
+use Rattle.ts_name.proofs.NameJudging.{name-judged}
 use Rattle.ts_name.proofs.Shapes.{name-found, name-again}
 use Rattle.ts_name.proofs.name.Name.read.Goals as goal
 

@@ -4,7 +4,7 @@ use Rattle.ts_name.specs.declared.attribute.Attribute.{Attribute}
 use Rattle.ts_name.specs.Canon.{Attr}
 use Rattle.ts_name.specs.View.{attr_of}
 use Rattle.ts_name.specs.Names.{attribute_of, attributes_from}
-use Rattle.ts_name.proofs.Walks.{nothing_left, Front, front_is, no_fault, read_one}
+use Rattle.ts_shape.proofs.Walks.{nothing_left, Front, front_is, no_fault, read_one}
 use Rattle.ts_name.proofs.name_items.AttributesIterator.next.Goals as goal
 
 pub returns-then-is_at_end-clause-steps : goal.returns-then-is_at_end-clause-steps

@@ -2,7 +2,7 @@ use Rattle.std.proofs.Common.{◌<◌, List, length, refl, sym, subst, ◌∙◌
 use Rattle.ts_der.specs.View.{now}
 use Rattle.ts_name.specs.Canon.{Attr}
 use Rattle.ts_name.specs.Names.{rdn_of, rdns_from}
-use Rattle.ts_name.proofs.Walks.{nothing_left, Front, front_is, no_fault}
+use Rattle.ts_shape.proofs.Walks.{nothing_left, Front, front_is, no_fault}
 use Rattle.ts_name.proofs.Shapes.{rdn_items}
 use Rattle.ts_name.proofs.name_items.RdnsIterator.next.Goals as goal
 

@@ -2,8 +2,9 @@ use Rattle.std.proofs.Common.{◌≡◌, refl}
 use Rattle.ts_der.specs.View.{now}
 use Rattle.ts_name.specs.NameSpelling.{IsRdnContent}
 use Rattle.ts_name.specs.NameView.{attributes_in}
-use Rattle.ts_name.proofs.Walks.{IfOk-answers, IsOkAnd-answers}
-use Rattle.ts_name.proofs.Judging.{about-judged, rdn-judged}
+use Rattle.ts_shape.proofs.Walks.{IfOk-answers, IsOkAnd-answers}
+use Rattle.ts_shape.proofs.Judging.{about-judged}
+use Rattle.ts_name.proofs.NameJudging.{rdn-judged}
 use Rattle.ts_name.proofs.Shapes.{rdn-codec}
 use Rattle.ts_name.proofs.rdn.Rdn.read.Goals as goal
 

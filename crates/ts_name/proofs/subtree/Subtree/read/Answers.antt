@@ -1,7 +1,7 @@
 use Rattle.std.proofs.Common.{◌≡◌, refl, ◌∙◌, arith}
 use Rattle.ts_name.specs.Subtree.{GeneralSubtree, IsConstraint, constraint_of}
 use Rattle.ts_name.specs.SubtreeView.{subtree_in}
-use Rattle.ts_name.proofs.Walks.{IfOk-answers, IsOkAnd-answers}
+use Rattle.ts_shape.proofs.Walks.{IfOk-answers, IsOkAnd-answers}
 use Rattle.ts_name.proofs.Subtrees.{constraint-found, constraint-again, constraint-refusal, refusal-answers}
 use Rattle.ts_name.proofs.subtree.Subtree.read.Goals as goal
 

@@ -2,8 +2,8 @@ use Rattle.std.proofs.Common.{◌≡◌, refl}
 use Rattle.ts_der.specs.View.{now}
 use Rattle.ts_name.specs.Subtree.{IsSubtree, subtree_of}
 use Rattle.ts_name.specs.SubtreeView.{subtree_in}
-use Rattle.ts_name.proofs.Walks.{IfOk-answers, IsOkAnd-answers}
-use Rattle.ts_name.proofs.Judging.{no_less, about-judged}
+use Rattle.ts_shape.proofs.Walks.{IfOk-answers, IsOkAnd-answers}
+use Rattle.ts_shape.proofs.Judging.{no_less, about-judged}
 use Rattle.ts_name.proofs.Subtrees.{subtree-found, subtree-again, subtree-judged}
 use Rattle.ts_name.proofs.subtree.Subtree.read_element.Goals as goal
 

@@ -1,0 +1,11 @@
+pub mod Endings
+pub mod Walks
+pub mod Codecs
+pub mod Parts
+pub mod FieldParts
+pub mod Judging
+pub mod OptionalParts
+pub mod ItemParts
+pub mod OptionalReads
+pub mod KeyTables
+pub mod FirstRepeats

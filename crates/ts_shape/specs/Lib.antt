@@ -1,0 +1,9 @@
+pub mod Fault
+pub mod Printed
+pub mod Shape
+pub mod Fields
+pub mod Items
+pub mod Rows
+pub mod Steps
+pub mod Repeats
+pub mod Suspects

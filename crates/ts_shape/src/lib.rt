@@ -1,0 +1,37 @@
+//! Shapes of DER as tables, lists of items, and the first item of a list that repeats an earlier one: what the readers of
+//! names, extensions, certificates and revocation lists have in common.
+//!
+//! A shape says which elements follow one another (`specs/Shape.antt`: `sequence`, `optional`, `items`, `any`), and `judge`
+//! is the first rule that octets break, with its offset. Each format of the crates above is one such table, and its reader
+//! refuses exactly what `judge` says (`proofs/Judging.antt` has one lemma for each kind of row).
+//!
+//! ```text
+//! let list = SequenceOf::<OidRef<'_>>::read(element)?;    // one object identifier or more, each checked once
+//! for oid in list.iter() { .. }                            // which cannot fail
+//! let repeated = first_repeated::<OidRef<'_>>(element);   // without memory
+//! ```
+//!
+//! | Call | What its clause says |
+//! |---|---|
+//! | `SequenceOf::read` | the items are those of `some_of`; a refusal is its first fault |
+//! | `SequenceOf::iter`, `within`, `SequenceItems` | the items, in their order |
+//! | `next_item`, `tagged_as` | one item; an element of this tag |
+//! | `first_repeated` | the first item whose key an earlier one has |
+//! | `Ends::is_new` | whether a key ends in an octet in which no earlier one does |
+//! | `CertRule::code`, `Display` | the number and the name of a rule |
+#![tactic(auto)]
+
+mod fault;
+mod repeats;
+#[cfg(test)]
+mod repeats_tests;
+mod sequence_of;
+#[cfg(test)]
+mod sequence_tests;
+mod suspects;
+#[cfg(test)]
+mod tests;
+
+pub use fault::{CertFault, CertRule};
+pub use repeats::{Ends, Keyed, first_repeated};
+pub use sequence_of::{FromElement, SequenceItems, SequenceOf, next_item, tagged_as};
