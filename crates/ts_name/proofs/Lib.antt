@@ -2,7 +2,6 @@ pub mod Words
 pub mod Streams
 pub mod AttributeForms
 pub mod Order
-pub mod Inserts
 pub mod Equal
 pub mod ShortNames
 pub mod Shapes
@@ -13,3 +12,5 @@ pub mod Generals
 pub mod Subtrees
 pub mod NameParts
 pub mod NameJudging
+pub mod Domains
+pub mod CanonOrder

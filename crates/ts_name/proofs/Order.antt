@@ -12,7 +12,7 @@ use Rattle.std.proofs.lemmas.List.Sums.{sum_by-cons}
 use Rattle.std.proofs.lemmas.List.Elements.{All-head, All-tail, All-weaker}
 use Rattle.ts_name.specs.Canon.{CanonAttr, compare_attrs, at_most, insert_attr, sort_attrs, is_same, count_of}
 
-total : IsTotalOrder compare_attrs
+pub total : IsTotalOrder compare_attrs
 unfolding compare_attrs
 total = then_total (on_total (λ (a : CanonAttr). a.kind) nat_list_cmp_total) (then_total (on_total (λ (a : CanonAttr). a.tag) nat_cmp_total) (on_total (λ (a : CanonAttr). a.value) nat_list_cmp_total))
 

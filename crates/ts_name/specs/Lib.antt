@@ -13,4 +13,6 @@ pub mod Subtree
 pub mod SubtreeTable
 pub mod SubtreeView
 pub mod Sameness
+pub mod Holds
+pub mod Sorted
 pub mod NameRows

@@ -13,7 +13,7 @@ pub const PRINTABLE_STRING: u8 = 0x13;
 pub const IA5_STRING: u8 = 0x16;
 
 /// An attribute of a relative distinguished name, as it lies in the source (RFC 5280 4.1.2.4, `AttributeTypeAndValue`).
-#[derive(Clone, Copy, Debug)]
+#[derive(Clone, Copy, Debug, Default)]
 pub struct Attribute<'a> {
     /// The type: the content octets of its OBJECT IDENTIFIER.
     pub kind: &'a [u8],

@@ -1,7 +1,7 @@
 //! Names in canonical form, owned.
 
-ghost use Rattle.std.specs.Prelude.{◌≡◌, ◌++◌, [], ◌∷◌, ◌↔◌, IsTrue, IfOk, OnOk, OnErr};
-ghost use Rattle.ts_name.specs.Canon.{canon_attr, at_most, insert_attr};
+ghost use Rattle.std.specs.Prelude.{◌≡◌, ◌++◌, [], ◌∷◌, ◌↔◌, IsTrue, IfOk, OnOk, OnErr, map};
+ghost use Rattle.ts_name.specs.Canon.{canon_attr, sort_attrs};
 ghost use Rattle.ts_name.specs.CanonView.{attr_in};
 ghost use Rattle.ts_name.specs.View.{attr_of};
 
@@ -57,39 +57,17 @@ pub fn canon_attribute(
     }
 }
 
-/// Whether the first is at most the second, by type, then by tag, then by value.
-#[tactic(auto, unfolding(crate::specs::Canon::compare_attrs))]
-fn is_at_most(a: &CanonAttribute, b: &CanonAttribute) -> bool
-    ensures { result ≡ at_most (attr_in a.now) (attr_in b.now) }
-{
-    a.cmp(b).is_le()
-}
-
 impl CanonRdn {
     ghost use Rattle.ts_name.specs.CanonView.{attr_in, attrs_in};
 
-    /// A relative distinguished name without attributes.
-    pub fn new(alloc: Global) -> Self
-        ensures { attrs_in result ≡ [] }
+    /// The relative distinguished name of these attributes, which are put in order.
+    #[tactic(auto, unfolding(crate::specs::Canon::compare_attrs))]
+    pub fn from_attributes(attributes: Vec<CanonAttribute>) -> Self
+        ensures { attrs_in result ≡ sort_attrs (map attr_in attributes.items) }
     {
-        CanonRdn {
-            attributes: Vec::new(alloc),
-        }
-    }
-
-    /// Puts an attribute into its place in the order. Where memory runs out, the name stays as it was and the attribute is
-    /// dropped.
-    pub fn insert(&mut self, attribute: CanonAttribute) -> Result<(), AllocError>
-        ensures ok { OnOk result (attrs_in self.new ≡ insert_attr (attr_in attribute) (attrs_in self.old)) }
-        ensures err { OnErr result (attrs_in self.new ≡ attrs_in self.old) }
-    {
-        let place = self
-            .attributes
-            .iter()
-            .position(|other| is_at_most(&attribute, other))
-            .unwrap_or(self.attributes.len());
-        self.attributes.insert(place, attribute)?;
-        Ok(())
+        let mut attributes = attributes;
+        attributes.sort_unstable();
+        CanonRdn { attributes }
     }
 }
 

@@ -16,12 +16,12 @@ impl Rdn<'_> {
     pub fn canon(self, alloc: Global) -> Result<CanonRdn, AllocError>
         ensures { IfOk result (λ canon. attrs_in canon ≡ canon_rdn (attributes_in self.entry)) }
     {
-        let mut canon = CanonRdn::new(alloc);
+        let mut attributes = Vec::new(alloc);
         for attribute in self.attributes() {
-            let attribute = canon_attribute(alloc, attribute)?;
-            canon.insert(attribute)?;
+            let canon = canon_attribute(alloc, attribute)?;
+            attributes.push(canon)?;
         }
-        Ok(canon)
+        Ok(CanonRdn::from_attributes(attributes))
     }
 }
 

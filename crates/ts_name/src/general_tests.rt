@@ -3,6 +3,7 @@
 use super::*;
 use crate::tests::place;
 use ts_der::{DerFault, Fault, Reader};
+use ts_shape::SequenceOf;
 
 /// O=a, in a directory name.
 const DIRECTORY: &[u8] = b"\xa4\x0e\x30\x0c\x31\x0a\x30\x08\x06\x03\x55\x04\x0a\x13\x01a";

@@ -10,12 +10,14 @@ mod general;
 mod general_reading;
 #[cfg(test)]
 mod general_tests;
+mod holding;
 pub mod laws;
 mod name;
 mod name_items;
 mod name_reading;
 #[cfg(test)]
 mod name_tests;
+mod ordering;
 mod rdn;
 mod sameness;
 mod short_names;

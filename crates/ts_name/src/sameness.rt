@@ -1,6 +1,6 @@
 //! Names compared in canonical form (RFC 5280 7.1), without memory.
 
-ghost use Rattle.std.specs.Prelude.{◌≡◌, ◌↔◌, IsTrue, map, length};
+ghost use Rattle.std.specs.Prelude.{◌≡◌, ◌≤◌, ◌↔◌, true, IsTrue, IfSome, map, length};
 ghost use Rattle.ts_name.specs.Canon.{canon_attr, canon_rdn, count_of};
 ghost use Rattle.ts_name.specs.Sameness.{canon_name, IsWithin, StripsTo};
 ghost use Rattle.ts_name.specs.NameView.{rdns_in, attributes_in};
@@ -9,7 +9,9 @@ ghost use Rattle.ts_name.specs.View.{attr_of};
 use crate::attribute::Attribute;
 use crate::name::Name;
 use crate::name_items::Rdns;
+use crate::ordering::{are_one, gather_sorted};
 use crate::rdn::Rdn;
+use arrayvec::ArrayVec;
 
 /// How many attributes there are.
 fn size(rdn: Rdn<'_>) -> usize
@@ -35,21 +37,83 @@ fn count(rdn: Rdn<'_>, attribute: Attribute<'_>) -> usize
     count
 }
 
+/// Whether two relative distinguished names have as many attributes, and each as often, by counting each.
+fn are_one_by_counts(a: Rdn<'_>, b: Rdn<'_>) -> bool
+    ensures { IsTrue result ↔ (canon_rdn (attributes_in a.entry) ≡ canon_rdn (attributes_in b.entry)) }
+{
+    if size(a) != size(b) {
+        return false;
+    }
+    for attribute in a.attributes() {
+        if count(a, attribute) != count(b, attribute) {
+            return false;
+        }
+    }
+    true
+}
+
+/// Whether two relative distinguished names have the attributes in one order, each one in canonical form.
+fn are_one_in_order(a: Rdn<'_>, b: Rdn<'_>) -> bool
+    ensures { result ≡ true → canon_rdn (attributes_in a.entry) ≡ canon_rdn (attributes_in b.entry) }
+{
+    let mut others = b.attributes();
+    for attribute in a.attributes() {
+        let Some(other) = others.next() else {
+            return false;
+        };
+        if !attribute.same(other) {
+            return false;
+        }
+    }
+    match others.next() {
+        None => true,
+        Some(_) => false,
+    }
+}
+
+/// Whether two relative distinguished names are one, by tables of their attributes in the order of the canonical form. `None`
+/// where a table has no room for them.
+#[inline(never)]
+fn are_one_by_tables<const N: usize>(a: Rdn<'_>, b: Rdn<'_>) -> Option<bool>
+    requires { N ≤ 16384 }
+    ensures { IfSome result (λ one. IsTrue one ↔ (canon_rdn (attributes_in a.entry) ≡ canon_rdn (attributes_in b.entry))) }
+{
+    let mut first = ArrayVec::<Attribute<'_>, N>::new();
+    let mut second = ArrayVec::<Attribute<'_>, N>::new();
+    if !gather_sorted(&mut first, a) || !gather_sorted(&mut second, b) {
+        return None;
+    }
+    Some(are_one(first.as_slice(), second.as_slice()))
+}
+
+/// The attributes of the most relative distinguished names.
+const FEW: usize = 16;
+
+/// The attributes of a long relative distinguished name.
+const MANY: usize = 512;
+
+/// More attributes than 65,536 octets have, and so than any certificate has in one relative distinguished name.
+const ALL: usize = 9_600;
+
 impl Rdn<'_> {
     /// Whether two relative distinguished names are one in canonical form: they have as many attributes, and each as
-    /// often, in whatever order.
+    /// often, in whatever order. It takes no memory but tables on the stack, of 768 kB at most. Of sets of more than 9,600
+    /// attributes each is counted in the other, so that their sizes are multiplied.
     pub fn same(self, other: Rdn<'_>) -> bool
         ensures { IsTrue result ↔ (canon_rdn (attributes_in self.entry) ≡ canon_rdn (attributes_in other.entry)) }
     {
-        if size(self) != size(other) {
-            return false;
+        if are_one_in_order(self, other) {
+            return true;
         }
-        for attribute in self.attributes() {
-            if count(self, attribute) != count(other, attribute) {
-                return false;
-            }
+        let one = match size(self).max(size(other)) {
+            ..=FEW => are_one_by_tables::<FEW>(self, other),
+            ..=MANY => are_one_by_tables::<MANY>(self, other),
+            _ => are_one_by_tables::<ALL>(self, other),
+        };
+        match one {
+            Some(one) => one,
+            None => are_one_by_counts(self, other),
         }
-        true
     }
 }
 

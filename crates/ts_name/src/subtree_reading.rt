@@ -14,12 +14,11 @@ ghost use Rattle.ts_name.specs.Subtree.{GeneralSubtree, is_unbounded, IsSubtree,
 ghost use Rattle.ts_name.specs.SubtreeTable.{subtree_fields, constraint_fault};
 ghost use Rattle.ts_name.specs.SubtreeView.{subtree_in};
 
-use ts_shape::{CertFault, CertRule};
 use crate::general::General;
 use crate::name_reading::SEQUENCE;
-use ts_shape::{FromElement, tagged_as};
 use crate::subtree::Subtree;
 use ts_der::{DerFault, Element, Fault, Integer, Reader};
+use ts_shape::{CertFault, CertRule, FromElement, tagged_as};
 
 const MINIMUM: u8 = 0x80;
 

@@ -4,6 +4,7 @@ use super::*;
 use crate::general_tests::form;
 use crate::tests::place;
 use ts_der::{DerFault, Fault, Reader};
+use ts_shape::{CertFault, CertRule, SequenceOf};
 
 /// The network 192.0.2.0/24, whose octets are those of RFC 5280 4.2.1.10.
 const NETWORK: &[u8] = b"\x30\x0a\x87\x08\xc0\x00\x02\x00\xff\xff\xff\x00";
@@ -183,4 +184,55 @@ fn lists_of_subtrees(rt: HostRuntime) {
             == Some(((2, b"a.b".as_slice()), (2, b".c".as_slice())))
     );
     assert!(rt; place(list(b"\x30\x02\x31\x00")) == Some((DerFault::WrongTag, 2)));
+}
+
+/// The hosts below b, without b itself.
+const BELOW_B: &[u8] = b"\x30\x04\x82\x02.b";
+
+/// The addresses 10.x.x.1: a mask that is not contiguous.
+const ENDS_IN_1: &[u8] = b"\x30\x0a\x87\x08\x0a\x00\x00\x01\xff\x00\x00\xff";
+
+/// The directory below O=a.
+const BELOW_A: &[u8] = b"\x30\x10\xa4\x0e\x30\x0c\x31\x0a\x30\x08\x06\x03\x55\x04\x0a\x13\x01a";
+
+/// O=A, and then CN=b.
+const IN_A: &[u8] =
+    b"\xa4\x1a\x30\x18\x31\x0a\x30\x08\x06\x03\x55\x04\x0a\x0c\x01A\x31\x0a\x30\x08\x06\x03\x55\x04\x03\x0c\x01b";
+
+/// Subtrees and names, and whether the name lies in the subtree.
+const HELD: [(&[u8], &[u8], bool); 21] = [
+    (HOSTS, b"\x82\x03a.b", true),
+    (HOSTS, b"\x82\x03A.B", true),
+    (HOSTS, b"\x82\x05x.a.b", true),
+    (HOSTS, b"\x82\x05*.a.b", true),
+    (HOSTS, b"\x82\x04xa.b", false),
+    (HOSTS, b"\x82\x01b", false),
+    (HOSTS, b"\x81\x03a.b", false),
+    (b"\x30\x02\x82\x00", b"\x82\x01x", true),
+    (b"\x30\x02\x82\x00", b"\x82\x00", true),
+    (BELOW_B, b"\x82\x03a.b", true),
+    (BELOW_B, b"\x82\x02.b", false),
+    (BELOW_B, b"\x82\x01b", false),
+    (NETWORK, b"\x87\x04\xc0\x00\x02\x07", true),
+    (NETWORK, b"\x87\x04\xc0\x00\x03\x07", false),
+    (NETWORK, b"\x87\x05\xc0\x00\x02\x07\x00", false),
+    (ENDS_IN_1, b"\x87\x04\x0a\x63\x02\x01", true),
+    (ENDS_IN_1, b"\x87\x04\x0a\x63\x02\x02", false),
+    (BELOW_A, IN_A, true),
+    (BELOW_A, b"\xa4\x02\x30\x00", false),
+    (b"\x30\x04\xa4\x02\x30\x00", IN_A, true),
+    (b"\x30\x05\x81\x03a.b", b"\x81\x03a.b", false),
+];
+
+/// Whether the name that octets encode lies in the subtree that others encode.
+fn is_held(subtree: &[u8], name: &[u8]) -> Result<bool, Fault> {
+    let name = General::read(Reader::new(name).next()?)?;
+    Ok(element(subtree)?.holds(name))
+}
+
+#[test]
+fn subtrees_hold_names(rt: HostRuntime) {
+    for &(subtree, name, held) in &HELD {
+        assert!(rt; is_held(subtree, name) == Ok(held), "{subtree:?} {name:?}");
+    }
 }

@@ -143,11 +143,11 @@ fn text_is_folded(rt: HostRuntime) {
 
 /// A name of one relative distinguished name with two attributes.
 fn canon(alloc: Global, first: Attribute<'_>, second: Attribute<'_>) -> Result<Canon, AllocError> {
-    let mut rdn = CanonRdn::new(alloc);
-    rdn.insert(canon_attribute(alloc, first)?)?;
-    rdn.insert(canon_attribute(alloc, second)?)?;
+    let mut attributes = Vec::new(alloc);
+    attributes.push(canon_attribute(alloc, first)?)?;
+    attributes.push(canon_attribute(alloc, second)?)?;
     let mut name = Canon::new(alloc);
-    name.push(rdn)?;
+    name.push(CanonRdn::from_attributes(attributes))?;
     Ok(name)
 }
 

@@ -1,14 +1,18 @@
 use Rattle.std.proofs.Common.{◌≡◌, List, [], ◌∷◌, ◌++◌, sym, ap, ◌∙◌, append-nil}
-use Rattle.ts_name.specs.Canon.{Attr, CanonAttr, canon_attr, canon_rdn, insert_attr}
-use Rattle.ts_name.specs.CanonView.{attrs_in}
+use Rattle.std.specs.Prelude.{map}
+use Rattle.std.proofs.lemmas.List.{map-append}
+use Rattle.ts_name.specs.Canon.{Attr, CanonAttr, canon_attr, canon_rdn, sort_attrs}
+use Rattle.ts_name.specs.CanonView.{attr_in}
 use Rattle.ts_name.specs.View.{attr_of}
 use Rattle.ts_name.specs.NameView.{attributes_in}
 use Rattle.ts_name.proofs.Items.{goes}
-use Rattle.ts_name.proofs.Counting.{canon-more, canon-none}
 use Rattle.ts_name.proofs.rdn.Rdn.canon.Goals as goal
 
+pushed : {X : Type 0} (f : X → CanonAttr) (xs : List X) (x : X) → map f (xs ++ x ∷ []) ≡ map f xs ++ f x ∷ []
+pushed f xs x = map-append f xs (x ∷ [])
+
 pub loop-attribute-init : goal.loop-attribute-init
-loop-attribute-init c = (tt, tt, [], sym (c.into_iter-attribute-iterator.ensures.into_iter_gives ∙ c.attributes-attribute-items.ensures), c.new-canon.ensures ∙ sym canon-none)
+loop-attribute-init c = (tt, tt, [], sym (c.into_iter-attribute-iterator.ensures.into_iter_gives ∙ c.attributes-attribute-items.ensures), ap (map attr_in) c.new-attributes.ensures.items)
 
 pub loop-attribute-preserved : goal.loop-attribute-preserved
 loop-attribute-preserved c =
@@ -19,11 +23,12 @@ loop-attribute-preserved c =
       tt,
       i.2 ++ x ∷ [],
       goes (attributes_in c.args.self) i.2 c.next.new.self x all,
-      c.in_ok-insert.ensures.ok ∙ (ap (λ (a : CanonAttr). insert_attr a (attrs_in c.loop-attribute.canon)) c.in_ok-attribute.ensures ∙ (ap (λ (xs : List CanonAttr). insert_attr (canon_attr x) xs) i.4 ∙ sym (canon-more i.2 x))),
+      ap (map attr_in) c.in_ok-push.ensures.items ∙ (pushed attr_in c.loop-attribute.attributes.items c.in_ok-canon.canon ∙ (ap (λ (xs : List CanonAttr). xs ++ attr_in c.in_ok-canon.canon ∷ []) i.4 ∙ (ap (λ (z : CanonAttr). map canon_attr i.2 ++ z ∷ []) c.in_ok-canon.ensures ∙ sym (pushed canon_attr i.2 x)))),
     )
 
 pub returns : goal.returns
+unfolding canon_rdn
 returns c =
     let i = c.loop-attribute.invariant in
     let all : attributes_in c.args.self ≡ i.2 = i.3 ∙ (ap (λ (xs : List Attr). i.2 ++ xs) c.in-None.ensures.steps.0 ∙ append-nil i.2) in
-    i.4 ∙ ap canon_rdn (sym all)
+    c.from_attributes.ensures ∙ (ap sort_attrs i.4 ∙ ap canon_rdn (sym all))
