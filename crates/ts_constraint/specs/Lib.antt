@@ -1,0 +1,4 @@
+pub mod Names
+pub mod Source
+pub mod Conditions
+pub mod View
