@@ -1,0 +1,11 @@
+pub mod Labels
+pub mod Paths
+pub mod Accepted
+pub mod Seen
+pub mod Tree
+pub mod Certificates
+pub mod Stated
+pub mod LabelSet
+pub mod Layers
+pub mod Links
+pub mod Kept
