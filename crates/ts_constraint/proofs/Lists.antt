@@ -1,5 +1,6 @@
 -- One or none of a list that has a property, and the first name that does not meet a condition.
-use Rattle.std.proofs.Common.{◌≡◌, Bool, true, false, List, [], ◌∷◌, ◌++◌, ◌⊎◌, inl, inr, Option, Some, None, refl, sym, ap, subst, ◌∙◌}
+use Rattle.std.proofs.Common.{◌≡◌, Bool, true, false, not, List, [], ◌∷◌, ◌++◌, ◌⊎◌, inl, inr, Option, Some, None, refl, sym, ap, subst, ◌∙◌}
+use Rattle.std.proofs.lemmas.Bool.{false≢true}
 use Rattle.std.proofs.lemmas.List.{append_assoc}
 use Rattle.ts_name.specs.General.{GeneralName}
 use Rattle.ts_constraint.specs.declared.form.Form.{Form}
@@ -73,3 +74,17 @@ first-here c sources names front rest name e meet fails = record { before = fron
 -- one name more that meets it
 pub meets-more : (c : Condition) (sources : List Source) (front : List GeneralName) (name : GeneralName) → Meets c sources front → (Fails c sources name → ⊥) → Meets c sources (front ++ name ∷ [])
 meets-more c sources front name meet not = none-append (Fails c sources) front (name ∷ []) meet (not, tt)
+
+-- ---- what a list of subtrees says, of names and forms that are equal
+
+pub of-form : (form other : Form) (xs ys : List GeneralName) → form ≡ other → xs ≡ ys → Some_of (λ base. form_of base ≡ form) xs → Some_of (λ base. form_of base ≡ other) ys
+of-form form other xs ys e f some =
+    subst (λ (zs : List GeneralName). Some_of (λ base. form_of base ≡ other) zs) f (subst (λ (k : Form). Some_of (λ base. form_of base ≡ k) xs) e some)
+
+pub not-true : (b : Bool) → (b ≡ true → ⊥) → not b ≡ true
+not-true true f = absurd (f refl)
+not-true false f = refl
+
+pub true-not : (b : Bool) → not b ≡ true → b ≡ true → ⊥
+true-not true e f = false≢true e
+true-not false e f = false≢true f

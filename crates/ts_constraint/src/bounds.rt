@@ -2,12 +2,14 @@
 
 ghost use Rattle.std.specs.Prelude.{◌≡◌, ◌↔◌, ◌++◌, ◌∷◌, [], IsTrue, IfOk, OnOk, OnErr, Ok, List, map};
 ghost use Rattle.std.specs.List.{flat_map};
+ghost use Rattle.std.specs.Str.{bytes_eq};
 ghost use Rattle.ts_name.specs.GeneralView.{general_in};
 ghost use Rattle.ts_name.specs.NameView.{rdns_in, attributes_in};
+ghost use Rattle.ts_name.specs.View.{attr_of};
 ghost use Rattle.ts_ext.specs.NameViews.{alternatives_in};
 ghost use Rattle.ts_cert.specs.CertView.{cert_in};
 ghost use Rattle.ts_constraint.specs.Conditions.{Fails, IsFirst, IsAnswer, IsExempt};
-ghost use Rattle.ts_constraint.specs.Names.{addresses_of, subject_names, names_of};
+ghost use Rattle.ts_constraint.specs.Names.{addresses_of, email_address, subject_names, names_of};
 ghost use Rattle.ts_constraint.specs.Source.{source_of};
 ghost use Rattle.ts_constraint.specs.View.{bases_in};
 
@@ -19,7 +21,7 @@ use std::alloc::{AllocError, Global};
 use std::marker::Model;
 use ts_cert::Cert;
 use ts_ext::AlternativeNames;
-use ts_name::{General, Name, Rdn, Subtree};
+use ts_name::{Attribute, General, Name, Rdn, Subtree};
 
 /// The sources of constraints above a certificate: those of the question, and those of each certificate above it, in order.
 #[derive(Drop)]
@@ -75,7 +77,7 @@ impl<'a> Bounds<'a> {
         ensures exempt { IsExempt (cert_in cert.now).tbsCertificate last → result ≡ Ok tt }
         ensures checked { ¬ (IsExempt (cert_in cert.now).tbsCertificate last) → IsAnswer self.now (names_of (cert_in cert.now).tbsCertificate) result }
     {
-        if !last && cert.is_self_issued() {
+        if is_exempt(cert, last) {
             return Ok(());
         }
         if let Some(form) = self.first_failing(Condition::Supported, cert) {
@@ -160,9 +162,10 @@ impl<'a> Bounds<'a> {
         ensures { IsFirst condition self.now (addresses_of (attributes_in rdn.entry)) result }
     {
         for attribute in rdn.attributes() {
-            if attribute.kind == EMAIL_ADDRESS
-                && self.fails(condition, General::Rfc822Name(attribute.value))
-            {
+            if !is_address(attribute) {
+                continue;
+            }
+            if self.fails(condition, General::Rfc822Name(attribute.value)) {
                 return Some(Form::Rfc822Name);
             }
         }
@@ -172,3 +175,20 @@ impl<'a> Bounds<'a> {
 
 /// emailAddress, 1.2.840.113549.1.9.1, as the content of an OBJECT IDENTIFIER (RFC 2985 5.2.1).
 const EMAIL_ADDRESS: &[u8] = b"\x2a\x86\x48\x86\xf7\x0d\x01\x09\x01";
+
+/// Whether an attribute is a mail address.
+fn is_address(attribute: Attribute<'_>) -> bool
+    ensures { result ≡ bytes_eq (attr_of attribute.entry).kind email_address }
+{
+    attribute.kind == EMAIL_ADDRESS
+}
+
+/// Whether constraints do not bear on a certificate.
+fn is_exempt(cert: &Cert<'_>, last: bool) -> bool
+    ensures { IsTrue result ↔ IsExempt (cert_in cert.now).tbsCertificate last }
+{
+    if last {
+        return false;
+    }
+    cert.is_self_issued()
+}

@@ -6,8 +6,9 @@ ghost use Rattle.ts_name.specs.Holds.{Holds};
 ghost use Rattle.ts_ext.specs.NameViews.{subtrees_in};
 ghost use Rattle.ts_cert.specs.CertView.{cert_in};
 ghost use Rattle.ts_constraint.specs.Conditions.{Some_of, FailsAt};
+ghost use Rattle.ts_constraint.specs.declared.condition.Condition.TheVariants.{Supported, Permitted};
 ghost use Rattle.ts_constraint.specs.Names.{form_of};
-ghost use Rattle.ts_constraint.specs.Source.{bases_if, source_of};
+ghost use Rattle.ts_constraint.specs.Source.{bases, bases_if, source_of};
 ghost use Rattle.ts_constraint.specs.View.{bases_in, AreBases};
 
 use crate::condition::Condition;
@@ -55,8 +56,8 @@ impl<'a> Source<'a> {
     {
         match cert.name_constraints() {
             Some(constraints) => Ok(Source {
-                permitted: gather(alloc, constraints.permitted)?,
-                excluded: gather(alloc, constraints.excluded)?,
+                permitted: gather_if(alloc, constraints.permitted)?,
+                excluded: gather_if(alloc, constraints.excluded)?,
             }),
             None => Ok(Source {
                 permitted: Vec::new(alloc),
@@ -69,35 +70,65 @@ impl<'a> Source<'a> {
     pub(crate) fn fails(&self, condition: Condition, name: General<'_>) -> bool
         ensures { IsTrue result ↔ FailsAt condition (general_in name.entry) self.now }
     {
-        let form = Form::of(name);
         match condition {
-            Condition::Supported => {
-                !form.is_processed()
-                    && (have_form(self.permitted.as_slice(), form)
-                        || have_form(self.excluded.as_slice(), form))
-            }
-            Condition::Permitted => {
-                form.is_processed()
-                    && have_form(self.permitted.as_slice(), form)
-                    && !hold(self.permitted.as_slice(), name)
-            }
+            Condition::Supported => self.is_unsupported(name),
+            Condition::Permitted => self.is_not_permitted(name),
             Condition::NotExcluded => hold(self.excluded.as_slice(), name),
         }
+    }
+
+    /// Whether the source has a subtree of the name's form, which is not processed.
+    fn is_unsupported(&self, name: General<'_>) -> bool
+        ensures { IsTrue result ↔ FailsAt Supported (general_in name.entry) self.now }
+    {
+        let form = Form::of(name);
+        if form.is_processed() {
+            return false;
+        }
+        if have_form(self.permitted.as_slice(), form) {
+            return true;
+        }
+        have_form(self.excluded.as_slice(), form)
+    }
+
+    /// Whether the source permits subtrees of the name's form, which is processed, and the name lies in none of them.
+    fn is_not_permitted(&self, name: General<'_>) -> bool
+        ensures { IsTrue result ↔ FailsAt Permitted (general_in name.entry) self.now }
+    {
+        let form = Form::of(name);
+        if !form.is_processed() {
+            return false;
+        }
+        if !have_form(self.permitted.as_slice(), form) {
+            return false;
+        }
+        !hold(self.permitted.as_slice(), name)
     }
 }
 
 /// The subtrees of a list, if there is one.
-fn gather<'a>(
+fn gather_if<'a>(
     alloc: Global,
     list: Option<SequenceOf<'a, Subtree<'a>>>,
 ) -> Result<Vec<Subtree<'a>>, AllocError>
-    ensures { IfOk result (λ v. bases_in v.items ≡ bases_if (option_map subtrees_in list)) }
+    ensures { IfOk result (λ v. bases_in v.items ≡ bases_if (option_map subtrees_in list.entry)) }
+{
+    match list {
+        Some(list) => gather(alloc, list),
+        None => Ok(Vec::new(alloc)),
+    }
+}
+
+/// The subtrees of a list.
+fn gather<'a>(
+    alloc: Global,
+    list: SequenceOf<'a, Subtree<'a>>,
+) -> Result<Vec<Subtree<'a>>, AllocError>
+    ensures { IfOk result (λ v. bases_in v.items ≡ bases (subtrees_in list.entry)) }
 {
     let mut subtrees = Vec::new(alloc);
-    if let Some(list) = list {
-        for subtree in list.iter() {
-            subtrees.push(subtree)?;
-        }
+    for subtree in list.iter() {
+        subtrees.push(subtree)?;
     }
     Ok(subtrees)
 }

@@ -9,4 +9,4 @@ use Rattle.ts_constraint.proofs.source.gather.Given as goal
 abbrev pub invariant-loop-subtree : goal.invariant-loop-subtree
 invariant-loop-subtree l =
     (goal.iterator-loop-subtree).can_next l.subtree-iterator × (goal.iterator-loop-subtree).is_finite l.subtree-iterator
-    × (front : List GeneralSubtree) × (subtrees_in l.list ≡ front ++ items_at (of_tag 0x30 subtree_of) l.subtree-iterator.rest) × (bases_in l.subtrees.items ≡ bases front)
+    × (front : List GeneralSubtree) × (subtrees_in l.fn.list ≡ front ++ items_at (of_tag 0x30 subtree_of) l.subtree-iterator.rest) × (bases_in l.subtrees.items ≡ bases front)

@@ -8,4 +8,4 @@ use Rattle.ts_constraint.proofs.bounds.Bounds.first_of_names.Given as goal
 abbrev pub invariant-loop-name : goal.invariant-loop-name
 invariant-loop-name l =
     (goal.iterator-loop-name).can_next l.name-iterator × (goal.iterator-loop-name).is_finite l.name-iterator
-    × (front : List GeneralName) × (alternatives_in l.names ≡ front ++ items_at general_of l.name-iterator.rest) × Meets l.condition l.self front
+    × (front : List GeneralName) × (alternatives_in l.fn.names ≡ front ++ items_at general_of l.name-iterator.rest) × Meets l.condition l.self front
