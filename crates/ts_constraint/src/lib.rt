@@ -1,4 +1,22 @@
 //! Name constraints (RFC 5280 4.2.1.10): the names of a certificate against every source of constraints above it.
+//!
+//! ```text
+//! let mut bounds = Bounds::initial(alloc, &permitted, &excluded)?;   // those of the question
+//! for each certificate of the chain, from the anchor's side {
+//!     bounds.check(&cert, is_last)?;      // Unsupported, NotPermitted or Excluded, with the form of the first such name
+//!     bounds.narrow(&cert)?;              // its own constraints bear on those that follow
+//! }
+//! ```
+//!
+//! Contracts see `Bounds` as the list of its sources (`specs/Source`), each the names at which its permitted and its excluded subtrees
+//! begin. The names that a certificate shows are in `specs/Names`, the three conditions in `specs/Conditions`.
+//!
+//! | Call | What its clauses say |
+//! |---|---|
+//! | [`Bounds::initial`] | one source: the question's subtrees |
+//! | [`Bounds::narrow`] | one source more: what the certificate's nameConstraints say; unchanged where memory runs out |
+//! | [`Bounds::check`] | `checked`: Ok exactly where each name meets each condition of each source, else the least condition that is not met, with the form of the first name that does not meet it; `exempt`: a self-issued certificate that is not the last is Ok |
+//! | [`Form::of`], [`Form::is_processed`] | the form of a name; whether its constraints are processed |
 #![tactic(auto)]
 
 mod bounds;
@@ -6,6 +24,8 @@ mod condition;
 mod fault;
 mod form;
 mod source;
+#[cfg(test)]
+mod tests;
 
 pub use bounds::Bounds;
 pub use fault::NameFault;

@@ -21,6 +21,6 @@ loop-subtree-preserved c =
       i.2 ++ x ∷ [],
       goes (subtrees_in c.args.list) i.2 _ x all,
       ap bases_in c.in_ok-push.ensures.items
-      ∙ (map-append (λ (s : Subtree). (subtree_in s).base) c.loop-subtree.subtrees.items (c.in-Some.subtree ∷ [])
-      ∙ (ap (λ (xs : List GeneralName). xs ++ x.base ∷ []) i.4 ∙ sym (map-append (λ (s : GeneralSubtree). s.base) i.2 (x ∷ [])))),
+          ∙ (map-append (λ (s : Subtree). (subtree_in s).base) c.loop-subtree.subtrees.items (c.in-Some.subtree ∷ [])
+          ∙ (ap (λ (xs : List GeneralName). xs ++ x.base ∷ []) i.4 ∙ sym (map-append (λ (s : GeneralSubtree). s.base) i.2 (x ∷ [])))),
     )

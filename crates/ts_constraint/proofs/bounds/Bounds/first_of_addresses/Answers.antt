@@ -16,7 +16,7 @@ returns-in-Some-first_of_rdn c =
     let form = c.in-Some-first_of_rdn.form in
     let all = i.3 ∙ ap (λ (xs : List (List Attr)). i.2 ++ xs) c.in-Some.ensures.steps in
     let names : addresses_of (joined (rdns_in c.args.subject)) ≡ addresses_of (joined i.2) ++ (addresses_of r ++ addresses_of (joined rest)) =
-        ap (λ (xs : List (List Attr)). addresses_of (joined xs)) all ∙ addresses-at i.2 rest r in
+    ap (λ (xs : List (List Attr)). addresses_of (joined xs)) all ∙ addresses-at i.2 rest r in
     subst (λ (xs : List GeneralName). FailsFirst c.args.condition c.args.self.now xs form) (sym names)
     (first-after c.args.condition c.args.self.now (addresses_of (joined i.2)) (addresses_of r ++ addresses_of (joined rest)) (Some form) i.4
     (first-before c.args.condition c.args.self.now (addresses_of r) (addresses_of (joined rest)) form c.in-Some-first_of_rdn.ensures))
@@ -27,7 +27,11 @@ loop-rdn-preserved c =
     let r = attributes_in c.in-Some.rdn in
     let all = i.3 ∙ ap (λ (xs : List (List Attr)). i.2 ++ xs) c.in-Some.ensures.steps in
     let names : addresses_of (joined (i.2 ++ r ∷ [])) ≡ addresses_of (joined i.2) ++ addresses_of r =
-        addresses-at i.2 [] r ∙ ap (λ (xs : List GeneralName). addresses_of (joined i.2) ++ xs) (append-nil (addresses_of r)) in
-    (tt, tt, i.2 ++ r ∷ [], goes (rdns_in c.args.subject) i.2 _ r all,
-    subst (λ (xs : List GeneralName). Meets c.args.condition c.args.self.now xs) (sym names)
-    (none-append (Fails c.args.condition c.args.self.now) (addresses_of (joined i.2)) (addresses_of r) i.4 c.in_default.ensures))
+    addresses-at i.2 [] r ∙ ap (λ (xs : List GeneralName). addresses_of (joined i.2) ++ xs) (append-nil (addresses_of r)) in (
+      tt,
+      tt,
+      i.2 ++ r ∷ [],
+      goes (rdns_in c.args.subject) i.2 _ r all,
+      subst (λ (xs : List GeneralName). Meets c.args.condition c.args.self.now xs) (sym names)
+          (none-append (Fails c.args.condition c.args.self.now) (addresses_of (joined i.2)) (addresses_of r) i.4 c.in_default.ensures),
+    )

@@ -16,7 +16,7 @@ loop-attribute-preserved-then-not-is_address c =
     let x = attr_of c.in-Some.attribute in
     let all = i.3 ∙ ap (λ (xs : List Attr). i.2 ++ xs) c.in-Some.ensures.steps in
     let none : addresses_of (i.2 ++ x ∷ []) ≡ addresses_of i.2 =
-        addresses-append i.2 (x ∷ []) ∙ (ap (λ (xs : List GeneralName). addresses_of i.2 ++ xs) (no-address x c.if-not-is_address.ensures) ∙ append-nil (addresses_of i.2)) in
+    addresses-append i.2 (x ∷ []) ∙ (ap (λ (xs : List GeneralName). addresses_of i.2 ++ xs) (no-address x c.if-not-is_address.ensures) ∙ append-nil (addresses_of i.2)) in
     (tt, tt, i.2 ++ x ∷ [], goes (attributes_in c.args.rdn) i.2 _ x all, subst (λ (xs : List GeneralName). Meets c.args.condition c.args.self.now xs) (sym none) i.4)
 
 pub loop-attribute-preserved : goal.loop-attribute-preserved
@@ -25,10 +25,14 @@ loop-attribute-preserved c =
     let x = attr_of c.in-Some.attribute in
     let all = i.3 ∙ ap (λ (xs : List Attr). i.2 ++ xs) c.in-Some.ensures.steps in
     let one : addresses_of (i.2 ++ x ∷ []) ≡ addresses_of i.2 ++ rfc822Name x.value ∷ [] =
-        addresses-append i.2 (x ∷ []) ∙ ap (λ (xs : List GeneralName). addresses_of i.2 ++ xs) (an-address x c.if-not-is_address.ensures) in
-    (tt, tt, i.2 ++ x ∷ [], goes (attributes_in c.args.rdn) i.2 _ x all,
-    subst (λ (xs : List GeneralName). Meets c.args.condition c.args.self.now xs) (sym one)
-    (meets-more c.args.condition c.args.self.now (addresses_of i.2) (rfc822Name x.value) i.4 (λ f. false≢true (c.if-fails.ensures.1 f))))
+    addresses-append i.2 (x ∷ []) ∙ ap (λ (xs : List GeneralName). addresses_of i.2 ++ xs) (an-address x c.if-not-is_address.ensures) in (
+      tt,
+      tt,
+      i.2 ++ x ∷ [],
+      goes (attributes_in c.args.rdn) i.2 _ x all,
+      subst (λ (xs : List GeneralName). Meets c.args.condition c.args.self.now xs) (sym one)
+          (meets-more c.args.condition c.args.self.now (addresses_of i.2) (rfc822Name x.value) i.4 (λ f. false≢true (c.if-fails.ensures.1 f))),
+    )
 
 pub returns-then-fails : goal.returns-then-fails
 returns-then-fails c =

@@ -24,7 +24,7 @@ returns c =
     let unprocessed : is_processed (form_of name) ≡ false = ap is_processed (sym c.of-form.ensures) ∙ sym c.if-is_processed.ensures in (
       λ t. (unprocessed, some-right (HasForm name) s.permitted s.excluded (of-form _ _ _ _ c.of-form.ensures excluded (c.have_form-2.ensures.0 t))),
       λ f. elim (some-either (HasForm name) s.permitted s.excluded f.1) [
-        inl p ↦ absurd (false≢true (c.if-have_form.ensures.1 (of-form _ _ _ _ (sym c.of-form.ensures) (sym permitted) p)))
+        | inl p ↦ absurd (false≢true (c.if-have_form.ensures.1 (of-form _ _ _ _ (sym c.of-form.ensures) (sym permitted) p)))
         | inr q ↦ c.have_form-2.ensures.1 (of-form _ _ _ _ (sym c.of-form.ensures) (sym excluded) q)
       ],
     )

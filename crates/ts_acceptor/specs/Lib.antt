@@ -1,0 +1,2 @@
+pub mod Acceptor
+pub mod Steps

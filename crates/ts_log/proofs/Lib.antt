@@ -1,0 +1,6 @@
+pub mod Asking
+pub mod Counting
+pub mod Facts
+pub mod Places
+pub mod Rule
+pub mod Votes

@@ -1,0 +1,3 @@
+pub mod Maps
+pub mod Log
+pub mod Steps

@@ -1,0 +1,16 @@
+pub mod Sets
+pub mod Forces
+pub mod Best
+pub mod Invariant
+pub mod Kept
+pub mod Agreed
+pub mod Mild
+pub mod Acceptor
+pub mod Proposer
+pub mod Asks
+pub mod Log
+pub mod Runs
+pub mod Verdicts
+pub mod Same
+pub mod OneMoreNode
+pub mod PrefixLength

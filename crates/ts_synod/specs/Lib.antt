@@ -1,0 +1,15 @@
+pub mod Lists
+pub mod Majority
+pub mod Ballot
+pub mod Config
+pub mod Messages
+pub mod Force
+pub mod Store
+pub mod Acceptor
+pub mod Proposer
+pub mod Log
+pub mod Node
+pub mod World
+pub mod Laws
+pub mod Example
+pub mod Places
