@@ -1,27 +1,24 @@
 -- What reading refuses is the first rule of a table that is broken: a step lemma for each kind of row.
-use Rattle.std.proofs.Common.{◌≡◌, ℕ, zero, suc, Bool, true, false, not, ◌||◌, cond, eqb, List, [], ◌∷◌, length, drop, Some, None, Option, Result, Ok, Err, refl, sym, ap, subst}
+use Rattle.std.proofs.Common.{◌≡◌, ℕ, zero, suc, Bool, true, false, cond, eqb, List, [], ◌∷◌, drop, Some, None, Option, Result, Ok, Err, refl, sym, ap, subst}
 use Rattle.std.specs.Prelude.{map, option_map}
 use Rattle.std.proofs.lemmas.Bool.{eqb-true}
 use Rattle.ts_der.specs.declared.fault.DerFault.{DerFault}
-use Rattle.ts_der.specs.declared.fault.DerFault.TheVariants.{WrongTag, Empty, SetOrder}
+use Rattle.ts_der.specs.declared.fault.DerFault.TheVariants.{WrongTag}
 use Rattle.ts_der.specs.declared.fault.Fault.{Fault}
 use Rattle.ts_der.specs.Answer.{◌>>=◌, Answers, refusal}
 use Rattle.ts_der.specs.Rules.{Rule, first_broken, value_unless}
 use Rattle.ts_der.specs.Element.{Place, Tlv, inside}
 use Rattle.ts_der.specs.Header.{header_rules}
-use Rattle.ts_der.specs.Reading.{unless, fault_at, is_end, element_of, behind, next_at, element_at, value_at, end_at, many_from, many, located}
-use Rattle.ts_der.specs.Text.{utf8_rules, ascii_rules}
-use Rattle.ts_der.specs.SetOf.{ascends, order_at, set_of_at}
+use Rattle.ts_der.specs.Reading.{unless, fault_at, is_end, element_of, behind, next_at, element_at, value_at, end_at, many_from, located}
 use Rattle.ts_der.specs.Integer.{integer_rules}
 use Rattle.ts_der.specs.BitString.{whole_octets_rules}
 use Rattle.ts_der.specs.ObjectIdentifier.{oid_rules}
 use Rattle.ts_shape.specs.declared.fault.CertRule.TheVariants.{Der}
 use Rattle.ts_shape.specs.declared.fault.CertFault.{CertFault}
 use Rattle.ts_shape.specs.Fields.{within, oid_at, integer_at, bits_at}
-use Rattle.ts_shape.specs.Items.{some_rules}
 use Rattle.ts_shape.specs.Fault.{about, der, breaks}
-use Rattle.ts_shape.specs.Rows.{object_identifier, integer, bit_string, set_rules, elements_of}
-use Rattle.ts_shape.specs.Shape.{Row, tagged, no_other, Shape, items, nothing, plain, ◌then◌, ◌or_else◌, is_absent, header_fault, each_fault, row_fault, judge, ContentRules, der_rules, no_rules}
+use Rattle.ts_shape.specs.Rows.{object_identifier, integer, bit_string, elements_of}
+use Rattle.ts_shape.specs.Shape.{Row, tagged, no_other, Shape, nothing, plain, ◌then◌, ◌or_else◌, is_absent, header_fault, each_fault, row_fault, judge, ContentRules, der_rules}
 
 -- ---- a reading and the first rule that is broken
 

@@ -1,8 +1,7 @@
 -- The rows of elements that more than one format has, and of names.
-use Rattle.std.specs.Prelude.{ℕ, zero, suc, ◌+◌, not, List, [], ◌∷◌, take, drop, length, Option, option_map, if◌then◌else◌}
+use Rattle.std.specs.Prelude.{ℕ, zero, suc, ◌+◌, not, List, [], ◌∷◌, take, drop, length, if◌then◌else◌}
 use Rattle.ts_der.specs.declared.fault.DerFault.TheVariants.{Empty, SetOrder}
 use Rattle.ts_der.specs.Rules.{Rule, rule}
-use Rattle.ts_der.specs.Element.{Tlv, inside}
 use Rattle.ts_der.specs.Header.{header_size, length_of}
 use Rattle.ts_der.specs.Reading.{is_end}
 use Rattle.ts_der.specs.Integer.{integer_rules}
@@ -10,9 +9,7 @@ use Rattle.ts_der.specs.BitString.{whole_octets_rules}
 use Rattle.ts_der.specs.ObjectIdentifier.{oid_rules}
 use Rattle.ts_der.specs.SetOf.{ascends}
 use Rattle.ts_der.specs.Text.{utf8_rules, ascii_rules}
-use Rattle.ts_shape.specs.declared.fault.CertFault.{CertFault}
-use Rattle.ts_shape.specs.Fault.{breaks}
-use Rattle.ts_shape.specs.Shape.{Row, any, tagged, no_other, items, nothing, ◌then◌, ◌or_else◌, judge, der_rules, primitive, sequence, ◌or◌}
+use Rattle.ts_shape.specs.Shape.{Row, tagged, no_other, items, ◌then◌, der_rules, primitive}
 
 -- ---- elements that hold no others
 
