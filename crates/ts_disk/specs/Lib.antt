@@ -1,0 +1,4 @@
+pub mod Disk
+pub mod Memory
+pub mod Past
+pub mod Replays

@@ -1,0 +1,30 @@
+//! Disks as crash-safe code sees them: a list of octets, of which a crash may lose what was not yet synced.
+//!
+//! ```text
+//! let mut disk = MemDisk::new(alloc, Vec::new(alloc))?;
+//! put(&mut disk, 0, b"octets")?;                      // written and synced
+//! assert_eq!(rt; disk.octets(), b"octets".as_slice());
+//! ```
+//!
+//! | Call | Clauses |
+//! |---|---|
+//! | `Disk::read`, `write_at`, `sync` | `octets`, `written`, `durable`; `call`, which images a crash may leave afterwards; `cause`, that a failure is counted |
+//! | `put` | a write and its sync: `written`, `durable`, and `moments`, what each image at each moment has kept |
+//! | `MemDisk::new`, `octets`, `calls`, `set_fuse`, `fail_at` | a disk in memory that keeps its calls, and fails when a test wants it to |
+//!
+//! `MemDisk` meets the laws of a disk, so that they can be met. That a real device keeps to them is a premise.
+#![tactic(auto)]
+
+mod call;
+mod disk;
+mod durable;
+mod fault;
+mod memory;
+#[cfg(test)]
+mod tests;
+
+pub use call::DiskCall;
+pub use disk::Disk;
+pub use durable::put;
+pub use fault::DiskFault;
+pub use memory::MemDisk;

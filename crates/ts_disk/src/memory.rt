@@ -1,0 +1,181 @@
+// A disk in memory, which keeps a record of its calls, and fails when a test wants it to.
+ghost use Rattle.std.specs.Prelude.{◌≡◌, IfOk, ◌⊎◌, ◌<◌, ◌≤◌, ◌^◌, ◌-◌, [], ◌∷◌, ◌++◌, length, OnOk, OnErr};
+ghost use Rattle.ts_disk.specs.declared.call.DiskCall.TheVariants.{Read, Write, Sync};
+ghost use Rattle.ts_disk.specs.declared.fault.DiskFault.TheVariants.{Failed};
+ghost use Rattle.ts_disk.specs.Disk.{written};
+ghost use Rattle.ts_disk.specs.Past.{history};
+
+use crate::{Disk, DiskCall, DiskFault};
+use std::alloc::{AllocError, Global};
+
+const MAX_LEN: usize = (1 << 63) - 1;
+
+/// A disk in memory. A growth that it is refused is a failure of the device.
+#[derive(Drop)]
+pub struct MemDisk {
+    alloc: Global,
+    first: Vec<u8>,
+    calls: Vec<DiskCall>,
+    octets: Vec<u8>,
+    failures: u64,
+    made: u64,
+    fuse: Option<u64>,
+    fails_at: Option<u64>,
+    ghost bounded: { length octets.items < 2 ^ 63 },
+    ghost replayed: { octets.items ≡ (history first.items calls.items).read },
+}
+
+impl MemDisk {
+    ghost use Rattle.ts_disk.specs.Memory.{state_of, calls_of};
+    ghost use Rattle.ts_disk.specs.Disk.{IsDurable};
+
+    /// A durable disk with these octets.
+    pub fn new(alloc: Global, octets: Vec<u8>) -> Result<MemDisk, AllocError>
+        ensures read { IfOk result (λ disk. (state_of disk).read ≡ octets.items) }
+        ensures durable { IfOk result (λ disk. IsDurable (state_of disk)) }
+    {
+        Ok(MemDisk {
+            alloc,
+            first: octets.to_vec(alloc)?,
+            calls: Vec::new(alloc),
+            octets,
+            failures: 0,
+            made: 0,
+            fuse: None,
+            fails_at: None,
+        })
+    }
+
+    /// All the octets, as a read gives them.
+    pub fn octets(&self) -> &[u8]
+        ensures { result.now ≡ (state_of self.now).read }
+    {
+        &self.octets
+    }
+
+    /// The calls that did not fail, in their order.
+    pub fn calls(&self) -> &[DiskCall]
+        ensures { result.now ≡ calls_of self.now }
+    {
+        &self.calls
+    }
+
+    /// Lets this many more calls pass; each later one fails.
+    pub fn set_fuse(&mut self, passing: u64)
+        ensures octets { (state_of self.new).read ≡ (state_of self.old).read }
+        ensures calls { calls_of self.new ≡ calls_of self.old }
+    {
+        self.fuse = Some(self.made.saturating_add(passing));
+    }
+
+    /// Lets one call alone fail: the next one for 1.
+    pub fn fail_at(&mut self, call: u64)
+        ensures octets { (state_of self.new).read ≡ (state_of self.old).read }
+        ensures calls { calls_of self.new ≡ calls_of self.old }
+    {
+        self.fails_at = Some(self.made.saturating_add(call));
+    }
+}
+
+// Whether a disk's next call fails, which it counts as made.
+fn refuses(made: &mut u64, fuse: Option<u64>, fails_at: Option<u64>) -> bool {
+    *made = made.saturating_add(1);
+    fuse.is_some_and(|passing| passing < *made) || fails_at == Some(*made)
+}
+
+// A failure of the device, which is counted.
+fn counted(failures: &mut u64) -> DiskFault
+    ensures fault { result ≡ Failed }
+    ensures rises { failures.old ≤ failures.new }
+    ensures cause { (failures.old < failures.new) ⊎ (failures.new ≡ 2 ^ 64 - 1) }
+{
+    *failures = failures.saturating_add(1);
+    DiskFault::Failed
+}
+
+// Writes octets at an offset, over what is there and past the end.
+fn overwrite(old: &mut Vec<u8>, at: usize, octets: &[u8]) -> Result<(), AllocError>
+    requires { at ≤ length old.old.items }
+    ensures written { OnOk result (old.new.items ≡ written old.old.items at octets.now) }
+    ensures unchanged { OnErr result (old.new.items ≡ old.old.items) }
+{
+    let room = (old.len() - at).min(octets.len());
+    old.extend_from_slice(&octets[room..])?;
+    old.as_mut_slice()[at..at + room].copy_from_slice(&octets[..room]);
+    Ok(())
+}
+
+// Keeps a call.
+fn keep(calls: &mut Vec<DiskCall>, call: DiskCall) -> Result<(), AllocError>
+    ensures kept { OnOk result (calls.new.items ≡ calls.old.items ++ call ∷ []) }
+    ensures unchanged { OnErr result (calls.new.items ≡ calls.old.items) }
+{
+    calls.push(call)?;
+    Ok(())
+}
+
+// Writes, and keeps the call.
+fn write(
+    alloc: Global,
+    calls: &mut Vec<DiskCall>,
+    old: &mut Vec<u8>,
+    at: usize,
+    octets: &[u8],
+) -> Result<(), AllocError>
+    requires { at ≤ length old.old.items }
+    ensures written { OnOk result (old.new.items ≡ written old.old.items at octets.now) }
+    ensures kept { OnOk result ((v : _) × (v.items ≡ octets.now) × (calls.new.items ≡ calls.old.items ++ Write at v ∷ [])) }
+    ensures unchanged { OnErr result (old.new.items ≡ old.old.items) }
+    ensures same_calls { OnErr result (calls.new.items ≡ calls.old.items) }
+{
+    let copy = octets.to_vec(alloc)?;
+    keep(calls, DiskCall::Write { at, octets: copy })?;
+    if overwrite(old, at, octets).is_err() {
+        let _ = calls.pop();
+        return Err(AllocError);
+    }
+    Ok(())
+}
+
+impl Disk for MemDisk {
+    ghost use Rattle.ts_disk.specs.Memory.{state_of, lawful_of};
+
+    ghost state = { state_of };
+
+    ghost lawful = { lawful_of };
+
+    fn read(&mut self, alloc: Global) -> Result<Vec<u8>, DiskFault> {
+        let octets = self.octets.to_vec(alloc)?;
+        if refuses(&mut self.made, self.fuse, self.fails_at) {
+            return Err(counted(&mut self.failures));
+        }
+        match keep(&mut self.calls, DiskCall::Read) {
+            Ok(()) => Ok(octets),
+            Err(_) => Err(counted(&mut self.failures)),
+        }
+    }
+
+    fn write_at(&mut self, at: usize, octets: &[u8]) -> Result<(), DiskFault> {
+        if octets.len() > MAX_LEN - at || refuses(&mut self.made, self.fuse, self.fails_at) {
+            return Err(counted(&mut self.failures));
+        }
+        match write(self.alloc, &mut self.calls, &mut self.octets, at, octets) {
+            Ok(()) => Ok(()),
+            Err(_) => Err(counted(&mut self.failures)),
+        }
+    }
+
+    fn sync(&mut self) -> Result<(), DiskFault> {
+        if refuses(&mut self.made, self.fuse, self.fails_at) {
+            return Err(counted(&mut self.failures));
+        }
+        match keep(&mut self.calls, DiskCall::Sync) {
+            Ok(()) => Ok(()),
+            Err(_) => Err(counted(&mut self.failures)),
+        }
+    }
+
+    fn failures(&self) -> u64 {
+        self.failures
+    }
+}

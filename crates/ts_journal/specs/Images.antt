@@ -1,0 +1,107 @@
+-- What an image of one disk, and a pair of images, stand for: a header, a live gate, blocks, and a closed gate.
+use Rattle.std.specs.Prelude.{◌≡◌, ◌≢◌, ◌⊎◌, ◌<◌, ◌≤◌, ◌^◌, ℕ, Bool, true, false, List, [], ◌∷◌, ◌++◌, length, map}
+use Rattle.std.specs.List.{flat_map, AllByRecursion}
+use Rattle.std.specs.Int.{to_be_bytes, w32, w64}
+use Rattle.ts_disk.specs.Disk.{State}
+use Rattle.ts_journal.specs.Gate.{Closed}
+
+-- whose journal it is, of how many nodes, and how often it was rewritten
+pub record Header : Type 0 where
+  pub node : ℕ
+  pub nodes : ℕ
+  pub generation : ℕ
+
+-- the 24 octets before the live gate
+abbrev pub head : Header → List ℕ
+head h = 0x54 ∷ 0x53 ∷ 0x52 ∷ 0x45 ∷ 0x43 ∷ 0 ∷ 0 ∷ 2 ∷ h.node ∷ h.nodes ∷ 0 ∷ 0 ∷ 0 ∷ 0 ∷ 0 ∷ 0 ∷ to_be_bytes w64 h.generation
+
+-- 1 to 9 nodes, and node among them
+pub record IsRight (h : Header) : Type 0 where
+  pub node_from : 1 ≤ h.node
+  pub node_to : h.node ≤ h.nodes
+  pub nodes_to : h.nodes ≤ 9
+  pub generation_to : h.generation < 2 ^ 64
+
+-- a body is not empty, and has at most 4,194,500 octets
+pub record IsBody (body : List ℕ) : Type 0 where
+  pub some : 1 ≤ length body
+  pub short : length body ≤ 4194500
+
+-- a gate, and the body behind it
+pub record Block : Type 0 where
+  pub gate : ℕ
+  pub body : List ℕ
+
+-- the gate, four octets of length, and the body
+abbrev pub block : Block → List ℕ
+block b = b.gate ∷ (to_be_bytes w32 (length b.body) ++ b.body)
+
+-- its gate is open, and its body has a length that a body may have
+pub record IsWhole (b : Block) : Type 0 where
+  pub is_open : b.gate ≢ 0
+  pub fits : IsBody b.body
+
+-- header, live gate and blocks
+abbrev pub front : Header → ℕ → List Block → List ℕ
+front h live blocks = head h ++ (live ∷ flat_map block blocks)
+
+-- Whole blocks of these bodies stand behind the live gate, and then a closed gate. What follows it has no meaning.
+pub record Stands (h : Header) (live : ℕ) (bodies : List (List ℕ)) (image : List ℕ) : Type 0 where
+  pub blocks : List Block
+  pub whole : AllByRecursion IsWhole blocks
+  pub are : map (λ b. b.body) blocks ≡ bodies
+  pub closed : Closed (front h live blocks) image
+
+-- its live gate is closed: nothing else of it is looked at
+abbrev pub IsShut : List ℕ → Type 0
+IsShut image = (octets : List ℕ) × (length octets ≡ 24) × Closed octets image
+
+-- it is live, of an earlier generation
+abbrev pub IsEarlier : ℕ → List ℕ → Type 0
+IsEarlier generation image = (h : Header) × (live : ℕ) × (rest : List ℕ) × IsRight h × (live ≢ 0) × (h.generation < generation) × (image ≡ head h ++ (live ∷ rest))
+
+-- what a disk that isn't in use holds
+abbrev pub Behind : ℕ → List ℕ → Type 0
+Behind generation image = IsShut image ⊎ IsEarlier generation image
+
+-- these octets, a closed live gate and a closed gate
+abbrev pub Begins : List ℕ → List ℕ → Type 0
+Begins octets image = (rest : List ℕ) × (image ≡ octets ++ (0 ∷ 0 ∷ rest))
+
+-- The first image is that of the disk in use: it is live, and the other is shut or of an earlier generation.
+pub record InUse (bodies : List (List ℕ)) (image other : List ℕ) : Type 0 where
+  pub header : Header
+  pub right : IsRight header
+  pub live : ℕ
+  pub is_live : live ≢ 0
+  pub stands : Stands header live bodies image
+  pub behind : Behind header.generation other
+
+-- the pair of images opens to these bodies
+abbrev pub Opens : List (List ℕ) → List ℕ → List ℕ → Type 0
+Opens bodies a b = InUse bodies a b ⊎ InUse bodies b a
+
+-- the pair opens to these bodies, from the disk that is in use: the second where the two are swapped
+abbrev pub OpensFrom : Bool → List (List ℕ) → List ℕ → List ℕ → Type 0
+OpensFrom true bodies a b = InUse bodies b a
+OpensFrom false bodies a b = InUse bodies a b
+
+-- the pair opens to the bodies before, or to those and the new one
+abbrev pub BeforeOrAfter : Bool → List (List ℕ) → List ℕ → List ℕ → List ℕ → Type 0
+BeforeOrAfter swapped bodies body a b = OpensFrom swapped bodies a b ⊎ OpensFrom swapped (bodies ++ body ∷ []) a b
+
+-- the pair opens to the bodies of one list or of another
+abbrev pub OneOrOther : List (List ℕ) → List (List ℕ) → List ℕ → List ℕ → Type 0
+OneOrOther bodies others a b = Opens bodies a b ⊎ Opens others a b
+
+-- At every moment since the disks were these, every pair of images is P.
+abbrev pub EveryPair : (List ℕ → List ℕ → Type 0) → State → State → State → State → Type 0
+EveryPair P a b new_a new_b = (ca cb : List ℕ) → new_a.left_since a.moment ca → new_b.left_since b.moment cb → P ca cb
+
+-- what follows the gate of a new block: its length, its body, and a closed gate
+abbrev pub entry : List ℕ → List ℕ
+entry body = to_be_bytes w32 (length body) ++ body ++ 0 ∷ []
+
+-- each pair of images that a crash now may leave is P
+abbrev pub AnyPair : (List ℕ → List ℕ → Type 0) → State → State → Type 0
+AnyPair P a b = (ca cb : List ℕ) → a.may_leave ca → b.may_leave cb → P ca cb

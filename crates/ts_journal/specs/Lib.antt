@@ -1,0 +1,4 @@
+pub mod Choice
+pub mod Gate
+pub mod Images
+pub mod Settled

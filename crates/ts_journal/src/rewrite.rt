@@ -1,0 +1,45 @@
+// The steps that rewrite a journal on its other disk.
+ghost use Rattle.std.specs.Prelude.{◌≡◌, ◌++◌, [], ◌∷◌, true, false, length, OnOk, IfErr};
+ghost use Rattle.ts_disk.specs.declared.fault.DiskFault.TheVariants.{Failed};
+ghost use Rattle.ts_disk.specs.Disk.{IsDurable, HasCause, EveryImage};
+ghost use Rattle.ts_journal.specs.Images.{IsShut, IsEarlier, Behind, Begins};
+
+use crate::durable::flush;
+use ts_disk::{Disk, DiskFault, put};
+
+const LIVE_GATE: usize = 24;
+
+// Closes the live gate of a disk of an earlier generation, and syncs. A closed gate is never written, as a torn
+// write could open it.
+pub(crate) fn shut<D: Disk>(disk: &mut D, is_live: bool, generation: u64) -> Result<(), DiskFault>
+    requires durable { IsDurable (D.state disk.old) }
+    requires earlier { is_live ≡ true → IsEarlier generation (D.state disk.old).read }
+    requires shut { is_live ≡ false → IsShut (D.state disk.old).read }
+    ensures durable { OnOk result (IsDurable (D.state disk.new)) }
+    ensures shut { OnOk result (IsShut (D.state disk.new).read) }
+    ensures moments { EveryImage (Behind generation) (D.state disk.old) (D.state disk.new) }
+    ensures fault { IfErr result (λ fault. fault ≡ Failed) }
+    ensures cause { HasCause (D.state disk.old) (D.state disk.new) result }
+{
+    if is_live {
+        put(disk, LIVE_GATE, &[0])
+    } else {
+        flush(disk)
+    }
+}
+
+// Writes the octets before the live gate of a shut disk, and a closed gate behind it.
+pub(crate) fn begin<D: Disk>(disk: &mut D, octets: &[u8]) -> Result<(), DiskFault>
+    requires durable { IsDurable (D.state disk.old) }
+    requires shut { IsShut (D.state disk.old).read }
+    requires length { length octets.now ≡ 24 }
+    ensures durable { OnOk result (IsDurable (D.state disk.new)) }
+    ensures begun { OnOk result (Begins octets.now (D.state disk.new).read) }
+    ensures moments { EveryImage IsShut (D.state disk.old) (D.state disk.new) }
+    ensures fault { IfErr result (λ fault. fault ≡ Failed) }
+    ensures cause { HasCause (D.state disk.old) (D.state disk.new) result }
+{
+    disk.write_at(0, octets)?;
+    disk.write_at(LIVE_GATE + 1, &[0])?;
+    disk.sync()
+}

@@ -1,0 +1,7 @@
+mod Laws
+mod Numbers
+mod Opened
+mod Records
+mod Reopened
+mod Spellings
+mod Walk

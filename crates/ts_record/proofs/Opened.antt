@@ -1,0 +1,144 @@
+-- A pair of images opens to one list of facts, and what can't be read is in none that opens.
+use Rattle.std.proofs.Common.{◌≡◌, ◌⊎◌, inl, inr, ⊎_elim, ◌+◌, ℕ, Bool, true, false, cond, List, [], ◌∷◌, ◌++◌, length, map, take, drop, get_or, Option, Some, refl, sym, ◌∙◌, ap, subst, arith, append_assoc, length-append}
+use Rattle.std.proofs.lemmas.List.{take_at, drop_at}
+use Rattle.std.specs.List.{flat_map, AllByRecursion}
+use Rattle.ts_journal.specs.Images.{Header, head, Block, block, IsWhole, IsBody, Stands, InUse, Opens}
+use Rattle.ts_journal.specs.Choice.{header_of_owner, IsLive, IsOther, Unchosen, LooksLike}
+use Rattle.ts_journal.specs.declared.choice.Owner.{Owner}
+use Rattle.ts_journal.specs.declared.choice.Look.{Look}
+use Rattle.ts_journal.specs.declared.choice.Look.TheVariants.{Short, Shut, Wrong, Right}
+use Rattle.ts_journal.specs.declared.journal.Stage.{Stage}
+use Rattle.ts_journal.specs.declared.journal.Stage.TheVariants.{Live, Closed, Begun, Copying}
+use Rattle.ts_journal.proofs.Choices.{live_not_shut, one_header, behind_live, long_live}
+use Rattle.ts_synod.specs.declared.message.Fact.{Fact}
+use Rattle.ts_record.specs.Facts.{AllFit, bodies_of, AreFacts}
+use Rattle.ts_record.specs.Blocks.{ReadTo, IsRead, IsFacts, Stops, no_gate, no_length, no_body, IsUnreadable}
+use Rattle.ts_record.proofs.Numbers.{one4}
+use Rattle.ts_record.proofs.Laws.{one_list}
+
+-- two blocks and what follows them
+record Alike (b c : Block) (t u : List ℕ) : Type 0 where
+  pub body : b.body ≡ c.body
+  pub rest : t ≡ u
+
+alike : (b c : Block) (t u : List ℕ) → IsBody b.body → IsBody c.body → block b ++ t ≡ block c ++ u → Alike b c t u
+alike b c t u x y is =
+    let n = one4 (length b.body) (length c.body) (b.body ++ t) (c.body ++ u) (omega (arith, x.short)) (omega (arith, y.short)) (ap (drop 1) is) in
+    let k = length b.body in
+    record {
+      body = sym (take_at b.body t k refl) ∙ ap (take k) n.rest ∙ take_at c.body u k (sym n.number);
+      rest = sym (drop_at b.body t k refl) ∙ ap (drop k) n.rest ∙ drop_at c.body u k (sym n.number);
+    }
+
+-- the bodies of blocks
+abbrev bodies_in : List Block → List (List ℕ)
+bodies_in blocks = map (λ (b : Block). b.body) blocks
+
+-- a whole block of facts begins here
+abbrev GoesOn : {C : Type 0} → (C → List ℕ) → List ℕ → Type 0
+GoesOn octets r = (c : Block) × (more : List ℕ) × IsWhole c × IsFacts octets c.body × (r ≡ block c ++ more)
+
+abbrev AllFacts : {C : Type 0} → (C → List ℕ) → List Block → Type 0
+AllFacts octets blocks = AllByRecursion (λ (b : Block). IsFacts octets b.body) blocks
+
+-- Whole blocks and a rest, against whole blocks and a closed gate: they are the same and the rest is that gate, or the rest
+-- goes on with a block.
+meet : {C : Type 0} (octets : C → List ℕ) (bs cs : List Block) (r s : List ℕ) → AllByRecursion IsWhole bs → AllByRecursion IsWhole cs → AllFacts octets cs
+    → flat_map block bs ++ r ≡ flat_map block cs ++ 0 ∷ s → ((bodies_in bs ≡ bodies_in cs) × (r ≡ 0 ∷ s)) ⊎ GoesOn octets r
+meet octets [] [] r s x y z is = inl (refl, is)
+meet octets [] (c ∷ cs) r s x y z is = inr (c, flat_map block cs ++ 0 ∷ s, y.0, z.0, is ∙ append_assoc (block c) (flat_map block cs) (0 ∷ s))
+meet octets (b ∷ bs) [] r s x y z is = absurd (x.0.is_open (ap (λ l. get_or l 0 0) is))
+meet octets (b ∷ bs) (c ∷ cs) r s x y z is =
+    let a = alike b c (flat_map block bs ++ r) (flat_map block cs ++ 0 ∷ s) x.0.fits y.0.fits (sym (append_assoc (block b) (flat_map block bs) r) ∙ is ∙ append_assoc (block c) (flat_map block cs) (0 ∷ s)) in
+    ⊎_elim (λ e. inl ((λ i. a.body i ∷ e.0 i), e.1)) (λ g. inr g) (meet octets bs cs r s x.1 y.1 z.1 a.rest)
+
+-- each body of facts is a list of facts
+all_facts : {C : Type 0} (octets : C → List ℕ) (cs : List Block) (groups : List (List (Fact C))) → bodies_of octets groups ≡ bodies_in cs → AllByRecursion (AllFit octets) groups → AllFacts octets cs
+all_facts octets [] groups is fit = tt
+all_facts octets (c ∷ cs) [] is fit = absurd (omega (arith, ap length is))
+all_facts octets (c ∷ cs) (g ∷ groups) is fit = ((g, fit.0, sym (ap (λ (l : List (List ℕ)). get_or l 0 []) is)), all_facts octets cs groups (ap (drop 1) is) fit.1)
+
+behind_gate : (h : Header) (live : ℕ) (bodies : List (List ℕ)) (image : List ℕ) (s : Stands h live bodies image) → drop 25 image ≡ flat_map block s.blocks ++ 0 ∷ s.closed.0
+behind_gate h live bodies image s = ap (drop 25) s.closed.1
+
+-- what is read of an image, against what stands on it
+met : {C : Type 0} (octets : C → List ℕ) (image : List ℕ) (facts others : List (Fact C)) (at : ℕ) (h : Header) (live : ℕ) (bodies : List (List ℕ)) → (read : ReadTo octets image facts at) → (s : Stands h live bodies image) → AreFacts octets bodies others
+    → ((bodies_in read.blocks ≡ bodies_in s.blocks) × (drop at image ≡ 0 ∷ s.closed.0)) ⊎ GoesOn octets (drop at image)
+met octets image facts others at h live bodies read s are =
+    meet octets read.blocks s.blocks (drop at image) s.closed.0 read.whole s.whole (all_facts octets s.blocks are.groups (are.spelled ∙ sym s.are) are.fit) (sym read.split ∙ behind_gate h live bodies image s)
+
+not_at_gate : {C : Type 0} (octets : C → List ℕ) (image rest : List ℕ) (from at : ℕ) → Stops octets image from at → drop from image ≡ 0 ∷ rest → ⊥
+not_at_gate octets image rest _ _ (no_gate p is) closed = absurd (omega (arith, ap length (sym is ∙ closed)))
+not_at_gate octets image rest _ _ (no_length p gate wide is none) closed = wide (ap (λ l. get_or l 0 0) (sym is ∙ closed))
+not_at_gate octets image rest _ _ (no_body p gate n wide fits is bad) closed = wide (ap (λ l. get_or l 0 0) (sym is ∙ closed))
+
+not_at_block : {C : Type 0} (octets : C → List ℕ) (image : List ℕ) (from at : ℕ) → Stops octets image from at → GoesOn octets (drop from image) → ⊥
+not_at_block octets image _ _ (no_gate p is) g = absurd (omega (arith, ap length (sym is ∙ g.4)))
+not_at_block octets image _ _ (no_length p gate wide is none) g =
+    none (length g.0.body) (g.0.body ++ g.1) (record { from = g.2.fits.some; to = g.2.fits.short }) (ap (drop 1) (sym is ∙ g.4))
+not_at_block octets image _ _ (no_body p gate n wide fits is bad) g =
+    let m = one4 n (length g.0.body) (drop (p + 5) image) (g.0.body ++ g.1) (omega (arith, fits.to)) (omega (arith, g.2.fits.short)) (ap (drop 1) (sym is ∙ g.4)) in
+    ⊎_elim (λ short. absurd (omega (arith, short, m.number, ap length m.rest, length-append g.0.body g.1)))
+    (λ wrong. wrong (subst (IsFacts octets) (sym (ap (take n) m.rest ∙ take_at g.0.body g.1 n (sym m.number))) g.3)) bad
+
+-- what can't be read is in no image on which facts stand
+pub not_unreadable : {C : Type 0} (octets : C → List ℕ) (image : List ℕ) (facts : List (Fact C)) (at : ℕ) (h : Header) (live : ℕ) (bodies : List (List ℕ)) → IsUnreadable octets image at → Stands h live bodies image → AreFacts octets bodies facts → ⊥
+not_unreadable octets image facts at h live bodies bad s are =
+    ⊎_elim (λ e. not_at_gate octets image s.closed.0 bad.1 at bad.3 e.1) (λ g. not_at_block octets image bad.1 at bad.3 g) (met octets image bad.0 facts bad.1 h live bodies bad.2 s are)
+
+module _ {C : Type 0} (octets : C → List ℕ) (parsed : List ℕ → Option C) (reads : (c : C) → parsed (octets c) ≡ Some c) where
+  one_grouping : (gs hs : List (List (Fact C))) → AllByRecursion (AllFit octets) gs → AllByRecursion (AllFit octets) hs → bodies_of octets gs ≡ bodies_of octets hs → gs ≡ hs
+  one_grouping [] [] x y is = refl
+  one_grouping [] (h ∷ hs) x y is = absurd (omega (arith, ap length is))
+  one_grouping (g ∷ gs) [] x y is = absurd (omega (arith, ap length is))
+  one_grouping (g ∷ gs) (h ∷ hs) x y is =
+      λ i. one_list octets parsed reads g h x.0 y.0 (ap (λ (l : List (List ℕ)). get_or l 0 []) is) i ∷ one_grouping gs hs x.1 y.1 (ap (drop 1) is) i
+
+  -- bodies hold one list of facts
+  pub one_meaning : (bodies others : List (List ℕ)) (facts more : List (Fact C)) → AreFacts octets bodies facts → AreFacts octets others more → bodies ≡ others → facts ≡ more
+  one_meaning bodies others facts more are too is =
+      sym are.joined ∙ ap (λ gs. flat_map (λ (group : List (Fact C)). group) gs) (one_grouping are.groups too.groups are.fit too.fit (are.spelled ∙ is ∙ sym too.spelled)) ∙ too.joined
+
+  -- what is read is what stands there
+  pub read_is : (image : List ℕ) (facts more : List (Fact C)) (end : ℕ) (h : Header) (live : ℕ) (bodies : List (List ℕ)) → IsRead octets image facts end → Stands h live bodies image → AreFacts octets bodies more → facts ≡ more
+  read_is image facts more end h live bodies read s are =
+      ⊎_elim (λ e. one_meaning (bodies_in read.0.blocks) bodies facts more read.0.are are (e.0 ∙ s.are))
+      (λ g. absurd (g.2.is_open (ap (λ l. get_or l 0 0) (sym g.4 ∙ read.1))))
+      (met octets image facts more end h live bodies read.0 s are)
+
+-- an image in use is live
+live_of : (bodies : List (List ℕ)) (image other : List ℕ) (u : InUse bodies image other) → IsLive u.header image
+live_of bodies image other u = record {
+  right = u.right;
+  live = u.live;
+  wide = u.is_live;
+  rest = flat_map block u.stands.blocks ++ 0 ∷ u.stands.closed.0;
+  is = u.stands.closed.1 ∙ append_assoc (head u.header) (u.live ∷ flat_map block u.stands.blocks) (0 ∷ u.stands.closed.0);
+}
+
+pub not_unchosen : (bodies : List (List ℕ)) (a b : List ℕ) → Unchosen a b → Opens bodies a b → ⊥
+not_unchosen bodies a b none (inl u) = none.first u.header (live_of bodies a b u) u.behind
+not_unchosen bodies a b none (inr u) = none.second u.header (live_of bodies b a u) u.behind
+
+-- the disk that isn't chosen isn't in use
+not_other : (stage : Stage) (k : Header) (bodies : List (List ℕ)) (image other : List ℕ) → IsLive k image → IsOther stage k.generation other → InUse bodies other image → ⊥
+not_other Live k bodies image other live earlier u =
+    let m : IsLive earlier.0 other = record { right = earlier.3; live = earlier.1; wide = earlier.4; rest = earlier.2; is = earlier.6 } in
+    absurd (omega (arith, earlier.5, behind_live k u.header.generation image live u.behind, ap (λ (x : Header). x.generation) (one_header u.header earlier.0 other (live_of bodies other image u) m)))
+not_other Closed k bodies image other live shut u = live_not_shut u.header other (live_of bodies other image u) shut
+not_other Begun k bodies image other live none u = none
+not_other Copying k bodies image other live none u = none
+
+-- the bodies stand on the disk that is chosen
+pub stands_chosen : (swapped : Bool) (owner : Owner) (stage : Stage) (bodies : List (List ℕ)) (a b : List ℕ) → IsLive (header_of_owner owner) (cond swapped b a) → IsOther stage owner.generation (cond swapped a b) → Opens bodies a b → (h : Header) × (live : ℕ) × Stands h live bodies (cond swapped b a)
+stands_chosen true owner stage bodies a b live other (inl u) = absurd (not_other stage (header_of_owner owner) bodies b a live other u)
+stands_chosen true owner stage bodies a b live other (inr u) = (u.header, u.live, u.stands)
+stands_chosen false owner stage bodies a b live other (inl u) = (u.header, u.live, u.stands)
+stands_chosen false owner stage bodies a b live other (inr u) = absurd (not_other stage (header_of_owner owner) bodies a b live other u)
+
+-- only an image that looks right is live
+pub not_live : (look : Look) (image : List ℕ) → LooksLike image look → ((owner : Owner) → look ≡ Right owner → ⊥) → (h : Header) → IsLive h image → ⊥
+not_live Short image short wrong h live = let n = long_live h image live in absurd (omega (arith, n, short))
+not_live Shut image shut wrong h live = live_not_shut h image live shut
+not_live Wrong image bad wrong h live = bad.1 h live
+not_live (Right owner) image right wrong h live = wrong owner refl

@@ -1,0 +1,85 @@
+-- A record after an open.
+use Rattle.std.proofs.Common.{◌≡◌, ◌⊎◌, inl, inr, ◌+◌, ℕ, cond, List, [], ◌∷◌, ◌++◌, map, drop, Option, Some, refl, sym, ◌∙◌, ap, subst, arith, append_assoc, length-append}
+use Rattle.std.specs.List.{flat_map}
+use Rattle.ts_disk.specs.Disk.{State, IsDurable, Call, Same}
+use Rattle.ts_journal.specs.Images.{head, Block, block}
+use Rattle.ts_journal.specs.Settled.{IsSpare, header_of}
+use Rattle.ts_journal.specs.Choice.{IsLive, IsOther, IsChosen}
+use Rattle.ts_journal.specs.declared.choice.Choice.{Choice}
+use Rattle.ts_journal.specs.declared.journal.Journal.{Journal}
+use Rattle.ts_journal.specs.declared.journal.Stage.{Stage}
+use Rattle.ts_journal.specs.declared.journal.Stage.TheVariants.{Live, Closed, Begun, Copying}
+use Rattle.ts_synod.specs.declared.message.Fact.{Fact}
+use Rattle.ts_record.specs.Facts.{OpensTo}
+use Rattle.ts_record.specs.Blocks.{IsRead}
+use Rattle.ts_record.specs.Kept.{Keeps}
+use Rattle.ts_record.specs.Opening.{IsRefused, IsFault}
+use Rattle.ts_record.specs.declared.fault.Fault.{Fault}
+use Rattle.ts_record.specs.declared.fault.Fault.TheVariants.{Memory, DiskFailed, Broken, NotFormatted, OldVersion, Damaged}
+use Rattle.ts_record.proofs.Opened.{read_is, not_unreadable, not_unchosen, stands_chosen}
+
+pub stays_durable : (old new : State) → IsDurable old → Call Same old new → new.read ≡ old.read → IsDurable new
+stays_durable old new durable call same c left = let from = call.images c left in sym from.2 ∙ durable from.0 from.1 ∙ sym same
+
+pub refused_fault : {C : Type 0} (octets : C → List ℕ) (old_a old_b new_a new_b : State) (a b : List ℕ) (fault : Fault) → a ≡ old_a.read → b ≡ old_b.read → IsRefused a b fault → IsFault octets old_a old_b new_a new_b fault
+refused_fault octets old_a old_b new_a new_b a b Memory a_is b_is refused = absurd refused
+refused_fault octets old_a old_b new_a new_b a b DiskFailed a_is b_is refused = absurd refused
+refused_fault octets old_a old_b new_a new_b a b Broken a_is b_is refused = absurd refused
+refused_fault octets old_a old_b new_a new_b a b NotFormatted a_is b_is refused = subst (λ x. IsRefused x old_b.read NotFormatted) a_is (subst (λ y. IsRefused a y NotFormatted) b_is refused)
+refused_fault octets old_a old_b new_a new_b a b OldVersion a_is b_is refused = subst (λ x. IsRefused x old_b.read OldVersion) a_is (subst (λ y. IsRefused a y OldVersion) b_is refused)
+refused_fault octets old_a old_b new_a new_b a b (Damaged at) a_is b_is refused = absurd refused
+
+spare_of : (stage : Stage) {D : Type 0} (state : D → State) (j : Journal D) → IsDurable (state j.spare) → IsOther stage j.generation (state j.spare).read → IsSpare stage (header_of j) [] j.copy_end (state j.spare)
+spare_of Live state j durable other = (durable, other)
+spare_of Closed state j durable other = (durable, other)
+spare_of Begun state j durable other = absurd other
+spare_of Copying state j durable other = absurd other
+
+-- what was read stands on the disk in use
+pub keeps_of : {D C : Type 0} (state : D → State) (octets : C → List ℕ) (j : Journal D) (facts : List (Fact C)) → IsLive (header_of j) (state j.current).read → IsOther j.stage j.generation (state j.spare).read
+    → IsDurable (state j.current) → IsDurable (state j.spare) → IsRead octets (state j.current).read facts j.end → Keeps state octets j facts
+keeps_of state octets j facts live other durable still read =
+    let h = header_of j in
+    let blocks = read.0.blocks in
+    let image = (state j.current).read in
+    let more = drop (j.end + 1) image in
+    let rest : live.rest ≡ flat_map block blocks ++ 0 ∷ more = sym (ap (drop 25) live.is) ∙ read.0.split ∙ ap (λ l. flat_map block blocks ++ l) read.1 in (
+      map (λ (b : Block). b.body) blocks,
+      [],
+      record {
+        right = live.right;
+        live = live.live;
+        is_live = live.wide;
+        journal = record {
+          durable = durable;
+          stands = record {
+            blocks = blocks;
+            whole = read.0.whole;
+            are = refl;
+            closed = (more, live.is ∙ ap (λ l. head h ++ (live.live ∷ l)) rest ∙ sym (append_assoc (head h) (live.live ∷ flat_map block blocks) (0 ∷ more)));
+          };
+          ends = omega (arith, read.0.ends, length-append (head h) (live.live ∷ flat_map block blocks));
+        };
+        spare = spare_of j.stage state j still other;
+      },
+      read.0.are,
+    )
+
+module _ {C : Type 0} (octets : C → List ℕ) (parsed : List ℕ → Option C) (reads : (c : C) → parsed (octets c) ≡ Some c) where
+  -- where the pair opens to facts, these are read
+  pub read_all : (choice : Choice) (a b : List ℕ) (facts others : List (Fact C)) (end : ℕ) → IsChosen choice a b → IsRead octets (cond choice.swapped b a) facts end → OpensTo octets others a b → facts ≡ others
+  read_all choice a b facts others end chosen read opens =
+      let s = stands_chosen choice.swapped choice.owner choice.stage opens.0 a b chosen.live chosen.other opens.1 in
+      read_is octets parsed reads (cond choice.swapped b a) facts others end s.0 s.1 opens.0 read s.2 opens.2
+
+-- where the pair opens to facts, no fault but those of memory and device comes
+pub no_fault : {C : Type 0} (octets : C → List ℕ) (old_a old_b new_a new_b : State) (fault : Fault) (facts : List (Fact C)) → IsFault octets old_a old_b new_a new_b fault → OpensTo octets facts old_a.read old_b.read → (fault ≡ Memory) ⊎ (fault ≡ DiskFailed)
+no_fault octets old_a old_b new_a new_b Memory facts is opens = inl refl
+no_fault octets old_a old_b new_a new_b DiskFailed facts is opens = inr refl
+no_fault octets old_a old_b new_a new_b Broken facts is opens = absurd is
+no_fault octets old_a old_b new_a new_b NotFormatted facts is opens = absurd (not_unchosen opens.0 old_a.read old_b.read is.0 opens.1)
+no_fault octets old_a old_b new_a new_b OldVersion facts is opens = absurd (not_unchosen opens.0 old_a.read old_b.read is.0 opens.1)
+no_fault octets old_a old_b new_a new_b (Damaged at) facts is opens =
+    let choice = is.0 in
+    let s = stands_chosen choice.swapped choice.owner choice.stage opens.0 old_a.read old_b.read is.1.live is.1.other opens.1 in
+    absurd (not_unreadable octets (cond choice.swapped old_b.read old_a.read) facts at s.0 s.1 opens.0 is.2 s.2 opens.2)

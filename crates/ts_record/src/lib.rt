@@ -1,0 +1,35 @@
+//! Facts that survive a crash at any moment: a record of what a node keeps, on two disks.
+//!
+//! ```text
+//! Record::<MemDisk, Command>::format(&mut a, &mut b, 1, 3)?;      // once: node 1 of 3
+//! let mut record = Record::open(alloc, a, b)?;                    // refused, it gives the disks back
+//! record.append(alloc, &[Fact::Used { round: 1 }])?;              // kept, all of them or none
+//! let facts = record.facts();
+//! let (a, b) = record.close();
+//! ```
+//!
+//! | Call | Clauses |
+//! |---|---|
+//! | `Record::format` | `first`, `second`: the octets; `opens`: each pair of images opens to no facts |
+//! | `Record::open` | `opens`: each pair of images opens to the facts; `only`: where what is read opens to facts, these are answered, or memory or a device failed; `fault`: where each fault comes from; `same` |
+//! | `Record::append` | `moments`: at every moment each pair of images opens to the facts before, or to those with all of the new ones; `kept`, `opens`; `memory`, `failed`, `broken`, `stays` |
+//! | `Record::facts`, `close` | the facts; the two disks |
+//! | `Codec` | a command's octets; one spelling, both ways |
+//!
+//! A pair of images opens to at most one list of facts (`only`). That a record is sound between two calls is the invariant of
+//! its type, and no call requires it.
+#![tactic(auto)]
+
+mod blocks;
+mod codec;
+mod fault;
+mod opening;
+mod reading;
+mod record;
+#[cfg(test)]
+mod tests;
+mod writing;
+
+pub use codec::Codec;
+pub use fault::Fault;
+pub use record::{Record, Refused};

@@ -1,0 +1,78 @@
+// A record is opened from what two disks hold.
+ghost use Rattle.std.specs.Prelude.{◌≡◌, ◌≢◌, ◌≤◌, ◌⊎◌, ◌++◌, ◌∷◌, [], ℕ, List, true, false, length, take, cond, IfOk, OnOk, IfErr};
+ghost use Rattle.ts_disk.specs.Disk.{IsDurable, DeviceFailed};
+ghost use Rattle.ts_journal.specs.Choice.{IsChosen, Unchosen};
+ghost use Rattle.ts_record.specs.declared.fault.Fault.TheVariants.{Memory, DiskFailed, NotFormatted, OldVersion, Damaged};
+ghost use Rattle.ts_record.specs.Blocks.{IsRead};
+ghost use Rattle.ts_record.specs.Opening.{BeginsOld, IsRefused, IsFault};
+ghost use Rattle.ts_record.specs.Record.{EitherFailed};
+
+use crate::blocks::{Contents, read_blocks};
+use crate::{Codec, Fault};
+use std::alloc::Global;
+use ts_disk::Disk;
+use ts_journal::{Choice, Look, choose, look_at};
+
+// The disk in use, and what stands on it.
+#[derive(Drop)]
+pub(crate) struct Found<C> {
+    pub choice: Choice,
+    pub contents: Contents<C>,
+}
+
+fn is_same(a: &[u8], b: &[u8]) -> bool
+    ensures equal { result ≡ true → a.now ≡ b.now }
+    ensures different { result ≡ false → a.now ≢ b.now }
+{
+    a == b
+}
+
+// Whether octets begin with those of a record of version 1.
+fn begins_old(octets: &[u8]) -> bool
+    ensures old { result ≡ true → BeginsOld octets.now }
+    ensures other { result ≡ false → BeginsOld octets.now → ⊥ }
+{
+    if octets.len() < 8 {
+        return false;
+    }
+    is_same(&octets[..8], &[0x54, 0x53, 0x52, 0x45, 0x43, 0, 0, 1])
+}
+
+// Why no disk is in use.
+fn refusal(a: &[u8], b: &[u8]) -> Fault
+    requires { Unchosen a.now b.now }
+    ensures { IsRefused a.now b.now result }
+{
+    let second = look_at(b);
+    if begins_old(a) && !matches!(second, Look::Right(_)) {
+        Fault::OldVersion
+    } else {
+        Fault::NotFormatted
+    }
+}
+
+// Syncs both disks and reads them: each octet once.
+pub(crate) fn opened<D: Disk, C: Codec>(
+    alloc: Global,
+    a: &mut D,
+    b: &mut D,
+) -> Result<Found<C>, Fault>
+    ensures durable_a { OnOk result (IsDurable (D.state a.new)) }
+    ensures durable_b { OnOk result (IsDurable (D.state b.new)) }
+    ensures same_a { (D.state a.new).read ≡ (D.state a.old).read }
+    ensures same_b { (D.state b.new).read ≡ (D.state b.old).read }
+    ensures chosen { IfOk result (λ found. IsChosen found.choice (D.state a.old).read (D.state b.old).read) }
+    ensures read { IfOk result (λ found. IsRead C.octets (cond found.choice.swapped (D.state b.old).read (D.state a.old).read)
+        found.contents.facts.items found.contents.end) }
+    ensures fault { IfErr result (λ fault. IsFault C.octets (D.state a.old) (D.state b.old) (D.state a.new) (D.state b.new) fault) }
+{
+    a.sync()?;
+    b.sync()?;
+    let first = a.read(alloc)?;
+    let second = b.read(alloc)?;
+    let Some(choice) = choose(&first, &second) else {
+        return Err(refusal(&first, &second));
+    };
+    let contents = read_blocks(alloc, if choice.swapped { &second } else { &first })?;
+    Ok(Found { choice, contents })
+}

@@ -1,0 +1,196 @@
+// Facts are read from a body.
+ghost use Rattle.std.specs.Prelude.{◌≡◌, ◌⊎◌, ◌≤◌, ◌<◌, ◌+◌, ◌^◌, ◌++◌, ◌∷◌, [], ℕ, List, length, drop, take, MatchOption, MatchResult, IfSome, IfOk, OnOk, Option, true, false};
+ghost use Rattle.std.specs.Int.{to_be_bytes, w32, w64};
+ghost use Rattle.ts_record.specs.Facts.{IsPosition, IsRound, IsBallot, IsBlob, blob, spelling, spellings, Fits, AllFit, Begins, FactOrNot};
+ghost use Rattle.ts_synod.specs.declared.message.Fact.{Fact};
+
+use crate::Codec;
+use std::alloc::{AllocError, Global};
+use ts_synod::Fact;
+
+pub(crate) fn u32_at(rest: &[u8]) -> Option<u32>
+    ensures found { MatchOption result (length rest.now < 4) (λ n. rest.now ≡ to_be_bytes w32 n ++ drop 4 rest.now) }
+    ensures range { IfSome result (λ n. n < 2 ^ 32) }
+{
+    if rest.len() < 4 {
+        return None;
+    }
+    Some(u32::from_be_bytes([rest[0], rest[1], rest[2], rest[3]]))
+}
+
+fn u64_at(rest: &[u8]) -> Option<u64>
+    ensures found { MatchOption result (length rest.now < 8) (λ n. rest.now ≡ to_be_bytes w64 n ++ drop 8 rest.now) }
+    ensures range { IfSome result (λ n. n < 2 ^ 64) }
+{
+    if rest.len() < 8 {
+        return None;
+    }
+    Some(u64::from_be_bytes([
+        rest[0], rest[1], rest[2], rest[3], rest[4], rest[5], rest[6], rest[7],
+    ]))
+}
+
+fn round_at(rest: &[u8]) -> Option<u32>
+    ensures { MatchOption result ((n : ℕ) (after : List ℕ) → IsRound n → rest.now ≡ to_be_bytes w32 n ++ after → ⊥)
+        (λ n. IsRound n × (rest.now ≡ to_be_bytes w32 n ++ drop 4 rest.now)) }
+{
+    let round = u32_at(rest)?;
+    if round < 1 {
+        return None;
+    }
+    Some(round)
+}
+
+fn position_at(rest: &[u8]) -> Option<u32>
+    ensures { MatchOption result ((n : ℕ) (after : List ℕ) → IsPosition n → rest.now ≡ to_be_bytes w32 n ++ after → ⊥)
+        (λ n. IsPosition n × (rest.now ≡ to_be_bytes w32 n ++ drop 4 rest.now)) }
+{
+    let position = u32_at(rest)?;
+    if position < 1 || 1_000_000 < position {
+        return None;
+    }
+    Some(position)
+}
+
+fn ballot_at(rest: &[u8]) -> Option<u64>
+    ensures { MatchOption result ((n : ℕ) (after : List ℕ) → IsBallot n → rest.now ≡ to_be_bytes w64 n ++ after → ⊥)
+        (λ n. IsBallot n × (rest.now ≡ to_be_bytes w64 n ++ drop 8 rest.now)) }
+{
+    let ballot = u64_at(rest)?;
+    if ballot < 16 || (1 << 36) <= ballot || ballot % 16 < 1 || 9 < ballot % 16 {
+        return None;
+    }
+    Some(ballot)
+}
+
+// The length of the blob that begins here.
+fn blob_at(rest: &[u8]) -> Option<usize>
+    ensures { MatchOption result ((octets after : List ℕ) → IsBlob octets → rest.now ≡ blob octets ++ after → ⊥)
+        (λ n. (n < 2 ^ 32) × (4 + n ≤ length rest.now) × (rest.now ≡ to_be_bytes w32 n ++ drop 4 rest.now)) }
+{
+    let size = u32_at(rest)? as usize;
+    if rest.len() - 4 < size {
+        return None;
+    }
+    Some(size)
+}
+
+// The command of a blob that begins here, and the length of both.
+fn command_at<C: Codec>(alloc: Global, rest: &[u8]) -> Result<Option<(C, usize)>, AllocError>
+    ensures { IfOk result (λ found. MatchOption found
+        ((command : C) (after : List ℕ) → IsBlob (C.octets command) → rest.now ≡ blob (C.octets command) ++ after → ⊥)
+        (λ read. IsBlob (C.octets read.0) × (read.1 ≤ length rest.now) × (4 ≤ read.1) × (rest.now ≡ blob (C.octets read.0) ++ drop read.1 rest.now))) }
+{
+    let Some(size) = blob_at(rest) else {
+        return Ok(None);
+    };
+    match C::read(alloc, &rest[4..4 + size])? {
+        Some(command) => Ok(Some((command, 4 + size))),
+        None => Ok(None),
+    }
+}
+
+fn used_at<C: Codec>(fields: &[u8]) -> Option<(Fact<C>, usize)>
+    ensures { FactOrNot C.octets 1 fields.now result }
+{
+    let round = round_at(fields)?;
+    Some((Fact::Used { round }, 5))
+}
+
+fn promised_at<C: Codec>(fields: &[u8]) -> Option<(Fact<C>, usize)>
+    ensures { FactOrNot C.octets 2 fields.now result }
+{
+    let Some(position) = position_at(fields) else {
+        return None;
+    };
+    let Some(ballot) = ballot_at(&fields[4..]) else {
+        return None;
+    };
+    Some((Fact::Promised { position, ballot }, 13))
+}
+
+// The ballot and the command that begin here, and the length of both.
+fn vote_at<C: Codec>(alloc: Global, rest: &[u8]) -> Result<Option<(u64, C, usize)>, AllocError>
+    ensures { IfOk result (λ found. MatchOption found
+        ((ballot : ℕ) (command : C) (after : List ℕ) → IsBallot ballot → IsBlob (C.octets command)
+        → rest.now ≡ to_be_bytes w64 ballot ++ blob (C.octets command) ++ after → ⊥)
+        (λ read. IsBallot read.0 × IsBlob (C.octets read.1) × (read.2 ≤ length rest.now) × (12 ≤ read.2)
+        × (rest.now ≡ to_be_bytes w64 read.0 ++ blob (C.octets read.1) ++ drop read.2 rest.now))) }
+{
+    let Some(ballot) = ballot_at(rest) else {
+        return Ok(None);
+    };
+    match command_at(alloc, &rest[8..])? {
+        Some((command, size)) => Ok(Some((ballot, command, 8 + size))),
+        None => Ok(None),
+    }
+}
+
+fn took_at<C: Codec>(alloc: Global, fields: &[u8]) -> Result<Option<(Fact<C>, usize)>, AllocError>
+    ensures { IfOk result (λ found. FactOrNot C.octets 3 fields.now found) }
+{
+    let Some(position) = position_at(fields) else {
+        return Ok(None);
+    };
+    match vote_at(alloc, &fields[4..])? {
+        Some((ballot, command, size)) => Ok(Some((
+            Fact::Took {
+                position,
+                ballot,
+                command,
+            },
+            5 + size,
+        ))),
+        None => Ok(None),
+    }
+}
+
+fn chosen_at<C: Codec>(alloc: Global, fields: &[u8]) -> Result<Option<(Fact<C>, usize)>, AllocError>
+    ensures { IfOk result (λ found. FactOrNot C.octets 4 fields.now found) }
+{
+    let Some(position) = position_at(fields) else {
+        return Ok(None);
+    };
+    match command_at(alloc, &fields[4..])? {
+        Some((command, size)) => Ok(Some((Fact::Chosen { position, command }, 5 + size))),
+        None => Ok(None),
+    }
+}
+
+// The fact that begins here, and the length of its octets.
+fn fact_at<C: Codec>(alloc: Global, rest: &[u8]) -> Result<Option<(Fact<C>, usize)>, AllocError>
+    ensures { IfOk result (λ found. Begins C.octets rest.now found) }
+{
+    let [kind, fields @ ..] = rest else {
+        return Ok(None);
+    };
+    match *kind {
+        1 => Ok(used_at(fields)),
+        2 => Ok(promised_at(fields)),
+        3 => took_at(alloc, fields),
+        4 => chosen_at(alloc, fields),
+        _ => Ok(None),
+    }
+}
+
+/// Reads the facts of a whole body behind those that are there. False where the body is not a list of facts;
+/// then what is there behind those has no meaning.
+pub(crate) fn read_facts<C: Codec>(
+    alloc: Global,
+    body: &[u8],
+    facts: &mut Vec<Fact<C>>,
+) -> Result<bool, AllocError>
+    ensures found { IfOk result (λ found. found ≡ true → (more : List (Fact C)) × AllFit C.octets more
+        × (body.now ≡ spellings C.octets more) × (facts.new.items ≡ facts.old.items ++ more)) }
+    ensures none { IfOk result (λ found. found ≡ false → (more : List (Fact C)) → AllFit C.octets more → body.now ≡ spellings C.octets more → ⊥) }
+{
+    let mut rest = body;
+    while !rest.is_empty() {
+        let Some((fact, size)) = fact_at(alloc, rest)? else {
+            return Ok(false);
+        };
+        facts.push(fact)?;
+        rest = &rest[size..];
+    }
+    Ok(true)
+}

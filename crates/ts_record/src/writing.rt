@@ -1,0 +1,135 @@
+// Facts are written as a body.
+ghost use Rattle.std.specs.Prelude.{◌≡◌, ◌≤◌, ◌+◌, ◌^◌, ◌<◌, ◌++◌, length, IfOk, OnOk, ◌∷◌, vec_len, vec_capacity};
+ghost use Rattle.std.specs.Int.{to_be_bytes, w32};
+ghost use Rattle.ts_journal.specs.Images.{entry};
+ghost use Rattle.ts_record.specs.Facts.{blob, spelling, spellings};
+
+use crate::Codec;
+use std::alloc::{AllocError, Global};
+use ts_synod::Fact;
+
+// A copy of a fact.
+fn copied<C: Codec>(alloc: Global, fact: &Fact<C>) -> Result<Fact<C>, AllocError>
+    ensures { IfOk result (λ copy. copy ≡ fact.now) }
+{
+    Ok(match fact {
+        Fact::Used { round } => Fact::Used { round: *round },
+        Fact::Promised { position, ballot } => Fact::Promised {
+            position: *position,
+            ballot: *ballot,
+        },
+        Fact::Took {
+            position,
+            ballot,
+            command,
+        } => Fact::Took {
+            position: *position,
+            ballot: *ballot,
+            command: command.try_copy(alloc)?,
+        },
+        Fact::Chosen { position, command } => Fact::Chosen {
+            position: *position,
+            command: command.try_copy(alloc)?,
+        },
+    })
+}
+
+// Copies of facts.
+pub(crate) fn copies<C: Codec>(alloc: Global, facts: &[Fact<C>]) -> Result<Vec<Fact<C>>, AllocError>
+    ensures { IfOk result (λ copies. copies.items ≡ facts.now) }
+{
+    let mut all = Vec::new(alloc);
+    for fact in facts {
+        all.push(copied(alloc, fact)?)?;
+    }
+    Ok(all)
+}
+
+// Moves facts behind others, for which there is room.
+pub(crate) fn move_behind<C: Codec>(facts: &mut Vec<Fact<C>>, more: &mut Vec<Fact<C>>)
+    requires { vec_len facts.old + vec_len more.old ≤ vec_capacity facts.old }
+    ensures { facts.new.items ≡ facts.old.items ++ more.old.items }
+{
+    let moved = facts.append(more);
+    prove!(moved.is_ok());
+}
+
+fn push_blob(out: &mut Vec<u8>, octets: &[u8]) -> Result<(), AllocError>
+    requires { length octets.now < 2 ^ 32 }
+    ensures { OnOk result (out.new.items ≡ out.old.items ++ blob octets.now) }
+{
+    out.extend_from_slice(&(octets.len() as u32).to_be_bytes())?;
+    out.extend_from_slice(octets)?;
+    Ok(())
+}
+
+fn push_command<C: Codec>(alloc: Global, out: &mut Vec<u8>, command: &C) -> Result<(), AllocError>
+    requires { length (C.octets command.now) < 2 ^ 32 }
+    ensures { OnOk result (out.new.items ≡ out.old.items ++ blob (C.octets command.now)) }
+{
+    let mut octets = Vec::new(alloc);
+    command.write(&mut octets)?;
+    push_blob(out, &octets)
+}
+
+fn push_kind(out: &mut Vec<u8>, kind: u8, number: u32) -> Result<(), AllocError>
+    ensures { OnOk result (out.new.items ≡ out.old.items ++ kind ∷ to_be_bytes w32 number) }
+{
+    out.push(kind)?;
+    out.extend_from_slice(&number.to_be_bytes())?;
+    Ok(())
+}
+
+fn push_spelling<C: Codec>(
+    alloc: Global,
+    out: &mut Vec<u8>,
+    fact: &Fact<C>,
+) -> Result<(), AllocError>
+    requires { length (spelling C.octets fact.now) < 2 ^ 32 }
+    ensures { OnOk result (out.new.items ≡ out.old.items ++ spelling C.octets fact.now) }
+{
+    match fact {
+        Fact::Used { round } => push_kind(out, 1, *round)?,
+        Fact::Promised { position, ballot } => {
+            push_kind(out, 2, *position)?;
+            out.extend_from_slice(&ballot.to_be_bytes())?;
+        }
+        Fact::Took {
+            position,
+            ballot,
+            command,
+        } => {
+            push_kind(out, 3, *position)?;
+            out.extend_from_slice(&ballot.to_be_bytes())?;
+            push_command(alloc, out, command)?;
+        }
+        Fact::Chosen { position, command } => {
+            push_kind(out, 4, *position)?;
+            push_command(alloc, out, command)?;
+        }
+    }
+    Ok(())
+}
+
+fn spelled<C: Codec>(alloc: Global, facts: &[Fact<C>]) -> Result<Vec<u8>, AllocError>
+    requires { length (spellings C.octets facts.now) < 2 ^ 32 }
+    ensures { IfOk result (λ octets. octets.items ≡ spellings C.octets facts.now) }
+{
+    let mut octets = Vec::new(alloc);
+    for fact in facts {
+        push_spelling(alloc, &mut octets, fact)?;
+    }
+    Ok(octets)
+}
+
+// What stands behind the gate of a body of these facts.
+pub(crate) fn entry_of<C: Codec>(alloc: Global, facts: &[Fact<C>]) -> Result<Vec<u8>, AllocError>
+    requires { length (spellings C.octets facts.now) ≤ 4194500 }
+    ensures { IfOk result (λ octets. octets.items ≡ entry (spellings C.octets facts.now)) }
+{
+    let body = spelled(alloc, facts)?;
+    let mut out = Vec::new(alloc);
+    push_blob(&mut out, &body)?;
+    out.push(0)?;
+    Ok(out)
+}
