@@ -1,6 +1,6 @@
 //! The proposer and its steps.
 
-ghost use Rattle.std.specs.Prelude.{◌≡◌, ◌<◌, ◌≤◌, ◌++◌, ◌∷◌, [], ◌^◌, List, IfOk, OnOk, is_some, true, false, Some, None, max};
+ghost use Rattle.std.specs.Prelude.{◌≡◌, ◌<◌, ◌≤◌, ◌++◌, ◌∷◌, [], List, IfOk, OnOk, is_some, true, false, Some, None, max};
 ghost use Rattle.std.specs.Ordering.{nat_cmp};
 ghost use Rattle.std.specs.BTreeMap.{get};
 ghost use Rattle.ts_synod.specs.declared.message.Fact.{Fact};
@@ -17,7 +17,7 @@ use std::collections::BTreeMap;
 use ts_synod::{Ballot, Body, Command, Fact, Message, Vote, ballot_of, broadcast, put_at};
 
 /// The last round of a node.
-const LAST_ROUND: u32 = 4_294_967_295;
+const LAST_ROUND: u64 = 4_294_967_295;
 
 /// A round of this node: it collects promises, or it has sent its Accept.
 #[derive(Drop, Clone, Copy)]
@@ -31,7 +31,7 @@ struct Round {
 #[derive(Drop)]
 struct State<C> {
     used: u32,
-    seen: u32,
+    seen: u64,
     wanted: Option<C>,
     round: Option<Round>,
 }
@@ -118,13 +118,14 @@ impl<C: Command> Proposer<C> {
     }
 
     /// The greatest round used or seen.
-    fn greatest_round(&self) -> u32
+    fn greatest_round(&self) -> u64
         ensures { result ≡ greatest_round (used_of self.now) (state_of self.now) }
     {
-        if self.state.used < self.state.seen {
+        let used = self.state.used as u64;
+        if used < self.state.seen {
             self.state.seen
         } else {
-            self.state.used
+            used
         }
     }
 
@@ -135,7 +136,7 @@ impl<C: Command> Proposer<C> {
         ensures step { IfOk result (λ step. Makes self.now step (begin_round (config_of self.now) (used_of self.now) (state_of self.now) position command)) }
         ensures latest { IfOk result (λ step. IsLatest self.now step) }
     {
-        let number = self.greatest_round() + 1;
+        let number = (self.greatest_round() + 1) as u32;
         let mut facts = Vec::new(self.alloc);
         facts.push(Fact::Used { round: number })?;
         let body = Body::Prepare {
@@ -224,13 +225,12 @@ impl<C: Command> Proposer<C> {
         ballot: Ballot,
         promised: Ballot,
     ) -> Result<Step<C>, AllocError>
-        requires { promised < 2 ^ 36 }
         ensures step { IfOk result (λ step. Makes self.now step (on_busy (config_of self.now) (state_of self.now) position ballot promised)) }
         ensures latest { IfOk result (λ step. IsLatest self.now step) }
     {
         if let Some(round) = self.state.round {
             if position == round.position && ballot == ballot_of(self.me, round.number) {
-                let seen = (promised / 16) as u32;
+                let seen = promised / 16;
                 let next = State {
                     used: self.state.used,
                     seen: if self.state.seen < seen {
