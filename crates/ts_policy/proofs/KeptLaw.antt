@@ -124,7 +124,7 @@ choice : (b : Bool) (A A' B B' : Type 0) → (A ↔ A') → (B ↔ B') → Match
 choice true A A' B B' f g = f
 choice false A A' B B' f g = g
 
--- D10 by the depth
+-- the accepted policies, by the layers
 pub accepted_is : (cs : List CertPolicies) (l : Layer) (ls : List Layer) (ws : Layer) (alive user : List Label) → Stand cs false (l ∷ ls) ws → ((p : Label) → has alive p ≡ has_label l p) → (p : Label) →
     In p (chosen (firsts (l ∷ ls) alive) (has_label l any_policy) user) ↔ IsAccepted (count cs) (InT cs) user p
 accepted_is cs l ls ws alive user s h p =

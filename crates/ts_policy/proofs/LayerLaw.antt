@@ -365,7 +365,7 @@ firsts_complete (l ∷ ls) alive p k (r ∷ v) (q ∷ w) apart h i e =
     let j = In-map (λ x. x.1) (q, end_of w) _ (In-filter (λ x. has alive x.0) (q, end_of w) l h.0 (In-has q alive i)) in
     In-append_right p (tops l alive) _ (firsts_complete ls (above_alive l alive) p k v w apart h.1 j (ap below e))
 
--- what the layers say of D10's two sets
+-- what the layers say of the accepted policies
 pub firsts_are : (T : List Label → Type 0) (l : Layer) (ls : List Layer) → Holds T (l ∷ ls) → (alive : List Label) → ((p : Label) → has alive p ≡ has_label l p) → (p : Label) → In p (firsts (l ∷ ls) alive) ↔ IsFirstOf T p
 firsts_are T l ls holds alive h p = (
   λ i. let r = firsts_sound (l ∷ ls) holds.grounded alive p i in (r.0, (holds.walks r.0).0 r.1, r.3),
