@@ -11,7 +11,6 @@ use Rattle.ts_make.specs.declared.fault.MakeFault.TheVariants.{TooLong, Unreadab
 use Rattle.ts_cert.specs.Reading.{certificate_of}
 use Rattle.ts_make.specs.Making.{AnswersMade}
 use Rattle.trustd.specs.declared.cert_line.CertWords.{CertWords}
-use Rattle.trustd.specs.declared.check_line.CheckWords.{CheckWords}
 use Rattle.trustd.specs.declared.script.LineFault.{LineFault}
 use Rattle.trustd.specs.declared.script.LineFault.TheVariants.{Unknown, Form, Name, Limit, Memory}
 use Rattle.trustd.specs.Words.{IsName, IsNumber, IsHex, IsDn}
@@ -19,7 +18,7 @@ use Rattle.trustd.specs.Parts.{part_in}
 use Rattle.trustd.specs.ExtensionWords.{AreParts}
 use Rattle.trustd.specs.Known.{Entry}
 use Rattle.trustd.specs.CertLine.{cert_line, extension_words, IsMade, IsSaid, IsCertLine, IsUnreadable, RefusesWords, RefusesCert}
-use Rattle.trustd.specs.CheckLine.{check_line, IsCheckSaid, RefusesCheck, names_of}
+use Rattle.trustd.specs.CheckLine.{IsVerdictText, RefusesCheck}
 use Rattle.trustd.specs.Says.{Answers, check_kind, kind_of}
 
 -- two lists of words in the places of a `cert` line say the same
@@ -58,19 +57,9 @@ words_refused known line c Limit is refused = (c, is, refused is.1)
 words_refused known line c Memory is refused = tt
 words_refused known line c Unknown is refused = refused is.1
 
--- the times of two `check` lines
-pub same_time : (v w : CheckWords) → check_line v ≡ check_line w → v.time.now ≡ w.time.now
-unfolding check_line
-same_time v w same = cc
-
--- and their names
-pub same_names : (v w : CheckWords) → check_line v ≡ check_line w → names_of v ≡ names_of w
-unfolding check_line
-same_names v w same = cc
-
 -- what a `check` line is answered
 pub check_answered : (known : List Entry) (line : List ℕ) (r : Result (String Global) LineFault) → kind_of line ≡ check_kind
-    → IfOk r (λ text. IsCheckSaid known line (string_bytes text)) → IfErr r (RefusesCheck known line) → Answers known line r known
+    → IfOk r (λ text. IsVerdictText (string_bytes text)) → IfErr r RefusesCheck → Answers known line r known
 check_answered known line (Ok text) kind said refused = rw kind (said, refl)
 check_answered known line (Err fault) kind said refused = rw kind (refused, refl)
 

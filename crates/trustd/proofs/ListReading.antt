@@ -12,7 +12,7 @@ use Rattle.trustd.specs.declared.list_words.ListKeyword.{ListKeyword}
 use Rattle.trustd.specs.declared.list_words.ListKeyword.TheVariants as keyword
 use Rattle.trustd.specs.Words.{IsNumber}
 use Rattle.trustd.specs.ExtensionWords.{IsText, IsDotted, IsNumbers}
-use Rattle.trustd.specs.ListWords.{ListPart, revoked, numbered, some_reasons, at_uri, critical_unknown, list_keyword_text, IsReason, IsEntry, SaysPart, SaysList, IsListWord, AreListWords, Fields, Gather, AreFields}
+use Rattle.trustd.specs.ListWords.{ListPart, revoked, numbered, based, some_reasons, at_uri, critical_unknown, list_keyword_text, IsReason, IsEntry, SaysPart, SaysList, IsListWord, AreListWords, Fields, Gather, AreFields}
 use Rattle.trustd.proofs.OneParts.{one_number, one_numbers, one_text, one_oid}
 
 append_cancel : (xs v w : List ℕ) → xs ++ v ≡ xs ++ w → v ≡ w
@@ -29,14 +29,16 @@ abbrev keyword_from : ℕ → Option ListKeyword
 keyword_from n =
     if n == 101 then Some keyword.Entry
     else (if n == 110 then Some keyword.Number
+    else (if n == 98 then Some keyword.Base
     else (if n == 114 then Some keyword.Reasons
     else (if n == 117 then Some keyword.Uri
     else (if n == 99 then Some keyword.Critical
-    else None))))
+    else None)))))
 
 begins : (k : ListKeyword) (v : List ℕ) → keyword_from (get_or (list_keyword_text k ++ v) 0 0) ≡ Some k
 begins keyword.Entry v = refl
 begins keyword.Number v = refl
+begins keyword.Base v = refl
 begins keyword.Reasons v = refl
 begins keyword.Uri v = refl
 begins keyword.Critical v = refl
@@ -133,6 +135,7 @@ one_value Is part value p q one is other = let same = one is.0 other.0 is.1 othe
 one_list_value : (k : ListKeyword) (value : List ℕ) (p q : ListPart) → SaysList k value p → SaysList k value q → p ≡ q
 one_list_value keyword.Entry value p q is other = one_value IsEntry revoked value p q (one_entry value) is other
 one_list_value keyword.Number value p q is other = one_value IsNumber numbered value p q (one_number value) is other
+one_list_value keyword.Base value p q is other = one_value IsNumber based value p q (one_number value) is other
 one_list_value keyword.Reasons value p q is other = one_value IsNumbers some_reasons value p q (one_numbers value) is other
 one_list_value keyword.Uri value p q is other = one_value IsText at_uri value p q (one_text value) is other
 one_list_value keyword.Critical value p q is other = one_value IsDotted critical_unknown value p q (one_oid value) is other
@@ -153,8 +156,8 @@ one_of (Some x) (Some y) e = cc
 one_of None (Some y) e = absurd cc
 one_of (Some x) None e = absurd cc
 
-same_fields : (f g : Fields) → f.entries ≡ g.entries → f.number ≡ g.number → f.reasons ≡ g.reasons → f.uris ≡ g.uris → f.critical ≡ g.critical → f ≡ g
-same_fields f g entries number reasons uris critical = rw (entries, number, reasons, uris, critical) refl
+same_fields : (f g : Fields) → f.entries ≡ g.entries → f.number ≡ g.number → f.base ≡ g.base → f.reasons ≡ g.reasons → f.uris ≡ g.uris → f.critical ≡ g.critical → f ≡ g
+same_fields f g entries number base reasons uris critical = rw (entries, number, base, reasons, uris, critical) refl
 
 -- and the fields in which it gathers are one
 pub one_fields : (words : List (List ℕ)) (f g : Fields) → AreFields words f → AreFields words g → f ≡ g
@@ -162,6 +165,7 @@ one_fields words f g is other =
     let parts = one_list_words words is.parts other.parts is.said other.said in
     let gather = subst (λ (ps : List ListPart). Gather ps f) parts is.gather in
     same_fields f g (gather.entries ∙ sym other.gather.entries) (one_of f.number g.number (gather.number ∙ sym other.gather.number))
+    (one_of f.base g.base (gather.base ∙ sym other.gather.base))
     (gather.reasons ∙ sym other.gather.reasons) (gather.uris ∙ sym other.gather.uris) (gather.critical ∙ sym other.gather.critical)
 
 -- words say the parts that were read of the first ones, and those that the words say that are left

@@ -67,7 +67,7 @@ refuses_list known c Memory refused none = tt
 refuses_list known c Unknown refused none = refused
 
 -- what was made is too long, can't be read, or is returned
-pub list_long : (r : Result (Vec ℕ Global) MakeFault) (fault : MakeFault) (octets : List ℕ) → AnswersList IsTaken r octets → r ≡ Err fault → fault ≡ TooLong → 1048576 < length octets
+pub list_long : (r : Result (Vec ℕ Global) MakeFault) (fault : MakeFault) (octets : List ℕ) → AnswersList IsTaken r octets → r ≡ Err fault → fault ≡ TooLong → 4194304 < length octets
 list_long r fault octets answers is long =
     let P : Result (Vec ℕ Global) MakeFault → Type 0 = λ x. AnswersList IsTaken x octets in
     subst P (is ∙ ap Err long) answers
@@ -79,11 +79,11 @@ list_unreadable r fault why octets answers is unreadable =
     let found = subst P (is ∙ ap Err unreadable) answers in
     (found.0, why, found.1)
 
-pub long_list : (octets : List ℕ) → 1048576 < length octets → ¬ (IsNoList octets)
+pub long_list : (octets : List ℕ) → 4194304 < length octets → ¬ (IsNoList octets)
 long_list octets long is = let short = is.0 in omega arith
 
 taken_list : (octets : List ℕ) → IsTaken (crl_of octets) → ¬ (IsNoList octets)
-taken_list octets taken is = let critical = subst (λ (r : Result CertificateList ListFault). IsTaken r) is.2 taken in absurd (cc (critical.1))
+taken_list octets taken is = subst (λ (r : Result CertificateList ListFault). IsTaken r) is.2 taken
 
 pub list_stands : (r : Result (Vec ℕ Global) MakeFault) (v : Vec ℕ Global) (octets : List ℕ) → AnswersList IsTaken r octets → r ≡ Ok v → ¬ (IsNoList octets)
 list_stands r v octets answers is =
@@ -109,7 +109,7 @@ one_list_made c octets others is also =
     let fields = one_fields (list_words c) (fields_of t) (fields_of u) said.fields again.fields in
     let same = made_list-same is.2 is.3 t u (one_dn c.issuer.now t.issuer.now u.issuer.now said.issuer again.issuer) from to
     (one_hex c.signer.now t.signer.now u.signer.now said.signer again.signer)
-    (ap (λ (f : Fields). f.entries) fields) (ap (λ (f : Fields). f.number) fields) (ap (λ (f : Fields). f.reasons) fields)
+    (ap (λ (f : Fields). f.entries) fields) (ap (λ (f : Fields). f.number) fields) (ap (λ (f : Fields). f.base) fields) (ap (λ (f : Fields). f.reasons) fields)
     (ap (λ (f : Fields). f.uris) fields) (ap (λ (f : Fields). f.critical) fields) in
     is.6 ∙ (list_same is.2 is.3 also.2 also.3 t u this next same ∙ sym also.6)
 

@@ -1,28 +1,18 @@
 -- A line is answered, or refused with one word.
 use Rattle.std.proofs.Common.{◌≡◌, ◌≢◌, ◌∙◌, refl, sym, ap, subst, ℕ, List, None, length, inl, inr, arith}
 use Rattle.trustd.specs.declared.cert_line.CertWords.{CertWords}
-use Rattle.trustd.specs.declared.check_line.CheckWords.{CheckWords}
 use Rattle.trustd.specs.declared.script.LineFault.{LineFault}
 use Rattle.trustd.specs.declared.script.LineFault.TheVariants.{Unknown, Form, Name, Limit, Memory}
 use Rattle.trustd.specs.Known.{Entry, named, certificate_named}
 use Rattle.trustd.specs.CertLine.{cert_line, IsCertLine, IsMade, IsCertSaid, RefusesCert}
-use Rattle.trustd.specs.CheckLine.{check_line, others_of, names_of, AreKnown, IsCheckSaid, HasExtensions, RefusesCheck}
 use Rattle.trustd.specs.Says.{Kind, skipped, cert_kind, crl_kind, check_kind, unknown_kind, SaysAs, RefusesAs}
-use Rattle.trustd.proofs.Answering.{made_again, same_names, long_stands, read_stands}
+use Rattle.trustd.proofs.Answering.{made_again, long_stands, read_stands}
 use Rattle.trustd.proofs.OneCertificate.{one_made}
 use Rattle.trustd.proofs.OneList.{crl_answered, crl_refused}
 
 same_name : (v w : CertWords) → cert_line v ≡ cert_line w → v.name.now ≡ w.name.now
 unfolding cert_line
 same_name v w same = cc
-
-same_target : (v w : CheckWords) → check_line v ≡ check_line w → v.target.now ≡ w.target.now
-unfolding check_line
-same_target v w same = cc
-
-same_others : (v w : CheckWords) → check_line v ≡ check_line w → others_of v ≡ others_of w
-unfolding check_line
-same_others v w same = cc
 
 free_again : (known : List Entry) (v w : CertWords) → cert_line v ≡ cert_line w → named known v.name.now ≡ None → named known w.name.now ≡ None
 free_again known v w same free = subst (λ (name : List ℕ). named known name ≡ None) (same_name v w same) free
@@ -60,60 +50,21 @@ cert_refused known line Limit Limit r s some more = refl
 cert_refused known line Limit Memory r s some more = absurd (more refl)
 cert_refused known line Limit Unknown r s some more = absurd s
 
-known_again : (known : List Entry) (v w : CheckWords) → check_line v ≡ check_line w → AreKnown known (names_of v) → AreKnown known (names_of w)
-known_again known v w same are = subst (AreKnown known) (same_names v w same) are
-
-check_answered : (known : List Entry) (line text : List ℕ) (fault : LineFault) → IsCheckSaid known line text → RefusesCheck known line fault → fault ≡ Memory
-check_answered known line text Form said refused = absurd (refused said.0 said.1 said.4)
-check_answered known line text Name said refused =
-    let others = subst (AreKnown known) (sym said.5) tt in
-    let are : AreKnown known (names_of said.0) = (λ none. cc (sym said.6 ∙ none), (λ none. cc (sym said.7 ∙ none), others)) in
-    absurd (refused.3 (known_again known said.0 refused.0 (sym said.4.words ∙ refused.2.words) are))
-check_answered known line text Limit said refused = absurd (elim refused.4 [
-  | inl more ↦ more (same_others refused.0 said.0 (sym refused.2.words ∙ said.4.words) ∙ said.5)
-  | inr beyond ↦
-      let target : certificate_named known refused.0.target.now ≡ certificate_named known said.0.target.now = ap (certificate_named known) (same_target refused.0 said.0 (sym refused.2.words ∙ said.4.words)) in
-      let one : beyond.0 ≡ said.3 = let e = sym beyond.1 ∙ (target ∙ said.7) in cc in
-      said.8 (subst HasExtensions one beyond.2)
-])
-check_answered known line text Memory said refused = refl
-check_answered known line text Unknown said refused = absurd refused
-
-check_refused : (known : List Entry) (line : List ℕ) (fault other : LineFault) → RefusesCheck known line fault → RefusesCheck known line other
-    → fault ≢ Memory → other ≢ Memory → fault ≡ other
-check_refused known line Memory other r s some more = absurd (some refl)
-check_refused known line Unknown other r s some more = absurd r
-check_refused known line Form Form r s some more = refl
-check_refused known line Form Name r s some more = absurd (r s.0 s.1 s.2)
-check_refused known line Form Limit r s some more = absurd (r s.0 s.1 s.2)
-check_refused known line Form Memory r s some more = absurd (more refl)
-check_refused known line Form Unknown r s some more = absurd s
-check_refused known line Name Form r s some more = absurd (s r.0 r.1 r.2)
-check_refused known line Name Name r s some more = refl
-check_refused known line Name Limit r s some more = absurd (r.3 (known_again known s.0 r.0 (sym s.2.words ∙ r.2.words) s.3))
-check_refused known line Name Memory r s some more = absurd (more refl)
-check_refused known line Name Unknown r s some more = absurd s
-check_refused known line Limit Form r s some more = absurd (s r.0 r.1 r.2)
-check_refused known line Limit Name r s some more = absurd (s.3 (known_again known r.0 s.0 (sym r.2.words ∙ s.2.words) r.3))
-check_refused known line Limit Limit r s some more = refl
-check_refused known line Limit Memory r s some more = absurd (more refl)
-check_refused known line Limit Unknown r s some more = absurd s
-
 -- by the kinds of lines
-pub answered_as : (kind : Kind) (known after : List Entry) (line text : List ℕ) (fault : LineFault) → SaysAs kind known line text after
+pub answered_as : (kind : Kind) (known after : List Entry) (line text : List ℕ) (fault : LineFault) → kind ≢ check_kind → SaysAs kind known line text after
     → RefusesAs kind known line fault → fault ≡ Memory
-answered_as skipped known after line text fault says refuses = refuses
-answered_as cert_kind known after line text fault says refuses = cert_answered known after line text fault says refuses
-answered_as crl_kind known after line text fault says refuses = crl_answered known after line text fault says refuses
-answered_as check_kind known after line text fault says refuses = check_answered known line text fault says.0 refuses
-answered_as unknown_kind known after line text fault says refuses = absurd says
+answered_as skipped known after line text fault other_kind says refuses = refuses
+answered_as cert_kind known after line text fault other_kind says refuses = cert_answered known after line text fault says refuses
+answered_as crl_kind known after line text fault other_kind says refuses = crl_answered known after line text fault says refuses
+answered_as check_kind known after line text fault other_kind says refuses = absurd (other_kind refl)
+answered_as unknown_kind known after line text fault other_kind says refuses = absurd says
 
-pub refused_as : (kind : Kind) (known : List Entry) (line : List ℕ) (fault other : LineFault) → RefusesAs kind known line fault
+pub refused_as : (kind : Kind) (known : List Entry) (line : List ℕ) (fault other : LineFault) → kind ≢ check_kind → RefusesAs kind known line fault
     → RefusesAs kind known line other → fault ≢ Memory → other ≢ Memory → fault ≡ other
-refused_as skipped known line fault other refuses again some more = absurd (some refuses)
-refused_as cert_kind known line fault other refuses again some more = cert_refused known line fault other refuses again some more
-refused_as crl_kind known line fault other refuses again some more = crl_refused known line fault other refuses again some more
-refused_as check_kind known line fault other refuses again some more = check_refused known line fault other refuses again some more
-refused_as unknown_kind known line fault other (inl is) (inl also) some more = is ∙ sym also
-refused_as unknown_kind known line fault other (inl is) (inr also) some more = absurd (more also)
-refused_as unknown_kind known line fault other (inr is) again some more = absurd (some is)
+refused_as skipped known line fault other other_kind refuses again some more = absurd (some refuses)
+refused_as cert_kind known line fault other other_kind refuses again some more = cert_refused known line fault other refuses again some more
+refused_as crl_kind known line fault other other_kind refuses again some more = crl_refused known line fault other refuses again some more
+refused_as check_kind known line fault other other_kind refuses again some more = absurd (other_kind refl)
+refused_as unknown_kind known line fault other other_kind (inl is) (inl also) some more = is ∙ sym also
+refused_as unknown_kind known line fault other other_kind (inl is) (inr also) some more = absurd (more also)
+refused_as unknown_kind known line fault other other_kind (inr is) again some more = absurd (some is)

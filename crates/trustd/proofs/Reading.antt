@@ -89,7 +89,7 @@ forgotten : (kind : Kind) (known : List Entry) (line : List ℕ) (fault : LineFa
 forgotten skipped known line fault is = is
 forgotten cert_kind known line fault is = subst (RefusesCert known line) (sym is) tt
 forgotten crl_kind known line fault is = subst (RefusesCrl known line) (sym is) tt
-forgotten check_kind known line fault is = subst (RefusesCheck known line) (sym is) tt
+forgotten check_kind known line fault is = subst RefusesCheck (sym is) tt
 forgotten unknown_kind known line fault is = inr is
 
 -- the octets of a line that no memory was had for

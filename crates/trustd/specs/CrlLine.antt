@@ -45,7 +45,7 @@ IsListMade c octets =
 -- name from then on; before, nothing was
 abbrev pub IsListKept : List Entry → CrlWords → List ℕ → List Entry → Type 0
 IsListKept known c text after =
-    (octets : List ℕ) × IsListMade c octets × (length octets ≤ 1048576) × IsTaken (crl_of octets) × (named known c.name.now ≡ None)
+    (octets : List ℕ) × IsListMade c octets × (length octets ≤ 4194304) × IsTaken (crl_of octets) × (named known c.name.now ≡ None)
     × (after ≡ known ++ (c.name.now, revocation_list octets) ∷ [])
     × (text ≡ codes "crl " ++ (c.name.now ++ (codes " " ++ (decimal (length octets) ++ codes "\n"))))
 
@@ -59,14 +59,14 @@ IsCrlSaid known line text after = (c : CrlWords) × IsCrlLine line c × IsListKe
 
 -- octets that are not too long, and break a rule of lists that has a place
 abbrev pub IsNoList : List ℕ → Type 0
-IsNoList octets = (length octets ≤ 1048576) × (fault : CertFault) × (crl_of octets ≡ Err (broken fault))
+IsNoList octets = (length octets ≤ 4194304) × (fault : CertFault) × (crl_of octets ≡ Err (broken fault))
 
 -- why the words of a `crl` line are refused: they describe nothing, or what they describe is no list; they describe one, but
 -- the name is taken; it is not, but the list would be too long
 abbrev pub RefusesListWords : List Entry → CrlWords → LineFault → Type 0
 RefusesListWords known c Form = (octets : List ℕ) → IsListMade c octets → IsNoList octets
 RefusesListWords known c Name = (octets : List ℕ) × IsListMade c octets × ¬ (IsNoList octets) × (named known c.name.now ≢ None)
-RefusesListWords known c Limit = (octets : List ℕ) × IsListMade c octets × (named known c.name.now ≡ None) × (1048576 < length octets)
+RefusesListWords known c Limit = (octets : List ℕ) × IsListMade c octets × (named known c.name.now ≡ None) × (4194304 < length octets)
 RefusesListWords known c Memory = Unit {0}
 RefusesListWords known c Unknown = ⊥
 

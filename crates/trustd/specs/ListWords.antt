@@ -12,10 +12,11 @@ use Rattle.trustd.specs.Pieces.{pieces_of}
 use Rattle.trustd.specs.Words.{IsNumber}
 use Rattle.trustd.specs.ExtensionWords.{IsText, IsDotted, IsNumbers}
 
--- what one word says: an entry, a number, reasons, a URI, or the object identifier of a critical extension
+-- what one word says: an entry, a number, a base number, reasons, a URI, or the object identifier of a critical extension
 pub data ListPart : Type 0 where
   revoked : EntryText → ListPart
   numbered : ℕ → ListPart
+  based : ℕ → ListPart
   some_reasons : List ℕ → ListPart
   at_uri : List ℕ → ListPart
   critical_unknown : List ℕ → ListPart
@@ -24,6 +25,7 @@ pub data ListPart : Type 0 where
 abbrev pub list_keyword_text : ListKeyword → List ℕ
 list_keyword_text keyword.Entry = codes "entry="
 list_keyword_text keyword.Number = codes "number="
+list_keyword_text keyword.Base = codes "base="
 list_keyword_text keyword.Reasons = codes "reasons="
 list_keyword_text keyword.Uri = codes "uri="
 list_keyword_text keyword.Critical = codes "critical="
@@ -48,6 +50,7 @@ SaysPart {T} Is part value said = (x : T) × Is value x × (said ≡ part x)
 abbrev pub SaysList : ListKeyword → List ℕ → ListPart → Type 0
 SaysList keyword.Entry value part = SaysPart IsEntry revoked value part
 SaysList keyword.Number value part = SaysPart IsNumber numbered value part
+SaysList keyword.Base value part = SaysPart IsNumber based value part
 SaysList keyword.Reasons value part = SaysPart IsNumbers some_reasons value part
 SaysList keyword.Uri value part = SaysPart IsText at_uri value part
 SaysList keyword.Critical value part = SaysPart IsDotted critical_unknown value part
@@ -73,6 +76,10 @@ abbrev pub number_said : ListPart → List ℕ
 number_said (numbered n) = n ∷ []
 number_said part = []
 
+abbrev pub base_said : ListPart → List ℕ
+base_said (based n) = n ∷ []
+base_said part = []
+
 abbrev pub reasons_said : ListPart → List ℕ
 reasons_said (some_reasons numbers) = numbers
 reasons_said part = []
@@ -89,6 +96,7 @@ critical_said part = []
 pub record Fields : Type 0 where
   pub entries : List EntryText
   pub number : Option ℕ
+  pub base : Option ℕ
   pub reasons : List ℕ
   pub uris : List (List ℕ)
   pub critical : List (List ℕ)
@@ -98,15 +106,17 @@ abbrev pub fields_of : CrlText → Fields
 fields_of text = record {
   entries = text.entries.now;
   number = text.number;
+  base = text.base;
   reasons = text.reasons.now;
   uris = map (λ uri. uri.now) text.uris.now;
   critical = map (λ oid. oid.content.now) text.critical.now;
 }
 
--- what the parts say gathers in the fields, in their order; at most one of them is a number
+-- what the parts say gathers in the fields, in their order; at most one of them is a number, and one a base number
 pub record Gather (parts : List ListPart) (fields : Fields) : Type 0 where
   pub entries : fields.entries ≡ flat_map entry_said parts
   pub number : list_of fields.number ≡ flat_map number_said parts
+  pub base : list_of fields.base ≡ flat_map base_said parts
   pub reasons : fields.reasons ≡ flat_map reasons_said parts
   pub uris : fields.uris ≡ flat_map uri_said parts
   pub critical : fields.critical ≡ flat_map critical_said parts

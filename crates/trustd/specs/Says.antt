@@ -9,7 +9,7 @@ use Rattle.trustd.specs.declared.script.TheConstants.{COMMENT}
 use Rattle.trustd.specs.Words.{words_of, first_of}
 use Rattle.trustd.specs.Known.{Entry}
 use Rattle.trustd.specs.CertLine.{IsCertSaid, RefusesCert}
-use Rattle.trustd.specs.CheckLine.{IsCheckSaid, RefusesCheck}
+use Rattle.trustd.specs.CheckLine.{IsVerdictText, RefusesCheck}
 use Rattle.trustd.specs.CrlLine.{IsCrlSaid, RefusesCrl}
 
 -- what a line is by its first word
@@ -37,7 +37,7 @@ abbrev pub SaysAs : Kind → List Entry → List ℕ → List ℕ → List Entry
 SaysAs skipped known line text after = (text ≡ []) × (after ≡ known)
 SaysAs cert_kind known line text after = IsCertSaid known line text after
 SaysAs crl_kind known line text after = IsCrlSaid known line text after
-SaysAs check_kind known line text after = IsCheckSaid known line text × (after ≡ known)
+SaysAs check_kind known line text after = IsVerdictText text × (after ≡ known)
 SaysAs unknown_kind known line text after = ⊥
 
 -- a line of a kind is refused with the fault: each for want of memory, and a skipped one for nothing else
@@ -45,7 +45,7 @@ abbrev pub RefusesAs : Kind → List Entry → List ℕ → LineFault → Type 0
 RefusesAs skipped known line fault = fault ≡ Memory
 RefusesAs cert_kind known line fault = RefusesCert known line fault
 RefusesAs crl_kind known line fault = RefusesCrl known line fault
-RefusesAs check_kind known line fault = RefusesCheck known line fault
+RefusesAs check_kind known line fault = RefusesCheck fault
 RefusesAs unknown_kind known line fault = (fault ≡ Unknown) ⊎ (fault ≡ Memory)
 
 abbrev pub Says : List Entry → List ℕ → List ℕ → List Entry → Type 0

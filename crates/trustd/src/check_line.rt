@@ -1,132 +1,153 @@
-//! The `check` line: the verdict on the certificate that it names.
+//! The `check` line: the verdict on the chain that it names.
 
-ghost use Rattle.std.specs.Prelude.{◌≡◌, ◌≢◌, ◌↔◌, ℤ, IfOk, IfErr, IsTrue, MatchOption, option_map, string_bytes};
-ghost use Rattle.std.specs.List.{AllByRecursion};
-ghost use Rattle.trustd.specs.Pieces.{pieces_behind};
-ghost use Rattle.trustd.specs.Words.{IsName, words_of};
+ghost use Rattle.std.specs.Prelude.{◌≤◌, IfOk, IfErr, length, string_bytes};
 ghost use Rattle.trustd.specs.Known.{known_in};
-ghost use Rattle.trustd.specs.CheckLine.{check_line, verdict_text, IsJudged, names_of, IsCheckLine, AreKnown, IsCheckSaid, RefusesCheck};
+ghost use Rattle.trustd.specs.CheckLine.{IsVerdictText, RefusesCheck};
 
-use crate::cert_octets::CertOctets;
 use crate::named::Named;
+use crate::options::Options;
 use crate::script::LineFault;
+use crate::verdict_text::print_verdict;
 use crate::words::{SPACE, are_names, first_piece, is_name, moment_of, word_behind};
 use std::alloc::{AllocError, Global};
-use ts_path::{Anchor, Inputs, Verdict, validate};
+use ts_cert::Cert;
+use ts_path::{Anchor, Inputs, MAX_CHAIN, validate};
+use ts_revoke::Crls;
 use ts_sig::DigestCheck;
 use ts_time::Moment;
 
-/// The text of a verdict.
-fn print_verdict(alloc: Global, verdict: &Verdict<'_>) -> Result<String, AllocError>
-    ensures { IfOk result (λ text. string_bytes text ≡ verdict_text verdict.now) }
-{
-    match verdict {
-        Verdict::Valid => String::from_str(alloc, "check valid -\n"),
-        Verdict::Invalid { position, reason } => format!(in alloc;
-            "check invalid {position} {reason}\n"
-        ),
-    }
-}
-
-/// Judges a certificate under another as the anchor.
-fn judge(
-    alloc: Global,
-    anchor: &CertOctets,
-    target: &CertOctets,
+/// What a `check` line asks.
+#[derive(Drop)]
+struct CheckWords<'a> {
+    anchor: &'a [u8],
     moment: Moment,
-) -> Result<String, AllocError>
-    ensures { IfOk result (λ text. IsJudged anchor.now.octets.items target.now.octets.items moment (string_bytes text)) }
-{
-    let verdict = validate(
-        &Anchor::of(&anchor.cert()),
-        &[target.cert()],
-        &Inputs { moment },
-        &DigestCheck,
-    );
-    print_verdict(alloc, &verdict)
-}
-
-/// The words of a `check` line that say something.
-#[derive(Clone, Copy)]
-pub struct CheckWords<'a> {
-    pub anchor: &'a [u8],
-    pub time: &'a [u8],
-    pub target: &'a [u8],
-    /// The names behind the target.
-    pub others: Option<&'a [u8]>,
+    options: Options,
+    /// The names of the chain, one or more.
+    names: &'a [u8],
 }
 
 impl<'a> CheckWords<'a> {
-    /// Those of a line.
-    #[tactic(auto, unfolding(crate::specs::CheckLine::check_line))]
-    fn of(line: &'a [u8]) -> Option<CheckWords<'a>>
-        ensures { MatchOption result ((c : CheckWords) → words_of line.now ≢ check_line c) (λ c. words_of line.now ≡ check_line c) }
-    {
-        let (anchor, rest) = word_behind(Some(line), b"check")?;
-        let (time, rest) = word_behind(rest, b"at")?;
-        let (target, others) = word_behind(rest, b"chain")?;
-        Some(CheckWords {
-            anchor,
-            time,
-            target,
-            others,
-        })
-    }
-
-    /// Those of a line, and their moment, where its names and its time are such.
-    fn read(line: &'a [u8]) -> Option<(CheckWords<'a>, Moment)>
-        ensures { MatchOption result ((c : CheckWords) (moment : ℤ) → ¬ (IsCheckLine line.now c moment)) (λ found. IsCheckLine line.now found.0 found.1) }
-    {
-        let words = CheckWords::of(line)?;
-        let moment = moment_of(words.time)?;
-        if !words.are_names() {
-            return None;
+    /// The words of a line.
+    ///
+    /// # Errors
+    ///
+    /// `Form` where they are not those of such a line.
+    fn read(alloc: Global, line: &'a [u8]) -> Result<CheckWords<'a>, LineFault> {
+        let Some((anchor, rest)) = word_behind(Some(line), b"check") else {
+            return Err(LineFault::Form);
+        };
+        let Some((time, rest)) = word_behind(rest, b"at") else {
+            return Err(LineFault::Form);
+        };
+        let (Some(moment), (options, Some(names))) = (moment_of(time), Options::read(alloc, rest)?)
+        else {
+            return Err(LineFault::Form);
+        };
+        if !is_name(anchor) || !are_names(Some(names)) {
+            return Err(LineFault::Form);
         }
-        Some((words, moment))
-    }
-
-    /// Whether its names are such.
-    fn are_names(&self) -> bool
-        ensures { IsTrue result ↔ AllByRecursion IsName (names_of self.now) }
-    {
-        is_name(self.anchor) && is_name(self.target) && are_names(self.others)
+        Ok(CheckWords {
+            anchor,
+            moment,
+            options,
+            names,
+        })
     }
 }
 
-/// Whether each of the names has a certificate.
-fn are_known(known: &Named, names: Option<&[u8]>) -> bool
-    ensures { IsTrue result ↔ AreKnown (known_in known.now) (pieces_behind 32 (option_map (λ rest. rest.now) names.entry)) }
-{
-    let mut rest = names;
+/// The certificates of these names. A name that has none is refused as `Name`.
+fn chain_of<'a>(alloc: Global, known: &'a Named, names: &[u8]) -> Result<Vec<Cert<'a>>, LineFault> {
+    let mut chain = Vec::new(alloc);
+    let mut rest = Some(names);
     while let Some(left) = rest {
         let (name, behind) = first_piece(left, SPACE);
-        if known.find_cert(name).is_none() {
-            return false;
-        }
+        let Some(one) = known.find_cert(name) else {
+            return Err(LineFault::Name);
+        };
+        chain.push(one.cert())?;
         rest = behind;
     }
-    true
+    Ok(chain)
+}
+
+/// The inputs of a line with these options, of which the policies are given as octets.
+fn inputs_of<'x>(
+    options: &Options,
+    moment: Moment,
+    purpose: Option<&'x [u8]>,
+    policies: &'x [&'x [u8]],
+) -> Inputs<'x> {
+    Inputs {
+        moment,
+        purpose,
+        user_policies: policies,
+        explicit_policy: options.explicit,
+        inhibit_policy_mapping: options.nomap,
+        inhibit_any_policy: options.noany,
+        permitted_subtrees: &[],
+        excluded_subtrees: &[],
+        hard: options.hard,
+        use_deltas: false,
+    }
+}
+
+/// Judges a chain of 1 to [`MAX_CHAIN`] certificates under another as the anchor, without CRLs.
+fn judge<'a>(
+    alloc: Global,
+    anchor: &Anchor<'a>,
+    chain: &[Cert<'a>],
+    options: &'a Options,
+    moment: Moment,
+) -> Result<String, AllocError>
+    requires some { 1 ≤ length chain.now }
+    requires few { length chain.now ≤ 16 }
+    ensures { IfOk result (λ text. IsVerdictText (string_bytes text)) }
+{
+    let policies = options.policies(alloc)?;
+    let purpose = options.purpose_octets();
+    judge_by(alloc, anchor, chain, options, purpose, &policies, moment)
+}
+
+/// The same with the purpose and the policies of the options as octets.
+fn judge_by<'a>(
+    alloc: Global,
+    anchor: &Anchor<'a>,
+    chain: &[Cert<'a>],
+    options: &Options,
+    purpose: Option<&'a [u8]>,
+    policies: &'a [&'a [u8]],
+    moment: Moment,
+) -> Result<String, AllocError>
+    requires some { 1 ≤ length chain.now }
+    requires few { length chain.now ≤ 16 }
+    ensures { IfOk result (λ text. IsVerdictText (string_bytes text)) }
+{
+    let inputs = inputs_of(options, moment, purpose, policies);
+    let verdict = validate(alloc, anchor, chain, &inputs, &Crls::none(), &DigestCheck)?;
+    print_verdict(alloc, &verdict)
 }
 
 /// Answers a `check` line.
 pub fn answer_check(alloc: Global, known: &Named, line: &[u8]) -> Result<String, LineFault>
-    ensures said { IfOk result (λ text. IsCheckSaid (known_in known.now) line.now (string_bytes text)) }
-    ensures fault { IfErr result (RefusesCheck (known_in known.now) line.now) }
+    ensures said { IfOk result (λ text. IsVerdictText (string_bytes text)) }
+    ensures fault { IfErr result RefusesCheck }
 {
-    let Some((words, moment)) = CheckWords::read(line) else {
-        return Err(LineFault::Form);
+    let words = match CheckWords::read(alloc, line) {
+        Ok(words) => words,
+        Err(LineFault::Memory) => return Err(LineFault::Memory),
+        Err(_) => return Err(LineFault::Form),
     };
-    let (Some(anchor), Some(target)) = (
-        known.find_cert(words.anchor),
-        known.find_cert(words.target),
-    ) else {
+    let Some(anchor) = known.find_cert(words.anchor) else {
         return Err(LineFault::Name);
     };
-    if !are_known(known, words.others) {
-        return Err(LineFault::Name);
-    }
-    if words.others.is_some() || target.cert().extensions().is_some() {
+    let chain = match chain_of(alloc, known, words.names) {
+        Ok(chain) => chain,
+        Err(LineFault::Memory) => return Err(LineFault::Memory),
+        Err(_) => return Err(LineFault::Name),
+    };
+    if chain.is_empty() || chain.len() > MAX_CHAIN {
         return Err(LineFault::Limit);
     }
-    Ok(judge(alloc, anchor, target, moment)?)
+    let anchor = Anchor::of(&anchor.cert());
+    Ok(judge(alloc, &anchor, &chain, &words.options, words.moment)?)
 }

@@ -56,7 +56,7 @@ impl<'a> CrlWords<'a> {
     /// The octets of the list that the words say, where it can be read, unless its name is taken.
     fn make(&self, alloc: Global, known: &Named) -> Result<Vec<u8>, LineFault>
         ensures made { IfOk result (λ octets. IsListMade self.now octets.items) }
-        ensures short { IfOk result (λ octets. length octets.items ≤ 1048576) }
+        ensures short { IfOk result (λ octets. length octets.items ≤ 4194304) }
         ensures reads { IfOk result (λ octets. IsTaken (crl_of octets.items)) }
         ensures free { OnOk result (named (known_in known.now) self.now.name.now ≡ None) }
         ensures fault { IfErr result (RefusesListWords (known_in known.now) self.now) }
@@ -74,6 +74,7 @@ impl<'a> CrlWords<'a> {
             signer: &signer,
             entries: &fields.entries,
             number: fields.number,
+            base: fields.base,
             reasons: &fields.reasons,
             uris: &fields.uris,
             critical: &fields.critical,

@@ -4,12 +4,14 @@ use crate::list_tests::LINE;
 use crate::tests::answers_words;
 
 /// Words, and how many octets the list has that they describe.
-const COUNTS: [(&[u8], &[u8]); 21] = [
+const COUNTS: [(&[u8], &[u8]); 23] = [
     (b"", b"crl L 102\n"),
     (b" number=1", b"crl L 118\n"),
     (b" number=0", b"crl L 118\n"),
     (b" number=128", b"crl L 119\n"),
     (b" number=4294967295", b"crl L 122\n"),
+    (b" entry=2:8 number=2 base=1", b"crl L 170\n"),
+    (b" base=1", b"crl L 121\n"),
     (b" entry=2:1", b"crl L 139\n"),
     (b" entry=2:1 number=1 reasons=1", b"crl L 173\n"),
     (b" entry=0:0 entry=4294967295:10 number=7", b"crl L 194\n"),
@@ -38,11 +40,12 @@ fn makes_lists(rt: HostRuntime) {
 
 /// Words that describe no list: a number that is longer than a list, a URI that is not ASCII, an extension that stands
 /// twice.
-const UNMADE: [(&[u8], &[u8]); 4] = [
+const UNMADE: [(&[u8], &[u8]); 5] = [
     (b" reasons=4294967295", b"line 1: limit\n"),
     (b" uri=\xc3\xa9", b"line 1: form\n"),
     (b" critical=1.2.3 critical=1.2.3", b"line 1: form\n"),
     (b" number=1 critical=2.5.29.20", b"line 1: form\n"),
+    (b" number=1 base=1 critical=2.5.29.27", b"line 1: form\n"),
 ];
 
 #[test]

@@ -5,7 +5,7 @@ ghost use Rattle.std.specs.List.{flat_map};
 ghost use Rattle.ts_make.specs.Told.{list_of};
 ghost use Rattle.trustd.specs.Words.{RefusesWord};
 ghost use Rattle.trustd.specs.declared.script.LineFault.TheVariants.{Form};
-ghost use Rattle.trustd.specs.ListWords.{Fields, Gather, entry_said, number_said, reasons_said, uri_said, critical_said};
+ghost use Rattle.trustd.specs.ListWords.{Fields, Gather, entry_said, number_said, base_said, reasons_said, uri_said, critical_said};
 ghost use Rattle.trustd.specs.OwnedList.{list_part, list_parts, fields_in};
 
 use crate::list_words::ListWord;
@@ -19,6 +19,7 @@ use ts_make::EntryText;
 pub struct ListFields<'a> {
     pub entries: Vec<EntryText>,
     pub number: Option<u32>,
+    pub base: Option<u32>,
     pub reasons: Vec<u32>,
     pub uris: Vec<&'a str>,
     pub critical: Vec<OidRef<'a>>,
@@ -31,9 +32,11 @@ impl<'a> ListFields<'a> {
         ensures fault { IfErr result (RefusesWord ((fields : Fields) → ¬ (Gather (list_parts words.now) fields))) }
     {
         let number = number_in(words)?;
+        let base = base_in(words)?;
         Ok(ListFields {
             entries: entries_in(alloc, words)?,
             number,
+            base,
             reasons: reasons_in(alloc, words)?,
             uris: uris_in(alloc, words)?,
             critical: critical_in(alloc, words)?,
@@ -56,6 +59,23 @@ fn number_in(words: &[ListWord<'_>]) -> Result<Option<u32>, LineFault>
         }
     }
     Ok(found)
+}
+
+/// The base number that words say, of which at most one may.
+fn base_in(words: &[ListWord<'_>]) -> Result<Option<u32>, LineFault>
+    ensures found { IfOk result (λ base. list_of base ≡ flat_map base_said (list_parts words.now)) }
+    ensures fault { IfErr result (λ fault. (fault ≡ Form) × ((base : Option ℕ) → list_of base ≢ flat_map base_said (list_parts words.now))) }
+{
+    let mut base = None;
+    for word in words {
+        if let ListWord::Base(number) = word {
+            if base.is_some() {
+                return Err(LineFault::Form);
+            }
+            base = Some(*number);
+        }
+    }
+    Ok(base)
 }
 
 /// The entries that words say.

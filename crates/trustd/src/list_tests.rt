@@ -7,7 +7,7 @@ use std::alloc::{AllocError, Global};
 pub const LINE: &[u8] = b"crl L issuer CN=L this 20260501000000Z next 20260701000000Z signer 61";
 
 /// Words of which one has no form, or stands twice.
-const REFUSED: [&[u8]; 45] = [
+const REFUSED: [&[u8]; 52] = [
     b" ",
     b"  number=1",
     b" number=1 ",
@@ -42,6 +42,13 @@ const REFUSED: [&[u8]; 45] = [
     b" number=4294967296",
     b" number=1 number=1",
     b" number=1 entry=2:1 number=2",
+    b" base",
+    b" base=",
+    b" base=x",
+    b" base=01",
+    b" base=4294967296",
+    b" bases=1",
+    b" base=1 number=2 base=1",
     b" reasons=",
     b" reasons=1,",
     b" reasons=,1",

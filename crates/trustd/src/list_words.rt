@@ -28,6 +28,8 @@ pub enum ListKeyword {
     Entry,
     /// cRLNumber (RFC 5280 5.2.3).
     Number,
+    /// deltaCRLIndicator (RFC 5280 5.2.4).
+    Base,
     /// issuingDistributionPoint, onlySomeReasons (RFC 5280 5.2.5).
     Reasons,
     /// issuingDistributionPoint, one URI of its full name (RFC 5280 5.2.5).
@@ -47,6 +49,8 @@ impl ListKeyword {
             Some((ListKeyword::Entry, value))
         } else if let Some(value) = word.strip_prefix(b"number=") {
             Some((ListKeyword::Number, value))
+        } else if let Some(value) = word.strip_prefix(b"base=") {
+            Some((ListKeyword::Base, value))
         } else if let Some(value) = word.strip_prefix(b"reasons=") {
             Some((ListKeyword::Reasons, value))
         } else if let Some(value) = word.strip_prefix(b"uri=") {
@@ -62,6 +66,7 @@ impl ListKeyword {
 pub enum ListWord<'a> {
     Entry(EntryText),
     Number(u32),
+    Base(u32),
     /// One or more reasons.
     Reasons(Vec<u32>),
     Uri(&'a str),
@@ -81,6 +86,7 @@ impl<'a> ListWord<'a> {
         match keyword {
             ListKeyword::Entry => Ok(ListWord::Entry(entry_in(value)?)),
             ListKeyword::Number => Ok(ListWord::Number(number_in(value)?)),
+            ListKeyword::Base => Ok(ListWord::Base(number_in(value)?)),
             ListKeyword::Reasons => Ok(ListWord::Reasons(numbers_in(alloc, value)?)),
             ListKeyword::Uri => Ok(ListWord::Uri(text_in(value)?)),
             ListKeyword::Critical => Ok(ListWord::Critical(oid_in(alloc, value)?)),

@@ -22,11 +22,15 @@ mod list_fields;
 mod list_tests;
 mod list_words;
 mod named;
+mod options;
+#[cfg(test)]
+mod path_tests;
 mod scanner;
 mod script;
 #[cfg(test)]
 mod tests;
 mod values;
+mod verdict_text;
 #[cfg(test)]
 mod word_tests;
 mod words;

@@ -155,7 +155,7 @@ cert S serial 2 issuer CN=S subject CN=L from 20260101000000Z to 20270101000000Z
 const NAMED_TEXT: &str = "cert R 138\ncert L 138\ncert F 138\ncert S 138\n";
 
 /// A line behind them, and what is printed for it.
-const LINES: [(&str, &str); 43] = [
+const LINES: [(&str, &str); 42] = [
     ("check R at 20260601000000Z chain L", "check valid -"),
     ("check R at 20260101000000Z chain L", "check valid -"),
     ("check R at 20270101000000Z chain L", "check valid -"),
@@ -206,8 +206,10 @@ const LINES: [(&str, &str); 43] = [
     ("check X at 20260601000000Z chain L", "line 5: name"),
     ("check R at 20260601000000Z chain X", "line 5: name"),
     ("check R at 20260601000000Z chain L X", "line 5: name"),
-    ("check R at 20260601000000Z chain L L", "line 5: limit"),
-    ("check R at 20260601000000Z chain L S F", "line 5: limit"),
+    (
+        "check R at 20260601000000Z chain L L",
+        "check invalid 1 NotCa",
+    ),
     (
         "cert R serial 1 issuer CN=R subject CN=R from 20260101000000Z to 20270101000000Z key 61 signer 61",
         "line 5: name",

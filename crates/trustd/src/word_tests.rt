@@ -215,36 +215,3 @@ fn refuses_words_that_describe_no_certificate(rt: HostRuntime) {
         assert!(rt; refused == Ok(true), "{words:?}");
     }
 }
-
-/// Certificates with and without extensions.
-const WITH_AND_WITHOUT: &str =
-    "cert R serial 1 issuer CN=R subject CN=R from 20260101000000Z to 20270101000000Z key 61 signer 61 ca
-cert L serial 2 issuer CN=R subject CN=L from 20260101000000Z to 20270101000000Z key 62 signer 61 dns=
-cert P serial 2 issuer CN=R subject CN=L from 20260101000000Z to 20270101000000Z key 62 signer 61
-";
-
-/// A line behind them, the status, and what answers it.
-const CHECKS: [(&str, u8, &str); 5] = [
-    ("check R at 20260601000000Z chain P", 0, "check valid -\n"),
-    ("check R at 20260601000000Z chain L", 2, "line 4: limit\n"),
-    ("check P at 20260601000000Z chain R", 2, "line 4: limit\n"),
-    ("check X at 20260601000000Z chain L", 2, "line 4: name\n"),
-    ("check R at 20260601000000Z chain P P", 2, "line 4: limit\n"),
-];
-
-/// Whether a line behind these certificates is answered so.
-fn checks(alloc: Global, line: &str, status: u8, text: &str) -> Result<bool, AllocError> {
-    let script = format!(in alloc; "{WITH_AND_WITHOUT}{line}\n")?;
-    let all = format!(in alloc; "cert R 159\ncert L 155\ncert P 138\n{text}")?;
-    Ok(answers(alloc, script.as_bytes(), status, all.as_bytes()))
-}
-
-#[test]
-fn extensions_of_the_anchor_do_not_count(rt: HostRuntime) {
-    for &(line, status, text) in &CHECKS {
-        assert!(rt;
-            checks(rt.alloc(), line, status, text) == Ok(true),
-            "{line}"
-        );
-    }
-}

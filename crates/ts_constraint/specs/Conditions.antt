@@ -44,6 +44,16 @@ Fails condition sources name = Some_of (FailsAt condition name) sources
 abbrev pub Meets : Condition → List Source → List GeneralName → Type 0
 Meets condition sources names = None_of (Fails condition sources) names
 
+-- the three conditions, of all names
+abbrev pub AreSupported : List Source → List GeneralName → Type 0
+AreSupported sources names = Meets Supported sources names
+
+abbrev pub ArePermitted : List Source → List GeneralName → Type 0
+ArePermitted sources names = Meets Permitted sources names
+
+abbrev pub AreNotExcluded : List Source → List GeneralName → Type 0
+AreNotExcluded sources names = Meets NotExcluded sources names
+
 -- the first name that does not meet a condition, by its form
 pub record FailsFirst (condition : Condition) (sources : List Source) (names : List GeneralName) (form : Form) : Type 0 where
   pub before : List GeneralName

@@ -175,7 +175,7 @@ whole-judged octets =
 
 shape-judged : (octets : List ℕ) → Judged (shape_of octets) (shape_fault octets) (λ l. Unit {0})
 unfolding shape_of
-shape-judged octets = by_size (nat_lt 1048576 (length octets))
+shape-judged octets = by_size (nat_lt 4194304 (length octets))
   where
     by_size : (b : Bool) → Judged (cond b (Err (breaks 0 (Der TooLarge))) (whole_of octets)) (cond b (Some (breaks 0 (Der TooLarge))) (judge (certificate_list then nothing) (from_front octets))) (λ l. Unit {0})
     by_size true = refl

@@ -1,21 +1,24 @@
 -- Where the first rule of extensions that is broken is none, they keep the rules, and the other way round.
 use Rattle.std.proofs.Common.{◌≡◌, ℕ, Bool, true, false, cond, List, [], ◌∷◌, Option, Some, None, refl, sym, ap, subst, ◌∙◌}
 use Rattle.std.specs.Prelude.{map, option_map, unwrap_or}
+use Rattle.ts_der.specs.Octets.{AreOctets}
 use Rattle.ts_shape.specs.declared.fault.CertRule.TheVariants.{DuplicateExtension}
 use Rattle.ts_shape.specs.Fault.{breaks}
 use Rattle.ts_shape.specs.Repeats.{is_among, first_repeated}
 use Rattle.ts_shape.specs.Shape.{◌or_else◌}
 use Rattle.ts_ext.specs.declared.known.Holder.{Holder}
-use Rattle.ts_ext.specs.declared.known.Holder.TheVariants.{List as ListHolder, Entry}
+use Rattle.ts_ext.specs.declared.known.Holder.TheVariants.{Certificate, List as ListHolder, Entry}
+use Rattle.ts_ext.specs.declared.known.Known.TheVariants.{DeltaCrlIndicator}
 use Rattle.ts_ext.specs.Extension.{Standing, said}
-use Rattle.ts_ext.specs.ValueRules.{values_fault, AreSound}
-use Rattle.ts_ext.proofs.Soundness.{sound, no-fault}
+use Rattle.ts_ext.specs.ValueRules.{AreSound}
+use Rattle.ts_ext.proofs.Soundness.{AllOctets, are-sound, no-fault}
 use Rattle.ts_crl.specs.declared.extension_rule.ExtensionRule.{ExtensionRule}
 use Rattle.ts_crl.specs.declared.extension_rule.ExtensionRule.TheVariants.{OldVersion, Repeated, Values}
 use Rattle.ts_crl.specs.declared.version.ListVersion.{ListVersion}
 use Rattle.ts_crl.specs.declared.version.ListVersion.TheVariants.{V1, V2}
 use Rattle.ts_crl.specs.List.{StandingExtensions, StandingEntry, StandingList, said_extensions, said_entry, said_list}
-use Rattle.ts_crl.specs.Rules.{rule_fault, fault_if_any, entries_fault, fault_by_place, version_fault, Keeps, KeepsIfAny, EntriesKeep, AllKeep, FitVersion}
+use Rattle.ts_crl.specs.Values.{is_known, with_number, standing_with_number}
+use Rattle.ts_crl.specs.Rules.{as_ruled, standing_as_ruled, rule_fault, fault_if_any, entries_fault, fault_by_place, version_fault, Keeps, KeepsIfAny, EntriesKeep, AllKeep, FitVersion}
 use Rattle.ts_crl.proofs.Readiness.{Ready, IfReady, EntriesReady, ReadyTbs}
 
 pub neither : {A : Type 0} (a b : Option A) → (a or_else b) ≡ None → (a ≡ None) × (b ≡ None)
@@ -41,20 +44,45 @@ said-repeated seen (x ∷ xs) = by_test (said-repeated (x.extnID ∷ seen) xs) (
     by_test more true = refl
     by_test more false = more
 
+-- ---- the rules of a base number
+
+said-as-ruled : (x : Standing) → said (standing_as_ruled x) ≡ as_ruled (said x)
+said-as-ruled x = by_test (is_known DeltaCrlIndicator (said x))
+  where
+    by_test : (b : Bool) → said (cond b (standing_with_number x) x) ≡ cond b (with_number (said x)) (said x)
+    by_test true = refl
+    by_test false = refl
+
+said-ruled : (xs : List Standing) → map said (map standing_as_ruled xs) ≡ map as_ruled (map said xs)
+said-ruled [] = refl
+said-ruled (x ∷ xs) = rw (said-as-ruled x, said-ruled xs) refl
+
+ruled-octets : (xs : List Standing) → AllOctets xs → AllOctets (map standing_as_ruled xs)
+ruled-octets [] fits = tt
+ruled-octets (x ∷ xs) fits = (by_test (is_known DeltaCrlIndicator (said x)), ruled-octets xs fits.1)
+  where
+    by_test : (b : Bool) → AreOctets (cond b (standing_with_number x) x).value.content
+    by_test true = fits.0
+    by_test false = fits.0
+
 -- ---- one rule
 
 kept-one : (rule : ExtensionRule) (holder : Holder) (x : StandingExtensions) → Ready x → rule_fault rule holder x ≡ None → Keeps rule holder (said_extensions x)
 kept-one OldVersion holder x ready e = absurd cc
 kept-one Repeated holder x ready e =
     said-repeated [] x.extensions ∙ ap (λ (o : Option Standing). option_map said o) (unmapped (λ r. breaks r.at DuplicateExtension) (first_repeated (λ r. r.extnID) [] x.extensions) e)
-kept-one Values holder x ready e =
-    subst (λ (xs : List Standing). values_fault holder xs ≡ None → AreSound holder (map said xs)) (sym ready.2) (sound holder ready.0 ready.1).0 e
+kept-one Values ListHolder x ready e =
+    subst (AreSound ListHolder) (said-ruled x.extensions) (are-sound ListHolder (map standing_as_ruled x.extensions) (ruled-octets x.extensions ready) e)
+kept-one Values Entry x ready e = are-sound Entry x.extensions ready e
+kept-one Values Certificate x ready e = are-sound Certificate x.extensions ready e
 
 keeps-one : (rule : ExtensionRule) (holder : Holder) (x : StandingExtensions) → Keeps rule holder (said_extensions x) → rule_fault rule holder x ≡ None
 keeps-one OldVersion holder x keeps = absurd keeps
 keeps-one Repeated holder x keeps =
     ap (λ (o : Option Standing). option_map (λ r. breaks r.at DuplicateExtension) o) (unmapped said (first_repeated (λ r. r.extnID) [] x.extensions) (sym (said-repeated [] x.extensions) ∙ keeps))
-keeps-one Values holder x keeps = no-fault holder x.extensions keeps
+keeps-one Values ListHolder x keeps = no-fault ListHolder (map standing_as_ruled x.extensions) (subst (AreSound ListHolder) (sym (said-ruled x.extensions)) keeps)
+keeps-one Values Entry x keeps = no-fault Entry x.extensions keeps
+keeps-one Values Certificate x keeps = no-fault Certificate x.extensions keeps
 
 kept-if-any : (rule : ExtensionRule) (holder : Holder) (o : Option StandingExtensions) → IfReady Ready o → fault_if_any rule holder o ≡ None → KeepsIfAny rule holder (option_map said_extensions o)
 kept-if-any rule holder None ready e = tt

@@ -284,23 +284,23 @@ whole-found octets s fits read =
     subst (λ (x : StandingList). Within 0x30 IsSigned octets (said_list x) × ReadyTbs x.tbsCertList) (ok_is {A = StandingList} {E = CertFault} l.0 s d.2)
     (record { content = e.0.0.content; fits = t.fits; spelled = whole ∙ t.spelled; value = is.0 }, is.1)
 
-pub shape-found : (octets : List ℕ) (s : StandingList) → AreOctets octets → shape_of octets ≡ Ok s → (length octets ≤ 1048576) × Within 0x30 IsSigned octets (said_list s) × ReadyTbs s.tbsCertList
+pub shape-found : (octets : List ℕ) (s : StandingList) → AreOctets octets → shape_of octets ≡ Ok s → (length octets ≤ 4194304) × Within 0x30 IsSigned octets (said_list s) × ReadyTbs s.tbsCertList
 unfolding shape_of
-shape-found octets s fits read = by_size (ltb 1048576 (length octets)) refl read
+shape-found octets s fits read = by_size (ltb 4194304 (length octets)) refl read
   where
-    by_size : (b : Bool) → ltb 1048576 (length octets) ≡ b → cond b (Err (breaks 0 (Der TooLarge))) (whole_of octets) ≡ Ok s → (length octets ≤ 1048576) × Within 0x30 IsSigned octets (said_list s) × ReadyTbs s.tbsCertList
+    by_size : (b : Bool) → ltb 4194304 (length octets) ≡ b → cond b (Err (breaks 0 (Der TooLarge))) (whole_of octets) ≡ Ok s → (length octets ≤ 4194304) × Within 0x30 IsSigned octets (said_list s) × ReadyTbs s.tbsCertList
     by_size true t e = absurd cc
-    by_size false t e = let w = whole-found octets s fits e in (ltb-false 1048576 (length octets) t, w.0, w.1)
+    by_size false t e = let w = whole-found octets s fits e in (ltb-false 4194304 (length octets) t, w.0, w.1)
 
 whole-joined : (octets : List ℕ) (e : Tlv) (p : Place) (s : StandingList) → element_at 0x30 (record { rest = octets; at = 0 }) ≡ Ok (e, p) → signed_of e ≡ Ok s → end_at p ≡ Ok tt → whole_of octets ≡ Ok s
 unfolding whole_of
 whole-joined octets e p s a b c = rw (a, b, c) refl
 
-pub shape-again : (octets : List ℕ) (c : CertificateList) → length octets ≤ 1048576 → Within 0x30 IsSigned octets c → (s : StandingList) × (shape_of octets ≡ Ok s) × (said_list s ≡ c)
+pub shape-again : (octets : List ℕ) (c : CertificateList) → length octets ≤ 4194304 → Within 0x30 IsSigned octets c → (s : StandingList) × (shape_of octets ≡ Ok s) × (said_list s ≡ c)
 unfolding shape_of
 shape-again octets c le w =
     let here : Place = record { rest = octets; at = 0 } in
-    let small : ltb 1048576 (length octets) ≡ false = le-ltb 1048576 (length octets) le in
+    let small : ltb 4194304 (length octets) ≡ false = le-ltb 4194304 (length octets) le in
     let one = element-only here 0x30 w.content [] w.fits (w.spelled ∙ sym (append-nil (spell 0x30 w.content))) in
     let e : Tlv = spelled_at 0 0x30 w.content in
     let s = signed-again e c w.value in

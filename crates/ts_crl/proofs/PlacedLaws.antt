@@ -1,19 +1,19 @@
 -- The rules that have a place, said of the extensions themselves.
-use Rattle.std.proofs.Common.{◌≡◌, List, [], ◌∷◌, Option, Some, None, refl, sym, ap, subst, ◌∙◌}
-use Rattle.std.specs.Prelude.{unwrap_or}
+use Rattle.std.proofs.Common.{◌≡◌, List, [], ◌∷◌, Option, Some, None, refl, sym, subst}
+use Rattle.std.specs.Prelude.{map, unwrap_or}
 use Rattle.std.specs.List.{AllByRecursion}
 use Rattle.std.proofs.lemmas.Slice.Eq.{bytes_eq-Decides}
 use Rattle.ts_shape.specs.Repeats.{first_repeated}
 use Rattle.ts_shape.specs.Shape.{◌or_else◌}
 use Rattle.ts_ext.specs.declared.known.Holder.TheVariants.{List as ListHolder, Entry}
 use Rattle.ts_ext.specs.Extension.{Extension}
-use Rattle.ts_ext.specs.ValueRules.{values_fault, IsSound, AreSound}
+use Rattle.ts_ext.specs.ValueRules.{IsSound, AreSound}
 use Rattle.ts_crl.specs.declared.extension_rule.ExtensionRule.TheVariants.{Repeated, Values}
 use Rattle.ts_crl.specs.declared.version.ListVersion.TheVariants.{V2}
 use Rattle.ts_crl.specs.Entries.{entries_of}
-use Rattle.ts_crl.specs.List.{StandingExtensions, StandingList, RevokedCertificate, said_list}
-use Rattle.ts_crl.specs.Rules.{fault_if_any, entries_fault, fault_by_place, algorithms_fault, version_fault, placed_fault, KeepsIfAny, EntriesKeep}
-use Rattle.ts_crl.proofs.Keeping.{neither, both, all-keep}
+use Rattle.ts_crl.specs.List.{StandingList, RevokedCertificate, said_list}
+use Rattle.ts_crl.specs.Rules.{as_ruled, fault_by_place, algorithms_fault, version_fault, placed_fault, KeepsIfAny, EntriesKeep}
+use Rattle.ts_crl.proofs.Keeping.{both, all-keep}
 
 -- an entry has one extension, whose value is one that it has
 pub record HasOneSound (e : RevokedCertificate) : Type 0 where
@@ -34,14 +34,14 @@ distinct-if-any : (o : Option (List Extension)) → first_repeated (λ x. x.extn
 distinct-if-any None e = tt
 distinct-if-any (Some xs) e = e
 
-sound-if-any : (o : Option (List Extension)) → AreSound ListHolder (unwrap_or o []) → KeepsIfAny Values ListHolder o
+sound-if-any : (o : Option (List Extension)) → AreSound ListHolder (map as_ruled (unwrap_or o [])) → KeepsIfAny Values ListHolder o
 sound-if-any None sound = tt
 sound-if-any (Some xs) sound = sound
 
 -- a list of version 2 and of one algorithm, whose entries have one extension each and whose own are distinct and sound, breaks
 -- no rule that has a place
 pub none-placed : (l : StandingList) → l.tbsCertList.version ≡ V2 → l.tbsCertList.signature.whole ≡ l.signatureAlgorithm.whole → AllByRecursion HasOneSound (entries_of (said_list l))
-    → first_repeated (λ x. x.extnID) [] (unwrap_or (said_list l).tbsCertList.crlExtensions []) ≡ None → AreSound ListHolder (unwrap_or (said_list l).tbsCertList.crlExtensions []) → placed_fault l ≡ None
+    → first_repeated (λ x. x.extnID) [] (unwrap_or (said_list l).tbsCertList.crlExtensions []) ≡ None → AreSound ListHolder (map as_ruled (unwrap_or (said_list l).tbsCertList.crlExtensions [])) → placed_fault l ≡ None
 none-placed l two one entries distinct sound =
     let own = (said_list l).tbsCertList.crlExtensions in
     let algorithms : algorithms_fault l ≡ None = rw ((bytes_eq-Decides l.tbsCertList.signature.whole l.signatureAlgorithm.whole).1 one) refl in
@@ -50,10 +50,3 @@ none-placed l two one entries distinct sound =
     let repeats = both (algorithms_fault l or_else version_fault l.tbsCertList.version l) (fault_by_place Repeated l) front (all-keep Repeated l (one-distinct (entries_of (said_list l)) entries, distinct-if-any own distinct)) in
     both (algorithms_fault l or_else version_fault l.tbsCertList.version l or_else fault_by_place Repeated l) (fault_by_place Values l) repeats
     (all-keep Values l (one-sound (entries_of (said_list l)) entries, sound-if-any own sound))
-
--- where none is broken, no value of the list's own extensions breaks a rule
-pub values-kept : (l : StandingList) → placed_fault l ≡ None → (x : StandingExtensions) → l.tbsCertList.crlExtensions ≡ Some x → values_fault ListHolder x.extensions ≡ None
-values-kept l none x e =
-    let values = neither (algorithms_fault l or_else version_fault l.tbsCertList.version l or_else fault_by_place Repeated l) (fault_by_place Values l) none in
-    let own = neither (entries_fault Values (unwrap_or l.tbsCertList.revokedCertificates [])) (fault_if_any Values ListHolder l.tbsCertList.crlExtensions) values.1 in
-    sym (ap (λ (o : Option StandingExtensions). fault_if_any Values ListHolder o) e) ∙ own.1

@@ -1,31 +1,28 @@
--- The extensions of a list that was read are those of a walk over octets.
-use Rattle.std.proofs.Common.{◌≡◌, ℕ, zero, suc, Bool, true, false, cond, List, [], ◌∷◌, ◌++◌, Option, Some, None, Result, Ok, Err, sym, ap, subst, ◌∙◌}
+-- The values of the extensions of a list that was read are octets.
+use Rattle.std.proofs.Common.{◌≡◌, ℕ, zero, suc, Bool, true, false, cond, List, [], ◌∷◌, ◌++◌, Option, Some, None, Result, Ok, Err, ap, subst, ◌∙◌}
 use Rattle.std.specs.Prelude.{length, unwrap_or}
 use Rattle.ts_der.specs.declared.fault.Fault.{Fault}
 use Rattle.ts_der.specs.Octets.{AreOctets}
-use Rattle.ts_der.specs.Answer.{◌>>=◌, refusal}
+use Rattle.ts_der.specs.Answer.{◌>>=◌}
 use Rattle.ts_der.specs.Element.{Place, Tlv, inside}
 use Rattle.ts_der.specs.Reading.{begins_with, is_end, next_at, element_at, end_at, many_from, many}
 use Rattle.ts_der.proofs.Elements.{next-found}
 use Rattle.ts_der.proofs.Laws.{bind_ok, ok_is}
 use Rattle.ts_der.proofs.OctetLists.{AreOctets-part, AreOctets-back}
 use Rattle.ts_shape.specs.Fields.{integer_at, optional_of}
-use Rattle.ts_shape.specs.Items.{each, alone, tagged_as, of_tag, some_of, items_at}
+use Rattle.ts_shape.specs.Items.{each, alone, tagged_as, of_tag, some_of}
 use Rattle.ts_shape.proofs.FieldParts.{integer-part}
-use Rattle.ts_shape.proofs.ItemParts.{some-walked}
 use Rattle.ts_shape.proofs.Parts.{took, element-took}
 use Rattle.ts_cert.specs.Time.{time_at}
 use Rattle.ts_cert.proofs.Periods.{time-part}
-use Rattle.ts_ext.specs.Extension.{Standing, standing_in}
+use Rattle.ts_ext.specs.Extension.{standing_in}
+use Rattle.ts_ext.proofs.Soundness.{AllOctets, some-octets}
 use Rattle.ts_crl.specs.List.{StandingExtensions, StandingEntry, StandingTbs}
 use Rattle.ts_crl.specs.Reading.{extensions_of, wrapped_extensions_of, entry_of, entry_in, revoked_of}
 
--- extensions that are those of a walk
-abbrev pub AreWalked : List Standing → Type 0
-AreWalked xs = (here : Place) × AreOctets here.rest × (xs ≡ items_at standing_in here)
-
+-- extensions whose values are octets
 abbrev pub Ready : StandingExtensions → Type 0
-Ready x = AreWalked x.extensions
+Ready x = AllOctets x.extensions
 
 abbrev pub IfReady : {A : Type 0} → (A → Type 0) → Option A → Type 0
 IfReady P None = Unit {0}
@@ -42,9 +39,8 @@ ReadyTbs t = EntriesReady (unwrap_or t.revokedCertificates []) × IfReady Ready 
 abbrev pub Gets : {A : Type 0} → (Tlv → Result A Fault) → (A → Type 0) → Type 0
 Gets {A} value P = (e : Tlv) (x : A) → AreOctets e.content → value e ≡ Ok x → P x
 
-some-ready : Gets (some_of standing_in) AreWalked
-some-ready e xs fits read =
-    (inside e, fits, ok_is {A = List Standing} {E = Fault} xs (items_at standing_in (inside e)) (sym read ∙ some-walked standing_in e (ap (λ r. refusal r) (sym read))))
+some-ready : Gets (some_of standing_in) AllOctets
+some-ready = some-octets
 
 tagged-is : (tag : ℕ) (e y : Tlv) → tagged_as tag e ≡ Ok y → e ≡ y
 unfolding tagged_as
@@ -100,7 +96,7 @@ pub wrapped-ready : Gets wrapped_extensions_of Ready
 unfolding wrapped_extensions_of
 wrapped-ready e x fits read =
     let s = bind_ok (alone (of_tag 0x30 (some_of standing_in)) e) _ x read in
-    subst Ready (ok_is {A = StandingExtensions} {E = Fault} (record { at = e.at; extensions = s.0 }) x s.2) (alone-gets 0x30 (some_of standing_in) AreWalked some-ready e s.0 fits s.1)
+    subst Ready (ok_is {A = StandingExtensions} {E = Fault} (record { at = e.at; extensions = s.0 }) x s.2) (alone-gets 0x30 (some_of standing_in) AllOctets some-ready e s.0 fits s.1)
 
 -- ---- entries
 

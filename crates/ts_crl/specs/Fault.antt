@@ -15,7 +15,7 @@ pub data ListFault : Type 0 where
   noNextUpdate : ListFault
   -- a critical extension is not processed, by the content of its object identifier (5.2, 5.3)
   criticalCrlExtension : List ℕ → ListFault
-  -- the list states what has changed since another one (5.2.4)
+  -- the list states what has changed since another one, and has no number (5.2.3, 5.2.4)
   deltaCrl : ListFault
   -- the list has certificates of other issuers (5.2.5, 5.3.3)
   indirect : ListFault

@@ -1,11 +1,11 @@
--- Rules of this profile, which have no place: a list has a nextUpdate, is complete, and is for certificates of its issuer
--- (RFC 5280 5.1.2.5, 5.2, 5.3).
-use Rattle.std.specs.Prelude.{ℕ, ◌&&◌, ◌||◌, Bool, true, false, List, [], ◌∷◌, Option, Some, None, is_none, option_map, if◌then◌else◌}
+-- Rules of this profile, which have no place: a list has a nextUpdate, is for certificates of its issuer, and has a number if
+-- it is a delta (RFC 5280 5.1.2.5, 5.2, 5.3).
+use Rattle.std.specs.Prelude.{ℕ, ◌&&◌, ◌||◌, not, Bool, true, false, List, [], ◌∷◌, Option, Some, None, is_none, option_map, if◌then◌else◌}
 use Rattle.std.specs.List.{find, list_any}
 use Rattle.ts_shape.specs.Shape.{◌or_else◌}
 use Rattle.ts_ext.specs.declared.known.Holder.{Holder}
 use Rattle.ts_ext.specs.declared.known.Holder.TheVariants.{List as ListHolder, Entry}
-use Rattle.ts_ext.specs.declared.known.Known.TheVariants.{DeltaCrlIndicator, IssuingDistributionPoint, CertificateIssuer}
+use Rattle.ts_ext.specs.declared.known.Known.TheVariants.{CrlNumber, DeltaCrlIndicator, IssuingDistributionPoint, CertificateIssuer}
 use Rattle.ts_ext.specs.Ext.{ExtValue, issuingDistributionPoint}
 use Rattle.ts_ext.specs.Extension.{Extension}
 use Rattle.ts_ext.specs.Known.{known_at}
@@ -65,9 +65,13 @@ is_indirect c = scope_meets (λ p. p.indirectCRL) (scope_of c) || list_any names
 abbrev pub is_relative : CertificateList → Bool
 is_relative c = scope_meets (λ p. is_relative_name p.distributionPoint) (scope_of c)
 
--- the list states what has changed since another one (5.2.4)
+-- the list is a delta: it states what has changed since the list of its base number (5.2.4)
 abbrev pub is_delta : CertificateList → Bool
 is_delta c = list_any (is_known DeltaCrlIndicator) (extensions_of c)
+
+-- the list has a number (5.2.3)
+abbrev pub has_number : CertificateList → Bool
+has_number c = list_any (is_known CrlNumber) (extensions_of c)
 
 abbrev pub profile_fault : CertificateList → Option ListFault
 profile_fault c =
@@ -75,4 +79,4 @@ profile_fault c =
     or_else option_map (λ oid. criticalCrlExtension oid) (unprocessed c)
     or_else (if is_indirect c then Some indirect else None)
     or_else (if is_relative c then Some relativeName else None)
-    or_else (if is_delta c then Some deltaCrl else None)
+    or_else (if is_delta c && not (has_number c) then Some deltaCrl else None)

@@ -92,6 +92,6 @@ whole_of octets = do
   done ← der (end_at e.1)
   Ok signed
 
--- octets that are at most 1,048,576, the limit of this profile
+-- octets that are at most 4,194,304, the limit of this profile
 unfoldable pub shape_of : List ℕ → Result StandingList CertFault
-shape_of octets = if nat_lt 1048576 (length octets) then Err (breaks 0 (Der TooLarge)) else whole_of octets
+shape_of octets = if nat_lt 4194304 (length octets) then Err (breaks 0 (Der TooLarge)) else whole_of octets

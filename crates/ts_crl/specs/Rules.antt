@@ -1,5 +1,5 @@
 -- Rules of the extensions of a list and of its entries, whose places count (RFC 5280 4.2, 5.1.2.1, 5.2, 5.3).
-use Rattle.std.specs.Prelude.{◌≡◌, List, [], ◌∷◌, Option, Some, None, unwrap_or, if◌then◌else◌}
+use Rattle.std.specs.Prelude.{◌≡◌, List, [], ◌∷◌, map, Option, Some, None, unwrap_or, if◌then◌else◌}
 use Rattle.std.specs.Str.{bytes_eq}
 use Rattle.ts_shape.specs.declared.fault.CertFault.{CertFault}
 use Rattle.ts_shape.specs.declared.fault.CertRule.TheVariants.{AlgorithmMismatch, ExtensionsInOldVersion}
@@ -8,7 +8,8 @@ use Rattle.ts_shape.specs.Repeats.{first_repeated}
 use Rattle.ts_shape.specs.Shape.{◌or_else◌}
 use Rattle.ts_ext.specs.declared.known.Holder.{Holder}
 use Rattle.ts_ext.specs.declared.known.Holder.TheVariants.{List as ListHolder, Entry}
-use Rattle.ts_ext.specs.Extension.{Extension}
+use Rattle.ts_ext.specs.declared.known.Known.TheVariants.{DeltaCrlIndicator}
+use Rattle.ts_ext.specs.Extension.{Extension, Standing, said}
 use Rattle.ts_ext.specs.ValueRules.{repeated_fault, values_fault, AreSound}
 use Rattle.ts_crl.specs.declared.extension_rule.ExtensionRule.{ExtensionRule}
 use Rattle.ts_crl.specs.declared.extension_rule.ExtensionRule.TheVariants.{OldVersion, Repeated, Values}
@@ -16,6 +17,25 @@ use Rattle.ts_crl.specs.declared.version.ListVersion.{ListVersion}
 use Rattle.ts_crl.specs.declared.version.ListVersion.TheVariants.{V1, V2}
 use Rattle.ts_crl.specs.Entries.{entries_of}
 use Rattle.ts_crl.specs.List.{StandingExtensions, StandingEntry, StandingList, RevokedCertificate, CertificateList}
+use Rattle.ts_crl.specs.Values.{is_known, with_number, standing_with_number}
+
+-- ---- whose rules a value keeps
+
+-- BaseCRLNumber ::= CRLNumber, INTEGER (0..MAX) (5.2.4): the value of deltaCRLIndicator is one that cRLNumber may have
+abbrev pub as_ruled : Extension → Extension
+as_ruled x = if is_known DeltaCrlIndicator x then with_number x else x
+
+abbrev pub standing_as_ruled : Standing → Standing
+standing_as_ruled x = if is_known DeltaCrlIndicator (said x) then standing_with_number x else x
+
+-- extensions, each under the object identifier whose rules its value keeps: of a list, and of an entry, where each is its own
+abbrev pub all_as_ruled : Holder → List Extension → List Extension
+all_as_ruled ListHolder xs = map as_ruled xs
+all_as_ruled other xs = xs
+
+abbrev pub all_standing_as_ruled : Holder → List Standing → List Standing
+all_standing_as_ruled ListHolder xs = map standing_as_ruled xs
+all_standing_as_ruled other xs = xs
 
 -- ---- the first rule that is broken
 
@@ -26,7 +46,7 @@ rule_fault OldVersion holder x = Some (breaks x.at ExtensionsInOldVersion)
 -- none stands twice (4.2)
 rule_fault Repeated holder x = repeated_fault x.extensions
 -- the value of each is one that its extension has (5.2, 5.3)
-rule_fault Values holder x = values_fault holder x.extensions
+rule_fault Values holder x = values_fault holder (all_standing_as_ruled holder x.extensions)
 
 abbrev pub fault_if_any : ExtensionRule → Holder → Option StandingExtensions → Option CertFault
 fault_if_any rule holder None = None
@@ -57,7 +77,7 @@ placed_fault l = algorithms_fault l or_else version_fault l.tbsCertList.version 
 abbrev pub Keeps : ExtensionRule → Holder → List Extension → Type 0
 Keeps OldVersion holder xs = ⊥
 Keeps Repeated holder xs = first_repeated (λ x. x.extnID) [] xs ≡ None
-Keeps Values holder xs = AreSound holder xs
+Keeps Values holder xs = AreSound holder (all_as_ruled holder xs)
 
 abbrev pub KeepsIfAny : ExtensionRule → Holder → Option (List Extension) → Type 0
 KeepsIfAny rule holder None = Unit {0}

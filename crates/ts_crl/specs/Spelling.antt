@@ -65,11 +65,11 @@ pub record IsSigned (content : List ℕ) (c : CertificateList) : Type 0 where
   pub signatureValue : Within 0x03 IsBits bits c.signatureValue
   pub fields : content ≡ c.tbs ++ (identifier ++ bits)
 
--- the octets are the list: at most 1,048,576; both algorithm identifiers are one (5.1.1.2); in version 1 there are no
+-- the octets are the list: at most 4,194,304; both algorithm identifiers are one (5.1.1.2); in version 1 there are no
 -- extensions (5.1.2.1); none stands twice (4.2); the values are those of their extensions (5.2, 5.3); and the list keeps the
 -- rules of this profile
 pub record IsCertificateList (octets : List ℕ) (c : CertificateList) : Type 0 where
-  pub size : length octets ≤ 1048576
+  pub size : length octets ≤ 4194304
   pub whole : Within 0x30 IsSigned octets c
   pub agree : c.tbsCertList.signature ≡ c.signatureAlgorithm
   pub version : FitVersion c.tbsCertList.version c

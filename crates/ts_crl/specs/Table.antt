@@ -77,9 +77,9 @@ tbs_cert_list = sequence tbs_fields
 abbrev pub certificate_list : Row
 certificate_list = sequence (tbs_cert_list then algorithm_identifier then bit_string then nothing)
 
--- the first rule of the shape that is broken: at most 1,048,576 octets, the limit of this profile; the table, and nothing behind it
+-- the first rule of the shape that is broken: at most 4,194,304 octets, the limit of this profile; the table, and nothing behind it
 abbrev pub shape_fault : List ℕ → Option CertFault
-shape_fault octets = if nat_lt 1048576 (length octets) then Some (breaks 0 (Der TooLarge)) else judge (certificate_list then nothing) (from_front octets)
+shape_fault octets = if nat_lt 4194304 (length octets) then Some (breaks 0 (Der TooLarge)) else judge (certificate_list then nothing) (from_front octets)
 
 -- ---- the whole
 

@@ -11,7 +11,7 @@ ghost use Rattle.ts_ext.specs.NameViews.{authority_key_in, issuing_point_in};
 ghost use Rattle.ts_crl.specs.Fault.{AnswersBy, fault_in};
 ghost use Rattle.ts_crl.specs.List.{CertificateList};
 ghost use Rattle.ts_crl.specs.Profile.{scope_of};
-ghost use Rattle.ts_crl.specs.Values.{number_of, key_of};
+ghost use Rattle.ts_crl.specs.Values.{number_of, base_of, key_of};
 ghost use Rattle.ts_crl.specs.ListView.{standing_list_in, crl_in};
 ghost use Rattle.ts_crl.specs.Spelling.{IsCertificateList};
 ghost use Rattle.ts_crl.specs.Table.{list_fault, crl_fault, crl_of};
@@ -23,7 +23,7 @@ use crate::profile::{profile_fault, scope};
 use crate::revoked::Revoked;
 use crate::rules::placed_fault;
 use crate::shape::read_shape;
-use crate::values::value_if_any;
+use crate::values::{base_if_any, value_if_any};
 use crate::version::ListVersion;
 use ts_cert::{AlgorithmIdentifier, Stamp, Time};
 use ts_der::Integer;
@@ -33,7 +33,7 @@ use ts_ext::{
 use ts_name::Name;
 
 /// The greatest number of octets that a list may have in this profile.
-pub const MAX_CRL: usize = 1_048_576;
+pub const MAX_CRL: usize = 4_194_304;
 
 /// A list of revoked certificates as it lies in the source (RFC 5280 5.1).
 #[derive(Clone, Copy)]
@@ -57,7 +57,7 @@ impl<'a> Crl<'a> {
     ///
     /// # Errors
     ///
-    /// The first rule that is broken, with its place: first more than 1,048,576 octets (`TooLarge` at 0); then the shape
+    /// The first rule that is broken, with its place: first more than 4,194,304 octets (`TooLarge` at 0); then the shape
     /// from front to back, a version other than 2 (`Version`) in its place; then `AlgorithmMismatch`, at the algorithm
     /// identifier beside the signature; then, of a list without a version, `ExtensionsInOldVersion` at the first element
     /// that holds extensions; then `DuplicateExtension` at the first extension that repeats one of its own list; then the
@@ -153,6 +153,16 @@ impl<'a> Crl<'a> {
         ensures { option_map (λ n. n.octets.now) result ≡ number_of (crl_in self.entry) }
     {
         match value_if_any(Holder::List, Known::CrlNumber, self.extensions) {
+            Some(Ext::CrlNumber(number)) => Some(number),
+            _ => None,
+        }
+    }
+
+    /// The number of the list that this one states the changes of, where it is a delta (RFC 5280 5.2.4).
+    pub fn base_crl_number(self) -> Option<CrlNumber<'a>>
+        ensures { option_map (λ n. n.octets.now) result ≡ base_of (crl_in self.entry) }
+    {
+        match base_if_any(self.extensions) {
             Some(Ext::CrlNumber(number)) => Some(number),
             _ => None,
         }

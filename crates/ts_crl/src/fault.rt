@@ -16,7 +16,7 @@ pub enum CrlFault<'a> {
     NoNextUpdate,
     /// A critical extension is not processed, by the content octets of its object identifier (RFC 5280 5.2, 5.3).
     CriticalCrlExtension(&'a [u8]),
-    /// The list states what has changed since another one (RFC 5280 5.2.4).
+    /// The list states what has changed since another one, and has no number (RFC 5280 5.2.3, 5.2.4).
     DeltaCrl,
     /// The list, or an entry of it, is for certificates of other issuers (RFC 5280 5.2.5, 5.3.3).
     Indirect,

@@ -9,7 +9,7 @@ ghost use Rattle.ts_crl.specs.EntryView.{listed_in, placed_in, revoked_in};
 ghost use Rattle.ts_crl.specs.Fault.{fault_in};
 ghost use Rattle.ts_crl.specs.List.{said_extensions, said_entry};
 ghost use Rattle.ts_crl.specs.ListView.{crl_in};
-ghost use Rattle.ts_crl.specs.Profile.{unprocessed_in as unprocessed_in_list, unprocessed_of_entries as unprocessed_of, unprocessed as unprocessed_of_list, names_issuer, as_scope, is_relative_name, scope_meets, scope_of, is_indirect as is_indirect_list, is_relative as is_relative_list, is_delta as is_delta_list, profile_fault as profile_fault_of};
+ghost use Rattle.ts_crl.specs.Profile.{has_number as has_number_of_list, unprocessed_in as unprocessed_in_list, unprocessed_of_entries as unprocessed_of, unprocessed as unprocessed_of_list, names_issuer, as_scope, is_relative_name, scope_meets, scope_of, is_indirect as is_indirect_list, is_relative as is_relative_list, is_delta as is_delta_list, profile_fault as profile_fault_of};
 
 use crate::crl::Crl;
 use crate::extension_list::ExtensionList;
@@ -100,6 +100,20 @@ fn is_relative(crl: &Crl<'_>) -> bool
     }
 }
 
+/// Whether a list states what has changed since another one (RFC 5280 5.2.4).
+fn is_delta(crl: &Crl<'_>) -> bool
+    ensures { result ≡ is_delta_list (crl_in crl.now) }
+{
+    is_among(Known::DeltaCrlIndicator, crl.extensions)
+}
+
+/// Whether a list has a number (RFC 5280 5.2.3).
+fn has_number(crl: &Crl<'_>) -> bool
+    ensures { result ≡ has_number_of_list (crl_in crl.now) }
+{
+    is_among(Known::CrlNumber, crl.extensions)
+}
+
 /// The first rule of this profile that a list breaks.
 pub(crate) fn profile_fault<'a>(crl: &Crl<'a>) -> Option<CrlFault<'a>>
     ensures { option_map fault_in result ≡ profile_fault_of (crl_in crl.now) }
@@ -116,7 +130,7 @@ pub(crate) fn profile_fault<'a>(crl: &Crl<'a>) -> Option<CrlFault<'a>>
     if is_relative(crl) {
         return Some(CrlFault::RelativeName);
     }
-    if is_among(Known::DeltaCrlIndicator, crl.extensions) {
+    if is_delta(crl) && !has_number(crl) {
         return Some(CrlFault::DeltaCrl);
     }
     None

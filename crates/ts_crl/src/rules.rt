@@ -1,17 +1,57 @@
 //! Rules of a list and of its extensions that have a place.
 
-ghost use Rattle.std.specs.Prelude.{◌≡◌, [], unwrap_or, option_map};
-ghost use Rattle.ts_crl.specs.EntryView.{placed_in, revoked_in};
+ghost use Rattle.std.specs.Prelude.{◌≡◌, [], map, unwrap_or, option_map};
+ghost use Rattle.ts_ext.specs.declared.known.Holder.TheVariants.{List as ListHolder};
+ghost use Rattle.ts_ext.specs.ExtensionView.{standing_as};
+ghost use Rattle.ts_ext.specs.ValueRules.{values_fault as values_fault_of};
+ghost use Rattle.ts_crl.specs.EntryView.{listed_in, placed_in, revoked_in};
 ghost use Rattle.ts_crl.specs.ListView.{standing_list_in};
-ghost use Rattle.ts_crl.specs.Rules.{rule_fault as rule_fault_of, fault_if_any as fault_if_any_of, entries_fault as entries_fault_of, fault_by_place as fault_by_place_of, version_fault as version_fault_of, algorithms_fault as algorithms_fault_of, placed_fault as placed_fault_of};
+ghost use Rattle.ts_crl.specs.Rules.{standing_as_ruled, all_standing_as_ruled, rule_fault as rule_fault_of, fault_if_any as fault_if_any_of, entries_fault as entries_fault_of, fault_by_place as fault_by_place_of, version_fault as version_fault_of, algorithms_fault as algorithms_fault_of, placed_fault as placed_fault_of};
 
 use crate::crl::Crl;
+use crate::extension_list::ExtensionList;
 use crate::extension_rule::ExtensionRule;
 use crate::placed::Placed;
 use crate::revoked::Revoked;
+use crate::values::with_number;
 use crate::version::ListVersion;
-use ts_ext::{Extension, Holder};
+use ts_ext::{Extension, Holder, Known};
 use ts_shape::{CertFault, CertRule, first_repeated};
+
+/// An extension under the object identifier of the one whose rules its value keeps: a base number keeps those of the
+/// number of a list (RFC 5280 5.2.4).
+fn as_ruled<'a>(extension: Extension<'a>) -> Extension<'a>
+    ensures { standing_as result ≡ standing_as_ruled (standing_as extension.entry) }
+{
+    let indicator = [0x55, 0x1D, Known::DeltaCrlIndicator.arc()];
+    if extension.id.content == indicator.as_slice() {
+        with_number(extension)
+    } else {
+        extension
+    }
+}
+
+/// The first rule that the values of the extensions of a list break.
+fn list_values_fault(list: ExtensionList<'_>) -> Option<CertFault>
+    ensures { result ≡ values_fault_of ListHolder (map standing_as_ruled (listed_in list.entry)) }
+{
+    for extension in list.extensions().iter() {
+        if let Some(fault) = as_ruled(extension).first_fault(Holder::List) {
+            return Some(fault);
+        }
+    }
+    None
+}
+
+/// The first rule that the values of extensions break.
+fn values_fault(holder: Holder, list: ExtensionList<'_>) -> Option<CertFault>
+    ensures { result ≡ values_fault_of holder (all_standing_as_ruled holder (listed_in list.entry)) }
+{
+    match holder {
+        Holder::List => list_values_fault(list),
+        Holder::Certificate | Holder::Entry => list.extensions().broken_rule(holder),
+    }
+}
 
 /// The first place at which extensions break a rule.
 pub(crate) fn rule_fault<'a>(
@@ -33,7 +73,7 @@ pub(crate) fn rule_fault<'a>(
                 at: extension.at,
             })
         }
-        ExtensionRule::Values => placed.list.extensions().broken_rule(holder),
+        ExtensionRule::Values => values_fault(holder, placed.list),
     }
 }
 

@@ -3,15 +3,22 @@
 ghost use Rattle.std.specs.Prelude.{◌≡◌, [], map, unwrap_or, option_map};
 ghost use Rattle.std.specs.List.{find, list_any};
 ghost use Rattle.ts_ext.specs.Extension.{said};
+ghost use Rattle.ts_ext.specs.declared.known.Holder.TheVariants.{List as ListHolder};
+ghost use Rattle.ts_ext.specs.declared.known.Known.TheVariants.{DeltaCrlIndicator};
+ghost use Rattle.ts_ext.specs.ExtensionView.{standing_as};
 ghost use Rattle.ts_ext.specs.ExtView.{ext_in};
 ghost use Rattle.ts_ext.specs.Known.{known_at};
 ghost use Rattle.ts_crl.specs.EntryView.{extension_as, listed_in, placed_in};
 ghost use Rattle.ts_crl.specs.List.{said_extensions};
-ghost use Rattle.ts_crl.specs.Values.{is_known, value_in_octets, value_among};
+ghost use Rattle.ts_crl.specs.Values.{is_known, value_in_octets, value_if_any as value_of_if_any, value_among, with_number as said_with_number, standing_with_number};
 
 use crate::extension_list::ExtensionList;
 use crate::placed::Placed;
+use ts_der::OidRef;
 use ts_ext::{Ext, Extension, Holder, Known};
+
+/// The object identifier of cRLNumber (RFC 5280 5.2.3).
+const CRL_NUMBER: &[u8] = b"\x55\x1d\x14";
 
 /// The value of an extension.
 fn value_of<'a>(holder: Holder, extension: Extension<'a>) -> Option<Ext<'a>>
@@ -44,6 +51,36 @@ pub(crate) fn value_if_any<'a>(
     ensures { option_map ext_in result ≡ value_among holder known (unwrap_or (option_map said_extensions (option_map placed_in placed.entry)) []) }
 {
     value_in(holder, known, placed?.list)
+}
+
+/// An extension with its value as that of cRLNumber.
+#[tactic(auto, unfolding(ts_der::specs::ObjectIdentifier::is_oid, ts_der::specs::ObjectIdentifier::series_of, ts_der::specs::ObjectIdentifier::subidentifier))]
+pub(crate) fn with_number<'a>(extension: Extension<'a>) -> Extension<'a>
+    ensures { standing_as result ≡ standing_with_number (standing_as extension.entry) }
+{
+    Extension {
+        id: OidRef {
+            content: CRL_NUMBER,
+        },
+        ..extension
+    }
+}
+
+/// The value of the first deltaCRLIndicator of a list, as that of cRLNumber.
+fn base_in<'a>(list: ExtensionList<'a>) -> Option<Ext<'a>>
+    ensures { option_map ext_in result ≡ value_of_if_any ListHolder (option_map said_with_number (find (is_known DeltaCrlIndicator) (map said (listed_in list.entry)))) }
+{
+    value_of(
+        Holder::List,
+        with_number(find_in(Known::DeltaCrlIndicator, list)?),
+    )
+}
+
+/// The same where there may be no extensions.
+pub(crate) fn base_if_any<'a>(placed: Option<Placed<'a>>) -> Option<Ext<'a>>
+    ensures { option_map ext_in result ≡ value_of_if_any ListHolder (option_map said_with_number (find (is_known DeltaCrlIndicator) (unwrap_or (option_map said_extensions (option_map placed_in placed.entry)) []))) }
+{
+    base_in(placed?.list)
 }
 
 /// Whether an extension of a list is this one.

@@ -45,7 +45,7 @@ torn_written at old octets le =
     grouped : length (take at old) ≡ at → take at (written old at octets) ≡ take at old
     grouped front = ap (take at) (append_assoc (take at old) octets (drop (at + length octets) old)) ∙ take_at (take at old) (octets ++ drop (at + length octets) old) at front
 
-torn_if : (b : Bool) (at : ℕ) (old octets : List ℕ) → nat_le at (length old) ≡ b → Torn at (length octets) old (cond b (written old at octets) old)
+pub torn_if : (b : Bool) (at : ℕ) (old octets : List ℕ) → nat_le at (length old) ≡ b → Torn at (length octets) old (cond b (written old at octets) old)
 torn_if true at old octets is = torn_written at old octets (grind (arith, nat_tests))
 torn_if false at old octets is = torn_same at (length octets) old
 

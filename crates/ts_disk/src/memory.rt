@@ -1,11 +1,14 @@
 // A disk in memory, which keeps a record of its calls, and fails when a test wants it to.
-ghost use Rattle.std.specs.Prelude.{◌≡◌, IfOk, ◌⊎◌, ◌<◌, ◌≤◌, ◌^◌, ◌-◌, [], ◌∷◌, ◌++◌, length, OnOk, OnErr};
+ghost use Rattle.std.specs.Prelude.{◌≡◌, IfOk, ◌⊎◌, ◌<◌, ◌≤◌, ◌^◌, ◌-◌, [], ◌∷◌, ◌++◌, length, true, Some, None, Err, OnOk, OnErr, IfErr, IsErr};
 ghost use Rattle.ts_disk.specs.declared.call.DiskCall.TheVariants.{Read, Write, Sync};
 ghost use Rattle.ts_disk.specs.declared.fault.DiskFault.TheVariants.{Failed};
-ghost use Rattle.ts_disk.specs.Disk.{written};
+ghost use Rattle.ts_disk.specs.declared.crash.Torn.TheVariants.{New};
+ghost use Rattle.ts_disk.specs.Disk.{Call, Same, Torn as TornWrite, written, HasCause};
+ghost use Rattle.ts_disk.specs.Fuse.{up_to_last, is_refused, called};
 ghost use Rattle.ts_disk.specs.Past.{history};
 
-use crate::{Disk, DiskCall, DiskFault};
+use crate::crash::leave;
+use crate::{Disk, DiskCall, DiskFault, Torn};
 use std::alloc::{AllocError, Global};
 
 const MAX_LEN: usize = (1 << 63) - 1;
@@ -26,13 +29,14 @@ pub struct MemDisk {
 }
 
 impl MemDisk {
-    ghost use Rattle.ts_disk.specs.Memory.{state_of, calls_of};
+    ghost use Rattle.ts_disk.specs.Memory.{state_of, calls_of, plan_of, left_by};
     ghost use Rattle.ts_disk.specs.Disk.{IsDurable};
 
     /// A durable disk with these octets.
     pub fn new(alloc: Global, octets: Vec<u8>) -> Result<MemDisk, AllocError>
         ensures read { IfOk result (λ disk. (state_of disk).read ≡ octets.items) }
         ensures durable { IfOk result (λ disk. IsDurable (state_of disk)) }
+        ensures plan { IfOk result (λ disk. plan_of disk ≡ record { made = 0; passing = None; fails_at = None }) }
     {
         Ok(MemDisk {
             alloc,
@@ -64,6 +68,11 @@ impl MemDisk {
     pub fn set_fuse(&mut self, passing: u64)
         ensures octets { (state_of self.new).read ≡ (state_of self.old).read }
         ensures calls { calls_of self.new ≡ calls_of self.old }
+        ensures plan { plan_of self.new ≡ record {
+          made = (plan_of self.old).made;
+          passing = Some (up_to_last (plan_of self.old).made passing);
+          fails_at = (plan_of self.old).fails_at;
+        } }
     {
         self.fuse = Some(self.made.saturating_add(passing));
     }
@@ -72,13 +81,32 @@ impl MemDisk {
     pub fn fail_at(&mut self, call: u64)
         ensures octets { (state_of self.new).read ≡ (state_of self.old).read }
         ensures calls { calls_of self.new ≡ calls_of self.old }
+        ensures plan { plan_of self.new ≡ record {
+          made = (plan_of self.old).made;
+          passing = (plan_of self.old).passing;
+          fails_at = Some (up_to_last (plan_of self.old).made call);
+        } }
     {
         self.fails_at = Some(self.made.saturating_add(call));
+    }
+
+    /// The disk that a crash now leaves, which is durable.
+    pub fn crash(&self, torn: Torn) -> Result<MemDisk, AllocError>
+        ensures left { IfOk result (λ disk. (state_of self.now).may_leave (state_of disk).read) }
+        ensures image { IfOk result (λ disk. (state_of disk).read ≡ left_by torn self.now) }
+        ensures new { torn ≡ New → IfOk result (λ disk. (state_of disk).read ≡ (state_of self.now).read) }
+        ensures durable { IfOk result (λ disk. IsDurable (state_of disk)) }
+    {
+        let image = leave(self.alloc, torn, &self.first, &self.calls)?;
+        MemDisk::new(self.alloc, image)
     }
 }
 
 // Whether a disk's next call fails, which it counts as made.
-fn refuses(made: &mut u64, fuse: Option<u64>, fails_at: Option<u64>) -> bool {
+fn refuses(made: &mut u64, fuse: Option<u64>, fails_at: Option<u64>) -> bool
+    ensures refused { result ≡ is_refused (record { made = made.old; passing = fuse; fails_at = fails_at }) }
+    ensures made { made.new ≡ up_to_last made.old 1 }
+{
     *made = made.saturating_add(1);
     fuse.is_some_and(|passing| passing < *made) || fails_at == Some(*made)
 }
@@ -94,7 +122,7 @@ fn counted(failures: &mut u64) -> DiskFault
 }
 
 // Writes octets at an offset, over what is there and past the end.
-fn overwrite(old: &mut Vec<u8>, at: usize, octets: &[u8]) -> Result<(), AllocError>
+pub(crate) fn overwrite(old: &mut Vec<u8>, at: usize, octets: &[u8]) -> Result<(), AllocError>
     requires { at ≤ length old.old.items }
     ensures written { OnOk result (old.new.items ≡ written old.old.items at octets.now) }
     ensures unchanged { OnErr result (old.new.items ≡ old.old.items) }
@@ -138,13 +166,23 @@ fn write(
 }
 
 impl Disk for MemDisk {
-    ghost use Rattle.ts_disk.specs.Memory.{state_of, lawful_of};
+    ghost use Rattle.ts_disk.specs.Memory.{state_of, lawful_of, plan_of};
+    ghost use Rattle.ts_disk.specs.Disk.{IsDurable};
+    ghost use Rattle.ts_disk.specs.declared.fault.DiskFault.TheVariants.{Memory};
 
     ghost state = { state_of };
 
     ghost lawful = { lawful_of };
 
-    fn read(&mut self, alloc: Global) -> Result<Vec<u8>, DiskFault> {
+    // A read that is refused its memory is not made.
+    fn read(&mut self, alloc: Global) -> Result<Vec<u8>, DiskFault>
+        ensures octets { IfOk result (λ octets. octets.items ≡ (state_of self.old).read) }
+        ensures same { (state_of self.new).read ≡ (state_of self.old).read }
+        ensures call { Call Same (state_of self.old) (state_of self.new) }
+        ensures cause { HasCause (state_of self.old) (state_of self.new) result }
+        ensures refused { is_refused (plan_of self.old) ≡ true → IsErr result }
+        ensures plan { (plan_of self.new ≡ called (plan_of self.old)) ⊎ ((result ≡ Err Memory) × (plan_of self.new ≡ plan_of self.old)) }
+    {
         let octets = self.octets.to_vec(alloc)?;
         if refuses(&mut self.made, self.fuse, self.fails_at) {
             return Err(counted(&mut self.failures));
@@ -155,8 +193,16 @@ impl Disk for MemDisk {
         }
     }
 
-    fn write_at(&mut self, at: usize, octets: &[u8]) -> Result<(), DiskFault> {
-        if octets.len() > MAX_LEN - at || refuses(&mut self.made, self.fuse, self.fails_at) {
+    fn write_at(&mut self, at: usize, octets: &[u8]) -> Result<(), DiskFault>
+        requires { at ≤ length (state_of self.old).read }
+        ensures written { OnOk result ((state_of self.new).read ≡ written (state_of self.old).read at octets.now) }
+        ensures call { Call (TornWrite at (length octets.now)) (state_of self.old) (state_of self.new) }
+        ensures fault { IfErr result (λ fault. fault ≡ Failed) }
+        ensures cause { HasCause (state_of self.old) (state_of self.new) result }
+        ensures refused { is_refused (plan_of self.old) ≡ true → result ≡ Err Failed }
+        ensures plan { plan_of self.new ≡ called (plan_of self.old) }
+    {
+        if refuses(&mut self.made, self.fuse, self.fails_at) || octets.len() > MAX_LEN - at {
             return Err(counted(&mut self.failures));
         }
         match write(self.alloc, &mut self.calls, &mut self.octets, at, octets) {
@@ -165,7 +211,15 @@ impl Disk for MemDisk {
         }
     }
 
-    fn sync(&mut self) -> Result<(), DiskFault> {
+    fn sync(&mut self) -> Result<(), DiskFault>
+        ensures durable { OnOk result (IsDurable (state_of self.new)) }
+        ensures same { (state_of self.new).read ≡ (state_of self.old).read }
+        ensures call { Call Same (state_of self.old) (state_of self.new) }
+        ensures fault { IfErr result (λ fault. fault ≡ Failed) }
+        ensures cause { HasCause (state_of self.old) (state_of self.new) result }
+        ensures refused { is_refused (plan_of self.old) ≡ true → result ≡ Err Failed }
+        ensures plan { plan_of self.new ≡ called (plan_of self.old) }
+    {
         if refuses(&mut self.made, self.fuse, self.fails_at) {
             return Err(counted(&mut self.failures));
         }

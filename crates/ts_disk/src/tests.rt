@@ -1,4 +1,4 @@
-use crate::{Disk, DiskCall, DiskFault, MemDisk, put};
+use crate::{Disk, DiskCall, DiskFault, MemDisk, Torn, put};
 use std::test::Fail;
 
 #[test]
@@ -43,5 +43,20 @@ fn one_call_fails(rt: HostRuntime) -> Result<(), Fail> {
     assert_eq!(rt; disk.sync(), Err(DiskFault::Failed));
     disk.sync()?;
     assert_eq!(rt; disk.failures(), 1);
+    Ok(())
+}
+
+#[test]
+fn a_crash_leaves_old_or_new_octets_or_one(rt: HostRuntime) -> Result<(), Fail> {
+    let alloc = rt.alloc();
+    let mut disk = MemDisk::new(alloc, [1, 2, 3].to_vec(alloc)?)?;
+    put(&mut disk, 0, &[9])?;
+    disk.write_at(2, &[7, 8])?;
+    assert_eq!(rt; disk.crash(Torn::Old)?.octets(), [9, 2, 3].as_slice());
+    assert_eq!(rt; disk.crash(Torn::New)?.octets(), [9, 2, 7, 8].as_slice());
+    assert_eq!(rt;
+        disk.crash(Torn::Byte(5))?.octets(),
+        [9, 2, 5, 5].as_slice()
+    );
     Ok(())
 }

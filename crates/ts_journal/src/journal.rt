@@ -1,5 +1,5 @@
 // A journal of bodies on two disks, of which one is in use.
-ghost use Rattle.std.specs.Prelude.{◌≡◌, ◌⊎◌, ◌++◌, ◌<◌, ◌+◌, ◌^◌, [], ◌∷◌, ℕ, List, OnOk, IfErr};
+ghost use Rattle.std.specs.Prelude.{◌≡◌, ◌⊎◌, ◌++◌, ◌<◌, ◌+◌, ◌^◌, [], ◌∷◌, ℕ, List, true, false, cond, OnOk, OnErr, IfErr};
 ghost use Rattle.ts_disk.specs.declared.fault.DiskFault.TheVariants.{Failed};
 ghost use Rattle.ts_journal.specs.Images.{IsBody, entry, OpensFrom, BeforeOrAfter, OneOrOther};
 ghost use Rattle.ts_journal.specs.Settled.{Holds, IsSettled, EveryMoment, OneFailed};
@@ -44,6 +44,7 @@ impl<D: Disk> Journal<D> {
         ensures moments { (bodies copied : List (List ℕ)) (body : List ℕ) → IsBody body → octets.now ≡ entry body
             → Holds D.state bodies copied self.old → EveryMoment D.state (BeforeOrAfter self.old.swapped bodies body) self.old self.new }
         ensures swapped { self.new.swapped ≡ self.old.swapped }
+        ensures generation { self.new.generation ≡ self.old.generation }
         ensures stage { self.new.stage ≡ self.old.stage }
         ensures failed { IfErr result (λ fault. (fault ≡ Failed) × OneFailed D.state self.old self.new) }
     {
@@ -62,7 +63,9 @@ impl<D: Disk> Journal<D> {
         ensures moments { (bodies copied : List (List ℕ)) → Holds D.state bodies copied self.old
             → EveryMoment D.state (OpensFrom self.old.swapped bodies) self.old self.new }
         ensures swapped { self.new.swapped ≡ self.old.swapped }
+        ensures generation { self.new.generation ≡ self.old.generation }
         ensures stage { OnOk result (self.new.stage ≡ Begun) }
+        ensures stays { OnErr result (self.new.stage ≡ self.old.stage) }
         ensures failed { IfErr result (λ fault. (fault ≡ Failed) × OneFailed D.state self.old self.new) }
     {
         shut(&mut self.spare, self.stage == Stage::Live, self.generation)?;
@@ -78,7 +81,9 @@ impl<D: Disk> Journal<D> {
         ensures moments { (bodies copied : List (List ℕ)) → Holds D.state bodies copied self.old
             → EveryMoment D.state (OpensFrom self.old.swapped bodies) self.old self.new }
         ensures swapped { self.new.swapped ≡ self.old.swapped }
+        ensures generation { self.new.generation ≡ self.old.generation }
         ensures stage { OnOk result (self.new.stage ≡ Copying) }
+        ensures stays { OnErr result (self.new.stage ≡ self.old.stage) }
         ensures failed { IfErr result (λ fault. (fault ≡ Failed) × OneFailed D.state self.old self.new) }
     {
         let octets = head_octets(self.node, self.nodes, self.generation + 1);
@@ -98,6 +103,7 @@ impl<D: Disk> Journal<D> {
         ensures moments { (bodies copied : List (List ℕ)) → Holds D.state bodies copied self.old
             → EveryMoment D.state (OpensFrom self.old.swapped bodies) self.old self.new }
         ensures swapped { self.new.swapped ≡ self.old.swapped }
+        ensures generation { self.new.generation ≡ self.old.generation }
         ensures stage { self.new.stage ≡ self.old.stage }
         ensures failed { IfErr result (λ fault. (fault ≡ Failed) × OneFailed D.state self.old self.new) }
     {
@@ -115,6 +121,9 @@ impl<D: Disk> Journal<D> {
         ensures moments { (bodies copied : List (List ℕ)) → Holds D.state bodies copied self.old
             → EveryMoment D.state (OneOrOther bodies copied) self.old self.new }
         ensures stage { OnOk result (self.new.stage ≡ Live) }
+        ensures swapped { OnOk result (self.new.swapped ≡ cond self.old.swapped false true) }
+        ensures generation { OnOk result (self.new.generation ≡ self.old.generation + 1) }
+        ensures stays { OnErr result ((self.new.stage ≡ self.old.stage) × (self.new.swapped ≡ self.old.swapped) × (self.new.generation ≡ self.old.generation)) }
         ensures failed { IfErr result (λ fault. (fault ≡ Failed) × OneFailed D.state self.old self.new) }
     {
         put(&mut self.spare, 24, &[1])?;

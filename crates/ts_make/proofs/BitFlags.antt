@@ -41,5 +41,5 @@ usage-within old numbers some =
     omega arith
 
 -- there is no room for a bit of a great number
-pub usage-far : (numbers : List ℕ) → 0x800000 ≤ last_set numbers → 1048576 < length (usage_content numbers)
+pub usage-far : (numbers : List ℕ) → 0x2000000 ≤ last_set numbers → 4194304 < length (usage_content numbers)
 usage-far numbers far = let content = usage-length numbers in omega arith

@@ -69,7 +69,7 @@ critical-is : (b : Bool) → IfTrue 0x01 (critical_octets b) b
 critical-is true = refl
 critical-is false = refl
 
-extension-is : (x : Extension) → is_oid x.extnID ≡ true → length (extension_octets x) ≤ 1048576 → Within 0x30 IsExtension (extension_octets x) x
+extension-is : (x : Extension) → is_oid x.extnID ≡ true → length (extension_octets x) ≤ 4194304 → Within 0x30 IsExtension (extension_octets x) x
 unfolding extension_content
 extension-is x known le =
     let id = spell 0x06 x.extnID in
@@ -96,14 +96,14 @@ extension-is x known le =
       };
     }
 
-pub items-are : (xs : List Extension) → AreKnown xs → length (flat_map extension_octets xs) ≤ 1048576 → AreItems (Within 0x30 IsExtension) (flat_map extension_octets xs) xs
+pub items-are : (xs : List Extension) → AreKnown xs → length (flat_map extension_octets xs) ≤ 4194304 → AreItems (Within 0x30 IsExtension) (flat_map extension_octets xs) xs
 items-are [] known le = refl
 items-are (x ∷ xs) known le =
     let both = length-append (extension_octets x) (flat_map extension_octets xs) in
     (extension_octets x, flat_map extension_octets xs, extension-is x known.0 (omega arith), refl, items-are xs known.1 (omega arith))
 
 -- the field
-pub field-is : (xs : List Extension) → AreKnown xs → length (field_octets xs) ≤ 1048576 → IfAny 0xA3 AreExplicit (field_octets xs) (field_of xs)
+pub field-is : (xs : List Extension) → AreKnown xs → length (field_octets xs) ≤ 4194304 → IfAny 0xA3 AreExplicit (field_octets xs) (field_of xs)
 unfolding field_octets
 field-is [] known le = refl
 field-is (x ∷ xs) known le =

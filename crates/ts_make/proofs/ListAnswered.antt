@@ -52,7 +52,7 @@ pub record IsListRead (t n : List ℕ) (text : CrlText) : Type 0 where
   pub shape : shape_of (made_list t n text) ≡ Ok standing
   pub same : said_list standing ≡ list_said t n issued next text
 
-pub is-list-read : (t n : List ℕ) (text : CrlText) → IsSayableList text → IsTimeOf t text.this_update → IsTimeOf n text.next_update → length (made_list t n text) ≤ 1048576
+pub is-list-read : (t n : List ℕ) (text : CrlText) → IsSayableList text → IsTimeOf t text.this_update → IsTimeOf n text.next_update → length (made_list t n text) ≤ 4194304
     → IsInYears 0 9999 text.this_update → IsInYears 0 9999 text.next_update → IsListRead t n text
 is-list-read t n text sayable from to le from_in to_in =
     let parts = list-parts-short t n text le in
@@ -112,7 +112,7 @@ is-signed t n text issued next =
 not-whole : (r : Result CertificateList ListFault) (f : CertFault) → r ≡ Err (broken f) → IsWhole r → ⊥
 not-whole r f e w = subst IsWhole e w
 
-pub list-years : (t n : List ℕ) (text : CrlText) → IsSayableList text → IsTimeOf t text.this_update → IsTimeOf n text.next_update → length (made_list t n text) ≤ 1048576
+pub list-years : (t n : List ℕ) (text : CrlText) → IsSayableList text → IsTimeOf t text.this_update → IsTimeOf n text.next_update → length (made_list t n text) ≤ 4194304
     → IsWhole (crl_of (made_list t n text)) → IsInYears 0 9999 text.this_update × IsInYears 0 9999 text.next_update
 list-years t n text sayable from to le w =
     elim (in_years text) [

@@ -1,75 +1,24 @@
--- Of the rules of the profile what is made breaks only the one on critical extensions: it states no change to another list, is
--- for no other issuer, and has no relative name.
-use Rattle.std.proofs.Common.{◌≡◌, ℕ, ◌+◌, ◌≤◌, ◌||◌, Bool, true, false, eqb, List, [], ◌∷◌, ◌++◌, length, Option, Some, None, Result, Ok, Err, refl, sym, ap, ◌∙◌, arith, length-append}
-use Rattle.std.specs.Prelude.{map, unwrap_or, option_map}
-use Rattle.std.specs.List.{AllByRecursion, list_any, flat_map}
+-- The scope of what is made is that of the list's issuer, and has no relative name.
+use Rattle.std.proofs.Common.{◌≡◌, ℕ, ◌+◌, ◌≤◌, Bool, false, eqb, List, [], ◌∷◌, ◌++◌, length, Option, Some, Result, Ok, Err, refl, sym, ap, ◌∙◌, arith, length-append}
+use Rattle.std.specs.List.{flat_map}
 use Rattle.std.specs.Borrow.{Bor}
-use Rattle.std.specs.Str.{bytes_eq}
-use Rattle.std.proofs.lemmas.Slice.Eq.{bytes_eq-Decides}
 use Rattle.std.proofs.lemmas.List.{append-nil}
 use Rattle.ts_der.specs.declared.fault.Fault.{Fault}
 use Rattle.ts_der.specs.Answer.{◌>>=◌}
 use Rattle.ts_der.specs.Default.{flag_at}
 use Rattle.ts_der.specs.Element.{Place, Tlv, Fits, spell, inside, spelled_at}
-use Rattle.ts_der.specs.Reading.{begins_with, element_of, end_at, optional_at}
+use Rattle.ts_der.specs.Reading.{begins_with, end_at, optional_at}
 use Rattle.ts_der.proofs.Laws.{element-only, next-only}
 use Rattle.ts_shape.specs.Fields.{optional_of}
 use Rattle.ts_name.specs.General.{GeneralName}
 use Rattle.ts_shape.specs.Items.{each, alone}
-use Rattle.ts_shape.specs.Shape.{◌or_else◌}
-use Rattle.ts_ext.specs.declared.known.Holder.TheVariants.{List as ListHolder}
-use Rattle.ts_ext.specs.declared.known.Known.TheVariants.{DeltaCrlIndicator}
-use Rattle.ts_ext.specs.Extension.{Standing, Extension, said}
 use Rattle.ts_ext.specs.GeneralNames.{general_names_of}
-use Rattle.ts_ext.specs.Known.{known_at, list_extension, identifier_of}
 use Rattle.ts_ext.specs.Points.{PointName, fullName, point_name_of, wrapped_name_of, ListScope, issuing_point_of}
 use Rattle.ts_ext.specs.Reading.{reason_flags_of}
-use Rattle.ts_ext.specs.ValueRules.{value_fault, values_fault}
-use Rattle.ts_crl.specs.List.{StandingExtensions, StandingList, said_extensions, said_list}
-use Rattle.ts_crl.specs.Profile.{is_relative_name, is_delta}
-use Rattle.ts_crl.specs.Rules.{placed_fault}
-use Rattle.ts_crl.specs.Values.{is_known, extensions_of}
-use Rattle.ts_crl.proofs.PlacedLaws.{values-kept}
+use Rattle.ts_crl.specs.Profile.{is_relative_name}
 use Rattle.ts_make.specs.KeyUsage.{usage_content}
 use Rattle.ts_make.specs.ListExtensions.{uri_octets, full_name, some_reasons}
 use Rattle.ts_make.proofs.StandIns.{content-short}
-
--- ---- changes to another list
-
-never : {A : Type 0} (a b c : Option A) (x : A) → (a or_else Some x or_else b or_else c) ≡ None → ⊥
-never None b c x e = cc
-never (Some y) b c x e = cc
-
--- NULL is no number
-null-broken : (x : Standing) → x.extnID ≡ identifier_of DeltaCrlIndicator → x.value.content ≡ 0x05 ∷ 0 ∷ [] → value_fault ListHolder x ≡ None → ⊥
-unfolding known_at list_extension element_of
-null-broken x i v e = never _ _ _ _ (rw (i, v) at e)
-
--- an extension that would state changes has the value NULL
-abbrev pub NullIfDelta : Extension → Type 0
-NullIfDelta x = x.extnID ≡ identifier_of DeltaCrlIndicator → x.extnValue ≡ 0x05 ∷ 0 ∷ []
-
-front-none : {A : Type 0} (a b : Option A) → (a or_else b) ≡ None → (a ≡ None) × (b ≡ None)
-front-none None b e = (refl, e)
-front-none (Some x) b e = absurd cc
-
-none-delta : (xs : List Standing) → AllByRecursion NullIfDelta (map said xs) → values_fault ListHolder xs ≡ None → list_any (is_known DeltaCrlIndicator) (map said xs) ≡ false
-none-delta [] nulls e = refl
-none-delta (x ∷ xs) nulls e =
-    let both = front-none (value_fault ListHolder x) (values_fault ListHolder xs) e in
-    by_test (bytes_eq x.extnID (identifier_of DeltaCrlIndicator)) refl both.0 (none-delta xs nulls.1 both.1)
-  where
-    by_test : (b : Bool) → bytes_eq x.extnID (identifier_of DeltaCrlIndicator) ≡ b → value_fault ListHolder x ≡ None → list_any (is_known DeltaCrlIndicator) (map said xs) ≡ false
-        → (b || list_any (is_known DeltaCrlIndicator) (map said xs)) ≡ false
-    by_test true t own rest = let i = (bytes_eq-Decides x.extnID (identifier_of DeltaCrlIndicator)).0 t in absurd (null-broken x i (nulls.0 i) own)
-    by_test false t own rest = rest
-
-pub not-delta : (l : StandingList) → placed_fault l ≡ None → AllByRecursion NullIfDelta (extensions_of (said_list l)) → is_delta (said_list l) ≡ false
-not-delta l none nulls = by_field l.tbsCertList.crlExtensions refl nulls
-  where
-    by_field : (o : Option StandingExtensions) → l.tbsCertList.crlExtensions ≡ o → AllByRecursion NullIfDelta (unwrap_or (option_map said_extensions o) []) → list_any (is_known DeltaCrlIndicator) (unwrap_or (option_map said_extensions o) []) ≡ false
-    by_field None e nulls = refl
-    by_field (Some x) e nulls = none-delta x.extensions nulls (values-kept l none x e)
 
 -- ---- the scope
 
@@ -78,7 +27,7 @@ abbrev pub NotRelative : {A : Type 0} → (A → Bool) → Result A Fault → Ty
 NotRelative test (Ok x) = test x ≡ false
 NotRelative test (Err f) = Unit {0}
 
-full-read : (here : Place) (content rest : List ℕ) → length content ≤ 1048576 → here.rest ≡ spell 0xA0 content ++ rest → NotRelative (λ x. is_relative_name (Some x.0)) (each point_name_of here)
+full-read : (here : Place) (content rest : List ℕ) → length content ≤ 4194304 → here.rest ≡ spell 0xA0 content ++ rest → NotRelative (λ x. is_relative_name (Some x.0)) (each point_name_of here)
 unfolding each point_name_of
 full-read here content rest le e =
     let fits : Fits 0xA0 content = record { octet = omega arith; low = omega arith; short = omega arith } in
@@ -89,7 +38,7 @@ full-read here content rest le e =
     by_names (Ok names) = refl
     by_names (Err f) = tt
 
-wrapped-read : (e : Tlv) (content : List ℕ) → length content ≤ 1048576 → e.content ≡ spell 0xA0 content → NotRelative (λ x. is_relative_name (Some x)) (wrapped_name_of e)
+wrapped-read : (e : Tlv) (content : List ℕ) → length content ≤ 4194304 → e.content ≡ spell 0xA0 content → NotRelative (λ x. is_relative_name (Some x)) (wrapped_name_of e)
 unfolding alone
 wrapped-read e content le is = by_each (each point_name_of (inside e)) (full-read (inside e) content [] le (is ∙ sym (append-nil (spell 0xA0 content))))
   where
@@ -106,7 +55,7 @@ abbrev pub Leaves : {A : Type 0} → (A → Bool) → List ℕ → Result (A × 
 Leaves test rest (Ok x) = (test x.0 ≡ false) × (x.1.rest ≡ rest)
 Leaves test rest (Err f) = Unit {0}
 
-name-read : (here : Place) (uris : List (Bor (List ℕ))) (reasons : List ℕ) → length (full_name uris) ≤ 1048576 → here.rest ≡ full_name uris ++ some_reasons reasons
+name-read : (here : Place) (uris : List (Bor (List ℕ))) (reasons : List ℕ) → length (full_name uris) ≤ 4194304 → here.rest ≡ full_name uris ++ some_reasons reasons
     → Leaves is_relative_name (some_reasons reasons) (optional_of 0xA0 wrapped_name_of here)
 unfolding optional_of
 name-read here [] [] le e = rw (ap (begins_with 0xA0) e) (refl, e)
@@ -125,7 +74,7 @@ name-read here (u ∷ us) reasons le e =
     by_name (Ok x) not = (not, refl)
     by_name (Err f) not = tt
 
-reasons-read : (here : Place) (reasons : List ℕ) → length (some_reasons reasons) ≤ 1048576 → here.rest ≡ some_reasons reasons → Leaves (λ x. false) [] (optional_of 0x83 reason_flags_of here)
+reasons-read : (here : Place) (reasons : List ℕ) → length (some_reasons reasons) ≤ 4194304 → here.rest ≡ some_reasons reasons → Leaves (λ x. false) [] (optional_of 0x83 reason_flags_of here)
 unfolding optional_of
 reasons-read here [] le e = rw (ap (begins_with 0x83) e) (refl, e)
 reasons-read here (n ∷ ns) le e =
@@ -152,7 +101,7 @@ no-flag : (tag : ℕ) (reasons : List ℕ) → eqb 0x83 tag ≡ false → begins
 no-flag tag [] e = refl
 no-flag tag (n ∷ ns) e = e
 
-pub scope-read : (e : Tlv) (uris : List (Bor (List ℕ))) (reasons : List ℕ) → length (full_name uris ++ some_reasons reasons) ≤ 1048576 → e.content ≡ full_name uris ++ some_reasons reasons → IsPlain (issuing_point_of e)
+pub scope-read : (e : Tlv) (uris : List (Bor (List ℕ))) (reasons : List ℕ) → length (full_name uris ++ some_reasons reasons) ≤ 4194304 → e.content ≡ full_name uris ++ some_reasons reasons → IsPlain (issuing_point_of e)
 unfolding issuing_point_of
 scope-read e uris reasons le is =
     let both = length-append (full_name uris) (some_reasons reasons) in
@@ -169,7 +118,7 @@ scope-read e uris reasons le is =
         rw (flag-read 0x84 x.1 (ap (begins_with 0x84) left.1), flag-read 0x85 x.1 (ap (begins_with 0x85) left.1)) (by_end name x.0 (end_at x.1) not)
     by_reasons name (Err f) not left = tt
 
-    by_name : (r : Result (Option PointName × Place) Fault) → Leaves is_relative_name (some_reasons reasons) r → length (some_reasons reasons) ≤ 1048576
+    by_name : (r : Result (Option PointName × Place) Fault) → Leaves is_relative_name (some_reasons reasons) r → length (some_reasons reasons) ≤ 4194304
         → IsPlain (r >>= λ name. flag_at 0x81 name.1 >>= λ user. flag_at 0x82 user.1 >>= λ ca. optional_of 0x83 reason_flags_of ca.1 >>= λ reasons. flag_at 0x84 reasons.1 >>= λ indirect. flag_at 0x85 indirect.1 >>= λ attribute. end_at attribute.1 >>= λ done. Ok (record { distributionPoint = name.0; onlyContainsUserCerts = user.0; onlyContainsCACerts = ca.0; onlySomeReasons = reasons.0; indirectCRL = indirect.0; onlyContainsAttributeCerts = attribute.0 }))
     by_name (Ok x) left short =
         let user = flag-read 0x81 x.1 (ap (begins_with 0x81) left.1 ∙ no-flag 0x81 reasons refl) in

@@ -60,7 +60,7 @@ version-read here rest e =
 abbrev pub IsOutsideList : CrlText → Type 0
 IsOutsideList text = (IsInYears 0 9999 text.this_update → ⊥) ⊎ (IsInYears 0 9999 text.this_update × (IsInYears 0 9999 text.next_update → ⊥))
 
-tbs-refused : (t n : List ℕ) (text : CrlText) (e : Tlv) → IsSayableList text → IsTimeOf t text.this_update → IsTimeOf n text.next_update → length (list_tbs t n text) ≤ 1048576 → IsOutsideList text
+tbs-refused : (t n : List ℕ) (text : CrlText) (e : Tlv) → IsSayableList text → IsTimeOf t text.this_update → IsTimeOf n text.next_update → length (list_tbs t n text) ≤ 4194304 → IsOutsideList text
     → e.content ≡ list_content t n text → IsRefused (tbs_of e)
 unfolding tbs_of list_content
 tbs-refused t n text e sayable from to le outside whole = by_moment outside
@@ -110,7 +110,7 @@ tbs-refused t n text e sayable from to le outside whole = by_moment outside
         let x = empty-next p4 r5 (ap (λ (o : List ℕ). o ++ r5) (outside-is n text.next_update to away.1)) in
         (p4.at, rw (v, a, i, u, x) refl)
 
-signed-refused : (t n : List ℕ) (text : CrlText) (e : Tlv) (rest : List ℕ) → IsSayableList text → IsTimeOf t text.this_update → IsTimeOf n text.next_update → length (list_tbs t n text) ≤ 1048576 → IsOutsideList text
+signed-refused : (t n : List ℕ) (text : CrlText) (e : Tlv) (rest : List ℕ) → IsSayableList text → IsTimeOf t text.this_update → IsTimeOf n text.next_update → length (list_tbs t n text) ≤ 4194304 → IsOutsideList text
     → e.content ≡ list_tbs t n text ++ rest → IsRefused (signed_of e)
 unfolding signed_of list_tbs
 signed-refused t n text e rest sayable from to le outside whole =
@@ -119,7 +119,7 @@ signed-refused t n text e rest sayable from to le outside whole =
     let fields = tbs-refused t n text (spelled_at e.start 0x30 (list_content t n text)) sayable from to le outside refl in
     (fields.0, rw (first, fields.1) refl)
 
-shape-refused : (t n : List ℕ) (text : CrlText) → IsSayableList text → IsTimeOf t text.this_update → IsTimeOf n text.next_update → length (made_list t n text) ≤ 1048576 → IsOutsideList text
+shape-refused : (t n : List ℕ) (text : CrlText) → IsSayableList text → IsTimeOf t text.this_update → IsTimeOf n text.next_update → length (made_list t n text) ≤ 4194304 → IsOutsideList text
     → IsRefused (shape_of (made_list t n text))
 unfolding shape_of whole_of made_list
 shape-refused t n text sayable from to le outside =
@@ -127,12 +127,12 @@ shape-refused t n text sayable from to le outside =
     let tbs = list_tbs t n text in
     let rest = algorithm_identifier ++ bit_octets (sha256 (text.signer.now ++ tbs)) in
     let here : Place = record { rest = spell 0x30 (tbs ++ rest); at = 0 } in
-    let small : ltb 1048576 (length (spell 0x30 (tbs ++ rest))) ≡ false = le-ltb 1048576 (length (spell 0x30 (tbs ++ rest))) le in
+    let small : ltb 4194304 (length (spell 0x30 (tbs ++ rest))) ≡ false = le-ltb 4194304 (length (spell 0x30 (tbs ++ rest))) le in
     let one = element-only here 0x30 (tbs ++ rest) [] (fits-sequence (tbs ++ rest) short.content) (sym (append-nil (spell 0x30 (tbs ++ rest)))) in
     let signed = signed-refused t n text (spelled_at 0 0x30 (tbs ++ rest)) rest sayable from to short.tbs outside refl in
     (signed.0, rw (small, one, signed.1) refl)
 
-pub list-refused : (t n : List ℕ) (text : CrlText) → IsSayableList text → IsTimeOf t text.this_update → IsTimeOf n text.next_update → length (made_list t n text) ≤ 1048576 → IsOutsideList text
+pub list-refused : (t n : List ℕ) (text : CrlText) → IsSayableList text → IsTimeOf t text.this_update → IsTimeOf n text.next_update → length (made_list t n text) ≤ 4194304 → IsOutsideList text
     → (at : ℕ) × (crl_of (made_list t n text) ≡ Err (broken (breaks at (Der TimeRule))))
 unfolding crl_of
 list-refused t n text sayable from to le outside =

@@ -1,5 +1,5 @@
 -- The rules of a list of revoked certificates that what is made may break.
-use Rattle.std.proofs.Common.{◌++◌, ◌≡◌, ℕ, ◌≤◌, ◌⊎◌, inl, inr, Bool, true, false, cond, List, [], ◌∷◌, length, Option, Some, None, Result, Ok, Err, refl, sym, ap, subst, ◌∙◌, arith, length-append}
+use Rattle.std.proofs.Common.{◌++◌, ◌&&◌, not, ◌≡◌, ℕ, ◌≤◌, ◌⊎◌, inl, inr, Bool, true, false, cond, List, [], ◌∷◌, length, Option, Some, None, Result, Ok, Err, refl, sym, ap, subst, ◌∙◌, arith, length-append}
 use Rattle.std.specs.Prelude.{IfOk, IfErr, option_map, unwrap_or, map, is_none}
 use Rattle.std.specs.List.{AllByRecursion, flat_map}
 use Rattle.std.proofs.lemmas.List.Concat.{flat_map-append}
@@ -23,9 +23,9 @@ use Rattle.ts_ext.specs.ValueRules.{IsSound, AreSound}
 use Rattle.ts_crl.specs.Entries.{entries_of}
 use Rattle.ts_crl.specs.Fault.{ListFault, broken, noNextUpdate, criticalCrlExtension, indirect, relativeName, deltaCrl}
 use Rattle.ts_crl.specs.List.{StandingList, CertificateList, said_list}
-use Rattle.ts_crl.specs.Profile.{profile_fault, unprocessed, is_indirect, is_relative, is_delta}
+use Rattle.ts_crl.specs.Profile.{profile_fault, unprocessed, is_indirect, is_relative, is_delta, has_number}
 use Rattle.ts_crl.specs.Reading.{shape_of}
-use Rattle.ts_crl.specs.Rules.{placed_fault}
+use Rattle.ts_crl.specs.Rules.{as_ruled, placed_fault}
 use Rattle.ts_crl.specs.Table.{unless_broken, crl_of}
 use Rattle.ts_crl.proofs.PlacedLaws.{HasOneSound, none-placed}
 use Rattle.ts_make.specs.declared.list_description.EntryText.{EntryText}
@@ -35,14 +35,14 @@ use Rattle.ts_make.specs.declared.fault.MakeFault.TheVariants.{Memory, TooLong, 
 use Rattle.ts_make.specs.Extensions.{extension_octets, sequence, field_of}
 use Rattle.ts_make.specs.Sayable.{IfWritten}
 use Rattle.ts_make.specs.Times.{IsTimeOf}
-use Rattle.ts_make.specs.ListExtensions.{reason_extension, number_extensions, scope_content, null_extension, list_extensions, list_field}
+use Rattle.ts_make.specs.ListExtensions.{reason_extension, number_extensions, base_extensions, scope_content, null_extension, list_extensions, list_field}
 use Rattle.ts_make.specs.ListDescription.{IsListDescribed, IsReadAs}
 use Rattle.ts_make.specs.ListMade.{made_list}
 use Rattle.ts_make.specs.ListMaking.{IsWhole, IsTaken, AnswersList, IsSayableList, AreAllowedInList, IsListRefusal}
 use Rattle.ts_make.proofs.ListSpelled.{entry_said, revoked_said, list-fields-short, list-parts-short}
 use Rattle.ts_make.proofs.ListRefused.{IsOutsideList, list-refused}
 use Rattle.ts_make.proofs.ListAnswered.{in_years, IsListRead, is-list-read, crl-read, placed-none, profile-left, is-described, list-years}
-use Rattle.ts_make.proofs.ListTaken.{profile-is}
+use Rattle.ts_make.proofs.ListTaken.{left_fault, profile-is}
 use Rattle.ts_make.proofs.StandIns.{content-short}
 use Rattle.ts_make.proofs.TooLong.{sequence-within}
 
@@ -76,7 +76,7 @@ none-broken t n text is allowed =
     (ap (λ (c : CertificateList). c.tbsCertList.signature.whole) is.same ∙ sym (ap (λ (c : CertificateList). c.signatureAlgorithm.whole) is.same))
     (subst (λ (c : CertificateList). AllByRecursion HasOneSound (entries_of c)) (sym is.same) (entries-sound is.issued text.entries.now))
     (ap (λ (ys : List Extension). first_repeated (λ x. x.extnID) [] ys) xs ∙ allowed.distinct)
-    (subst (AreSound ListHolder) (sym xs) allowed.sound)
+    (subst (λ (ys : List Extension). AreSound ListHolder (map as_ruled ys)) (sym xs) allowed.sound)
 
 -- no rule of the profile has a place
 chain : (a b c d : Bool) (o : Option (List ℕ)) (f : CertFault)
@@ -100,14 +100,14 @@ either text (inl outside) = inl outside
 either text (inr outside) = inr outside.1
 
 refusal : (t n : List ℕ) (text : CrlText) (fault : CertFault) → IsSayableList text → IsTimeOf t text.this_update → IsTimeOf n text.next_update
-    → length (made_list t n text) ≤ 1048576 → crl_of (made_list t n text) ≡ Err (broken fault) → IsListRefusal text (Unreadable fault)
+    → length (made_list t n text) ≤ 4194304 → crl_of (made_list t n text) ≡ Err (broken fault) → IsListRefusal text (Unreadable fault)
 refusal t n text fault sayable from to le e =
     elim (in_years text) [
       | inl years ↦
           let is = is-list-read t n text sayable from to le years.0 years.1 in
           let l = is.standing in
           let c = said_list l in
-          inr (λ allowed. not-broken l (profile_fault c) fault (chain (is_none c.tbsCertList.nextUpdate) (is_indirect c) (is_relative c) (is_delta c) (unprocessed c) fault) (sym (crl-read (made_list t n text) l is.shape ∙ profile-left l (none-broken t n text is allowed)) ∙ e))
+          inr (λ allowed. not-broken l (profile_fault c) fault (chain (is_none c.tbsCertList.nextUpdate) (is_indirect c) (is_relative c) (is_delta c && not (has_number c)) (unprocessed c) fault) (sym (crl-read (made_list t n text) l is.shape ∙ profile-left l (none-broken t n text is allowed)) ∙ e))
       | inr outside ↦
           let refused = list-refused t n text sayable from to le outside in
           inl (one-fault (crl_of (made_list t n text)) fault (breaks refused.0 (Der TimeForm)) e refused.1, either text outside)
@@ -136,27 +136,34 @@ unfolding list_extensions
 scope-within text =
     let content = scope_content text.uris.now text.reasons.now in
     let numbers = number_extensions text.number in
+    let bases = base_extensions text.base in
     let scope = sequence 28 true content in
     let nulls = map null_extension text.critical.now in
     let within = sequence-within [] 28 true content in
-    let first = ap (λ (o : List ℕ). length o) (flat_map-append extension_octets numbers (scope ++ nulls)) in
-    let second = ap (λ (o : List ℕ). length o) (flat_map-append extension_octets scope nulls) in
-    let one = length-append (flat_map extension_octets numbers) (flat_map extension_octets (scope ++ nulls)) in
-    let two = length-append (flat_map extension_octets scope) (flat_map extension_octets nulls) in
-    let field = field-within (numbers ++ (scope ++ nulls)) in
+    let first = ap (λ (o : List ℕ). length o) (flat_map-append extension_octets numbers (bases ++ (scope ++ nulls))) in
+    let second = ap (λ (o : List ℕ). length o) (flat_map-append extension_octets bases (scope ++ nulls)) in
+    let third = ap (λ (o : List ℕ). length o) (flat_map-append extension_octets scope nulls) in
+    let one = length-append (flat_map extension_octets numbers) (flat_map extension_octets (bases ++ (scope ++ nulls))) in
+    let two = length-append (flat_map extension_octets bases) (flat_map extension_octets (scope ++ nulls)) in
+    let three = length-append (flat_map extension_octets scope) (flat_map extension_octets nulls) in
+    let field = field-within (numbers ++ (bases ++ (scope ++ nulls))) in
     omega arith
 
-critical-read : (l : StandingList) (o : Option (List ℕ)) → unprocessed (said_list l) ≡ o → IsReadAs (unless_broken l (option_map (λ oid. criticalCrlExtension oid) o)) (said_list l)
-critical-read l None e = refl
-critical-read l (Some oid) e = (oid, e, refl)
+left-read : (l : StandingList) (o : Option (List ℕ)) (d n : Bool) → unprocessed (said_list l) ≡ o → is_delta (said_list l) ≡ d → has_number (said_list l) ≡ n
+    → IsReadAs (unless_broken l (option_map (λ oid. criticalCrlExtension oid) o or_else cond (d && not n) (Some deltaCrl) None)) (said_list l)
+left-read l (Some oid) d n e f g = e
+left-read l None true false e f g = (e, f, g)
+left-read l None true true e f g = refl
+left-read l None false n e f g = refl
 
-critical-taken : (l : StandingList) (o : Option (List ℕ)) → IsTaken (unless_broken l (option_map (λ oid. criticalCrlExtension oid) o))
-critical-taken l None = tt
-critical-taken l (Some oid) = (oid, refl)
+left-taken : (l : StandingList) (o : Option (List ℕ)) (d : Bool) → IsTaken (unless_broken l (option_map (λ oid. criticalCrlExtension oid) o or_else cond d (Some deltaCrl) None))
+left-taken l (Some oid) d = tt
+left-taken l None true = tt
+left-taken l None false = tt
 
--- what breaks no rule that has a place is read as the list, or refused for a critical extension
-whole-read : (t n : List ℕ) (text : CrlText) (is : IsListRead t n text) → length (made_list t n text) ≤ 1048576 → IsWhole (crl_of (made_list t n text))
-    → crl_of (made_list t n text) ≡ unless_broken is.standing (option_map (λ oid. criticalCrlExtension oid) (unprocessed (said_list is.standing)))
+-- what breaks no rule that has a place is read as the list, or refused for a critical extension or as a delta without a number
+whole-read : (t n : List ℕ) (text : CrlText) (is : IsListRead t n text) → length (made_list t n text) ≤ 4194304 → IsWhole (crl_of (made_list t n text))
+    → crl_of (made_list t n text) ≡ unless_broken is.standing (left_fault (said_list is.standing))
 whole-read t n text is le w =
     let l = is.standing in
     let read = crl-read (made_list t n text) l is.shape in
@@ -164,15 +171,15 @@ whole-read t n text is le w =
     let parts = list-parts-short t n text le in
     let fields = list-fields-short t n text parts.tbs in
     let scope = scope-within text in
-    let small : length (scope_content text.uris.now text.reasons.now) ≤ 1048576 = omega (arith, fields.extensions) in
-    read ∙ (profile-left l none ∙ ap (λ (o : Option ListFault). unless_broken l o) (profile-is t n text is small none))
+    let small : length (scope_content text.uris.now text.reasons.now) ≤ 4194304 = omega (arith, fields.extensions) in
+    read ∙ (profile-left l none ∙ ap (λ (o : Option ListFault). unless_broken l o) (profile-is t n text is small))
 
 pub answers-made : (r : Result (Vec ℕ Global) MakeFault) (t n : List ℕ) (text : CrlText) → IfWritten r (IsSayableList text) → IsTimeOf t text.this_update → IsTimeOf n text.next_update
     → AnswersList IsWhole r (made_list t n text) → AnswersList IsTaken r (made_list t n text)
 answers-made (Ok v) t n text sayable from to h =
     let years = list-years t n text sayable from to h.1 h.2 in
     let is = is-list-read t n text sayable from to h.1 years.0 years.1 in
-    (h.0, h.1, subst IsTaken (sym (whole-read t n text is h.1 h.2)) (critical-taken is.standing (unprocessed (said_list is.standing))))
+    (h.0, h.1, subst IsTaken (sym (whole-read t n text is h.1 h.2)) (left-taken is.standing (unprocessed (said_list is.standing)) (is_delta (said_list is.standing) && not (has_number (said_list is.standing)))))
 answers-made (Err Memory) t n text sayable from to h = tt
 answers-made (Err TooLong) t n text sayable from to h = h
 answers-made (Err (Unreadable fault)) t n text sayable from to h = h
@@ -187,6 +194,6 @@ answers-described (Ok v) t n text sayable from to h =
       l,
       ap shape_of h.0 ∙ is.shape,
       subst (λ (c : CertificateList). IsListDescribed text c) (sym is.same) (is-described t n text sayable is.issued is.next is.issued_at is.next_at),
-      subst (λ (r : Result CertificateList ListFault). IsReadAs r (said_list l)) (sym (ap crl_of h.0 ∙ whole-read t n text is h.1 h.2)) (critical-read l (unprocessed (said_list l)) refl),
+      subst (λ (r : Result CertificateList ListFault). IsReadAs r (said_list l)) (sym (ap crl_of h.0 ∙ whole-read t n text is h.1 h.2)) (left-read l (unprocessed (said_list l)) (is_delta (said_list l)) (has_number (said_list l)) refl refl refl),
     )
 answers-described (Err e) t n text sayable from to h = tt

@@ -22,7 +22,7 @@ use Rattle.ts_make.specs.Serial.{serial_content}
 use Rattle.ts_make.specs.Description.{rdns_in, stand_in}
 use Rattle.ts_make.specs.Extensions.{extension_octets, field_of, sequence}
 use Rattle.ts_make.specs.Made.{bit_octets, name_octets}
-use Rattle.ts_make.specs.ListExtensions.{reason_extension, number_extensions, scope_content, null_extension, list_extensions, list_field}
+use Rattle.ts_make.specs.ListExtensions.{reason_extension, number_extensions, base_extensions, scope_content, null_extension, list_extensions, list_field}
 use Rattle.ts_make.specs.ListMade.{entry_content, entry_octets, revoked_octets, list_content, list_tbs, made_list}
 use Rattle.ts_make.specs.ListMaking.{AreSerials, IsSayableList}
 use Rattle.ts_make.proofs.StandIns.{content-short, fits-sequence, algorithm-is, bits-are}
@@ -66,7 +66,7 @@ reason-known : (e : EntryText) → AreKnown (reason_extension e.reason ∷ [])
 unfolding is_oid series_of subidentifier
 reason-known e = (refl, tt)
 
-reasons-are : (e : EntryText) → length (spell 0x30 (extension_octets (reason_extension e.reason))) ≤ 1048576
+reasons-are : (e : EntryText) → length (spell 0x30 (extension_octets (reason_extension e.reason))) ≤ 4194304
     → Within 0x30 AreExtensions (spell 0x30 (extension_octets (reason_extension e.reason))) (reason_extension e.reason ∷ [])
 reasons-are e le =
     let x = reason_extension e.reason in
@@ -80,7 +80,7 @@ reasons-are e le =
       value = (λ none. absurd (cc), subst (λ (o : List ℕ). AreItems (Within 0x30 IsExtension) o (x ∷ [])) (append-nil (extension_octets x)) items);
     }
 
-entry-is : (t : List ℕ) (date : Time) (e : EntryText) → IsTime t date → e.serial < 2 ^ 32 → length (entry_octets t e) ≤ 1048576
+entry-is : (t : List ℕ) (date : Time) (e : EntryText) → IsTime t date → e.serial < 2 ^ 32 → length (entry_octets t e) ≤ 4194304
     → Within 0x30 IsRevokedCertificate (entry_octets t e) (entry_said date e)
 unfolding entry_content
 entry-is t date e is high le =
@@ -105,14 +105,14 @@ entry-is t date e is high le =
       };
     }
 
-entries-are : (t : List ℕ) (date : Time) (es : List EntryText) → IsTime t date → AreSerials es → length (flat_map (entry_octets t) es) ≤ 1048576
+entries-are : (t : List ℕ) (date : Time) (es : List EntryText) → IsTime t date → AreSerials es → length (flat_map (entry_octets t) es) ≤ 4194304
     → AreItems (Within 0x30 IsRevokedCertificate) (flat_map (entry_octets t) es) (map (entry_said date) es)
 entries-are t date [] is small le = refl
 entries-are t date (e ∷ es) is small le =
     let both = length-append (entry_octets t e) (flat_map (entry_octets t) es) in
     (entry_octets t e, flat_map (entry_octets t) es, entry-is t date e is small.0 (omega arith), refl, entries-are t date es is small.1 (omega arith))
 
-revoked-is : (t : List ℕ) (date : Time) (es : List EntryText) → IsTime t date → AreSerials es → length (revoked_octets t es) ≤ 1048576
+revoked-is : (t : List ℕ) (date : Time) (es : List EntryText) → IsTime t date → AreSerials es → length (revoked_octets t es) ≤ 4194304
     → IfAny 0x30 AreRevoked (revoked_octets t es) (revoked_said date es)
 unfolding revoked_octets
 revoked-is t date [] is small le = refl
@@ -128,6 +128,11 @@ unfolding is_oid series_of subidentifier
 number-known None = tt
 number-known (Some n) = (refl, tt)
 
+base-known : (n : Option ℕ) → AreKnown (base_extensions n)
+unfolding is_oid series_of subidentifier
+base-known None = tt
+base-known (Some n) = (refl, tt)
+
 nulls-known : (oids : List OidRef) → AreKnown (map null_extension oids)
 nulls-known [] = tt
 nulls-known (oid ∷ oids) = (oid.form, nulls-known oids)
@@ -141,9 +146,10 @@ unfolding list_extensions
 list-known text =
     let scope = sequence 28 true (scope_content text.uris.now text.reasons.now) in
     let nulls = map null_extension text.critical.now in
-    known-append (number_extensions text.number) (scope ++ nulls) (number-known text.number) (known-append scope nulls (scope-known (scope_content text.uris.now text.reasons.now)) (nulls-known text.critical.now))
+    let others = known-append scope nulls (scope-known (scope_content text.uris.now text.reasons.now)) (nulls-known text.critical.now) in
+    known-append (number_extensions text.number) (base_extensions text.base ++ (scope ++ nulls)) (number-known text.number) (known-append (base_extensions text.base) (scope ++ nulls) (base-known text.base) others)
 
-list-field-is : (xs : List Extension) → AreKnown xs → length (list_field xs) ≤ 1048576 → IfAny 0xA0 (Within 0x30 AreExtensions) (list_field xs) (field_of xs)
+list-field-is : (xs : List Extension) → AreKnown xs → length (list_field xs) ≤ 4194304 → IfAny 0xA0 (Within 0x30 AreExtensions) (list_field xs) (field_of xs)
 unfolding list_field
 list-field-is [] known le = refl
 list-field-is (x ∷ xs) known le =
@@ -167,15 +173,15 @@ list-field-is (x ∷ xs) known le =
 
 -- no field of what is signed is longer than all
 pub record ListFieldsShort (t n : List ℕ) (text : CrlText) : Type 0 where
-  pub content : length (list_content t n text) ≤ 1048576
-  pub issuer : length (name_octets text.issuer.now) ≤ 1048576
-  pub issued : length t ≤ 1048576
-  pub next : length n ≤ 1048576
-  pub revoked : length (revoked_octets t text.entries.now) ≤ 1048576
-  pub extensions : length (list_field (list_extensions text)) ≤ 1048576
+  pub content : length (list_content t n text) ≤ 4194304
+  pub issuer : length (name_octets text.issuer.now) ≤ 4194304
+  pub issued : length t ≤ 4194304
+  pub next : length n ≤ 4194304
+  pub revoked : length (revoked_octets t text.entries.now) ≤ 4194304
+  pub extensions : length (list_field (list_extensions text)) ≤ 4194304
 
-parts : (v g i t n r x : List ℕ) → length (v ++ (g ++ (i ++ (t ++ (n ++ (r ++ x)))))) ≤ 1048576
-    → (length i ≤ 1048576) × (length t ≤ 1048576) × (length n ≤ 1048576) × (length r ≤ 1048576) × (length x ≤ 1048576)
+parts : (v g i t n r x : List ℕ) → length (v ++ (g ++ (i ++ (t ++ (n ++ (r ++ x)))))) ≤ 4194304
+    → (length i ≤ 4194304) × (length t ≤ 4194304) × (length n ≤ 4194304) × (length r ≤ 4194304) × (length x ≤ 4194304)
 parts v g i t n r x le =
     let e1 = length-append v (g ++ (i ++ (t ++ (n ++ (r ++ x))))) in
     let e2 = length-append g (i ++ (t ++ (n ++ (r ++ x)))) in
@@ -185,15 +191,15 @@ parts v g i t n r x le =
     let e6 = length-append r x in
     (omega arith, omega arith, omega arith, omega arith, omega arith)
 
-pub list-fields-short : (t n : List ℕ) (text : CrlText) → length (list_tbs t n text) ≤ 1048576 → ListFieldsShort t n text
+pub list-fields-short : (t n : List ℕ) (text : CrlText) → length (list_tbs t n text) ≤ 4194304 → ListFieldsShort t n text
 unfolding list_tbs list_content
 list-fields-short t n text le =
     let within = content-short 0x30 (list_content t n text) in
-    let all : length (list_content t n text) ≤ 1048576 = omega arith in
+    let all : length (list_content t n text) ≤ 4194304 = omega arith in
     let p = parts (version_octets V2) algorithm_identifier (name_octets text.issuer.now) t n (revoked_octets t text.entries.now) (list_field (list_extensions text)) all in
     record { content = all; issuer = p.0; issued = p.1; next = p.2; revoked = p.3; extensions = p.4 }
 
-list-tbs-is : (t n : List ℕ) (issued next : Time) (text : CrlText) → IsSayableList text → IsTime t issued → IsTime n next → length (list_tbs t n text) ≤ 1048576
+list-tbs-is : (t n : List ℕ) (issued next : Time) (text : CrlText) → IsSayableList text → IsTime t issued → IsTime n next → length (list_tbs t n text) ≤ 4194304
     → Within 0x30 IsTbsCertList (list_tbs t n text) (list_tbs_said issued next text)
 unfolding list_tbs list_content
 list-tbs-is t n issued next text sayable from to le =
@@ -221,11 +227,11 @@ list-tbs-is t n issued next text sayable from to le =
 
 -- what is signed is no longer than the list, nor is the signature
 pub record ListPartsShort (t n : List ℕ) (text : CrlText) : Type 0 where
-  pub content : length (list_tbs t n text ++ (algorithm_identifier ++ bit_octets (sha256 (text.signer.now ++ list_tbs t n text)))) ≤ 1048576
-  pub tbs : length (list_tbs t n text) ≤ 1048576
-  pub signature : length (bit_octets (sha256 (text.signer.now ++ list_tbs t n text))) ≤ 1048576
+  pub content : length (list_tbs t n text ++ (algorithm_identifier ++ bit_octets (sha256 (text.signer.now ++ list_tbs t n text)))) ≤ 4194304
+  pub tbs : length (list_tbs t n text) ≤ 4194304
+  pub signature : length (bit_octets (sha256 (text.signer.now ++ list_tbs t n text))) ≤ 4194304
 
-pub list-parts-short : (t n : List ℕ) (text : CrlText) → length (made_list t n text) ≤ 1048576 → ListPartsShort t n text
+pub list-parts-short : (t n : List ℕ) (text : CrlText) → length (made_list t n text) ≤ 4194304 → ListPartsShort t n text
 unfolding made_list
 list-parts-short t n text le =
     let tbs = list_tbs t n text in
@@ -236,7 +242,7 @@ list-parts-short t n text le =
     let e2 = length-append algorithm_identifier bits in
     record { content = omega arith; tbs = omega arith; signature = omega arith }
 
-pub list-signed-is : (t n : List ℕ) (issued next : Time) (text : CrlText) → IsSayableList text → IsTime t issued → IsTime n next → length (made_list t n text) ≤ 1048576
+pub list-signed-is : (t n : List ℕ) (issued next : Time) (text : CrlText) → IsSayableList text → IsTime t issued → IsTime n next → length (made_list t n text) ≤ 4194304
     → Within 0x30 IsSigned (made_list t n text) (list_said t n issued next text)
 unfolding made_list
 list-signed-is t n issued next text sayable from to le =

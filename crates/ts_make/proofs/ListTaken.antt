@@ -1,7 +1,7 @@
--- What is made and breaks no rule that has a place is read, or refused for a critical extension.
-use Rattle.std.proofs.Common.{◌≡◌, ℕ, ◌+◌, get_or, ◌≤◌, Bool, true, false, cond, List, [], ◌∷◌, ◌++◌, length, Option, Some, None, Result, Ok, Err, refl, sym, ap, subst, ◌∙◌, arith}
+-- What is made and breaks no rule that has a place is read, or refused for a critical extension or as a delta without a number.
+use Rattle.std.proofs.Common.{◌≡◌, ℕ, ◌+◌, ◌&&◌, not, ◌≤◌, Bool, true, false, cond, List, [], ◌∷◌, ◌++◌, length, Option, Some, None, Result, Ok, Err, refl, sym, ap, subst, ◌∙◌, arith}
 use Rattle.std.specs.Prelude.{map, unwrap_or, option_map, is_none}
-use Rattle.std.specs.List.{AllByRecursion, find, list_any}
+use Rattle.std.specs.List.{find, list_any}
 use Rattle.std.specs.Str.{bytes_eq}
 use Rattle.std.proofs.lemmas.Slice.Eq.{bytes_eq-Decides}
 use Rattle.std.proofs.lemmas.List.{append-nil}
@@ -21,25 +21,24 @@ use Rattle.ts_ext.specs.Extension.{Extension}
 use Rattle.ts_ext.specs.Known.{known_at, list_extension, identifier_of}
 use Rattle.ts_ext.specs.Points.{ListScope, issuing_point_of}
 use Rattle.ts_crl.specs.Entries.{entries_of}
-use Rattle.ts_crl.specs.Fault.{noNextUpdate, criticalCrlExtension, indirect, relativeName, deltaCrl}
+use Rattle.ts_crl.specs.Fault.{ListFault, noNextUpdate, criticalCrlExtension, indirect, relativeName, deltaCrl}
 use Rattle.ts_crl.specs.List.{CertificateList, said_list}
-use Rattle.ts_crl.specs.Profile.{profile_fault, unprocessed, is_indirect, is_relative, is_delta, is_relative_name, as_scope, scope_of, scope_meets, names_issuer}
-use Rattle.ts_crl.specs.Rules.{placed_fault}
+use Rattle.ts_crl.specs.Profile.{profile_fault, unprocessed, is_indirect, is_relative, is_delta, has_number, is_relative_name, as_scope, scope_of, scope_meets, names_issuer}
 use Rattle.ts_crl.specs.Values.{is_known, extensions_of, ok_of, value_in_octets, value_if_any, value_among}
 use Rattle.ts_make.specs.declared.list_description.EntryText.{EntryText}
 use Rattle.ts_make.specs.declared.list_description.CrlText.{CrlText}
-use Rattle.ts_make.specs.Extensions.{id_ce, field_of, sequence}
-use Rattle.ts_make.specs.ListExtensions.{number_extensions, full_name, some_reasons, scope_content, null_extension, list_extensions}
+use Rattle.ts_make.specs.Extensions.{field_of, sequence}
+use Rattle.ts_make.specs.ListExtensions.{number_extensions, base_extensions, full_name, some_reasons, scope_content, null_extension, list_extensions}
 use Rattle.ts_make.proofs.ListSpelled.{entry_said, revoked_said}
 use Rattle.ts_make.proofs.ListAnswered.{IsListRead}
-use Rattle.ts_make.proofs.ListProfile.{NullIfDelta, not-delta, IsPlain, scope-read}
+use Rattle.ts_make.proofs.ListProfile.{IsPlain, scope-read}
 
 -- a scope, where one is stated, is of the list's issuer, and its name is not relative
 abbrev pub IsPlainScope : Option ListScope → Type 0
 IsPlainScope None = Unit {0}
 IsPlainScope (Some p) = (p.indirectCRL ≡ false) × (is_relative_name p.distributionPoint ≡ false)
 
-pub scope-value : (content : List ℕ) → length content ≤ 1048576 → ((e : Tlv) → e.content ≡ content → IsPlain (issuing_point_of e))
+pub scope-value : (content : List ℕ) → length content ≤ 4194304 → ((e : Tlv) → e.content ≡ content → IsPlain (issuing_point_of e))
     → IsPlainScope (as_scope (value_in_octets (Some IssuingDistributionPoint) (spell 0x30 content)))
 unfolding value_in_octets ext_of alone each of_tag tagged_as
 scope-value content le plain =
@@ -82,48 +81,23 @@ plain-number : (n : Option ℕ) (ys : List Extension) → IsPlainScope (as_scope
 plain-number None ys plain = plain
 plain-number (Some n) ys plain = plain
 
-plain-sequence : (content : List ℕ) (ys : List Extension) → length content ≤ 1048576 → ((e : Tlv) → e.content ≡ content → IsPlain (issuing_point_of e)) → IsPlainScope (as_scope (value_among ListHolder IssuingDistributionPoint ys))
+plain-base : (n : Option ℕ) (ys : List Extension) → IsPlainScope (as_scope (value_among ListHolder IssuingDistributionPoint ys)) → IsPlainScope (as_scope (value_among ListHolder IssuingDistributionPoint (base_extensions n ++ ys)))
+plain-base None ys plain = plain
+plain-base (Some n) ys plain = plain
+
+plain-sequence : (content : List ℕ) (ys : List Extension) → length content ≤ 4194304 → ((e : Tlv) → e.content ≡ content → IsPlain (issuing_point_of e)) → IsPlainScope (as_scope (value_among ListHolder IssuingDistributionPoint ys))
     → IsPlainScope (as_scope (value_among ListHolder IssuingDistributionPoint (sequence 28 true content ++ ys)))
 unfolding known_at list_extension
 plain-sequence [] ys le read plain = plain
 plain-sequence (octet ∷ content) ys le read plain = scope-value (octet ∷ content) le read
 
-pub plain-scope : (text : CrlText) → length (scope_content text.uris.now text.reasons.now) ≤ 1048576 → IsPlainScope (as_scope (value_among ListHolder IssuingDistributionPoint (list_extensions text)))
+pub plain-scope : (text : CrlText) → length (scope_content text.uris.now text.reasons.now) ≤ 4194304 → IsPlainScope (as_scope (value_among ListHolder IssuingDistributionPoint (list_extensions text)))
 unfolding list_extensions scope_content
 plain-scope text le =
     let content = full_name text.uris.now ++ some_reasons text.reasons.now in
     let nulls = map null_extension text.critical.now in
-    plain-number text.number (sequence 28 true content ++ nulls) (plain-sequence content nulls le (λ e is. scope-read e text.uris.now text.reasons.now le is) (plain-nulls text.critical.now))
-
--- no extension of what is made states changes
-null-nulls : (oids : List OidRef) → AllByRecursion NullIfDelta (map null_extension oids)
-null-nulls [] = tt
-null-nulls (oid ∷ oids) = (λ e. refl, null-nulls oids)
-
--- two arcs of id-ce
-one-arc : (a b : ℕ) → id_ce a ≡ id_ce b → a ≡ b
-one-arc a b e = ap (λ (o : List ℕ). get_or o 2 0) e
-
-not-scope : {A : Type 0} → id_ce 28 ≡ id_ce 27 → A
-not-scope e = let same = one-arc 28 27 e in absurd (omega arith)
-
-not-number : {A : Type 0} → id_ce 20 ≡ id_ce 27 → A
-not-number e = let same = one-arc 20 27 e in absurd (omega arith)
-
-null-sequence : (content : List ℕ) (ys : List Extension) → AllByRecursion NullIfDelta ys → AllByRecursion NullIfDelta (sequence 28 true content ++ ys)
-null-sequence [] ys nulls = nulls
-null-sequence (octet ∷ content) ys nulls = (λ e. not-scope e, nulls)
-
-null-number : (n : Option ℕ) (ys : List Extension) → AllByRecursion NullIfDelta ys → AllByRecursion NullIfDelta (number_extensions n ++ ys)
-null-number None ys nulls = nulls
-null-number (Some n) ys nulls = (λ e. not-number e, nulls)
-
-null-deltas : (text : CrlText) → AllByRecursion NullIfDelta (list_extensions text)
-unfolding list_extensions
-null-deltas text =
-    let nulls = map null_extension text.critical.now in
-    let content = scope_content text.uris.now text.reasons.now in
-    null-number text.number (sequence 28 true content ++ nulls) (null-sequence content nulls (null-nulls text.critical.now))
+    plain-number text.number (base_extensions text.base ++ (sequence 28 true content ++ nulls))
+    (plain-base text.base (sequence 28 true content ++ nulls) (plain-sequence content nulls le (λ e is. scope-read e text.uris.now text.reasons.now le is) (plain-nulls text.critical.now)))
 
 -- no entry names another issuer
 no-issuer : (date : Time) (es : List EntryText) → list_any names_issuer (map (entry_said date) es) ≡ false
@@ -138,34 +112,34 @@ meets : (o : Option ListScope) → IsPlainScope o → (scope_meets (λ p. p.indi
 meets None plain = (refl, refl)
 meets (Some p) plain = plain
 
--- the rules of the profile
-pub only-critical : (c : CertificateList) → is_none c.tbsCertList.nextUpdate ≡ false → list_any names_issuer (entries_of c) ≡ false → IsPlainScope (scope_of c) → is_delta c ≡ false
-    → profile_fault c ≡ option_map (λ oid. criticalCrlExtension oid) (unprocessed c)
-only-critical c next issuers plain delta =
+-- the rules of the profile that may be broken
+abbrev pub left_fault : CertificateList → Option ListFault
+left_fault c = option_map (λ oid. criticalCrlExtension oid) (unprocessed c) or_else cond (is_delta c && not (has_number c)) (Some deltaCrl) None
+
+pub only-left : (c : CertificateList) → is_none c.tbsCertList.nextUpdate ≡ false → list_any names_issuer (entries_of c) ≡ false → IsPlainScope (scope_of c) → profile_fault c ≡ left_fault c
+only-left c next issuers plain =
     let m = meets (scope_of c) plain in
     let not_indirect : is_indirect c ≡ false = rw (m.0, issuers) refl in
-    chain (is_none c.tbsCertList.nextUpdate) (is_indirect c) (is_relative c) (is_delta c) (unprocessed c) next not_indirect m.1 delta
+    chain (is_none c.tbsCertList.nextUpdate) (is_indirect c) (is_relative c) (is_delta c && not (has_number c)) (unprocessed c) next not_indirect m.1
   where
-    chain : (a b r d : Bool) (o : Option (List ℕ)) → a ≡ false → b ≡ false → r ≡ false → d ≡ false
-        → ((cond a (Some noNextUpdate) None) or_else option_map (λ oid. criticalCrlExtension oid) o or_else (cond b (Some indirect) None) or_else (cond r (Some relativeName) None) or_else (cond d (Some deltaCrl) None)) ≡ option_map (λ oid. criticalCrlExtension oid) o
-    chain false false false false None e f g h = refl
-    chain false false false false (Some oid) e f g h = refl
-    chain true b r d o e f g h = absurd cc
-    chain false true r d o e f g h = absurd cc
-    chain false false true d o e f g h = absurd cc
-    chain false false false true o e f g h = absurd cc
+    chain : (a b r d : Bool) (o : Option (List ℕ)) → a ≡ false → b ≡ false → r ≡ false
+        → ((cond a (Some noNextUpdate) None) or_else option_map (λ oid. criticalCrlExtension oid) o or_else (cond b (Some indirect) None) or_else (cond r (Some relativeName) None) or_else (cond d (Some deltaCrl) None)) ≡ (option_map (λ oid. criticalCrlExtension oid) o or_else cond d (Some deltaCrl) None)
+    chain false false false d None e f g = refl
+    chain false false false d (Some oid) e f g = refl
+    chain true b r d o e f g = absurd cc
+    chain false true r d o e f g = absurd cc
+    chain false false true d o e f g = absurd cc
 
 field-list : (xs : List Extension) → unwrap_or (field_of xs) [] ≡ xs
 field-list [] = refl
 field-list (x ∷ xs) = refl
 
-pub profile-is : (t n : List ℕ) (text : CrlText) (is : IsListRead t n text) → length (scope_content text.uris.now text.reasons.now) ≤ 1048576 → placed_fault is.standing ≡ None
-    → profile_fault (said_list is.standing) ≡ option_map (λ oid. criticalCrlExtension oid) (unprocessed (said_list is.standing))
-profile-is t n text is le none =
+pub profile-is : (t n : List ℕ) (text : CrlText) (is : IsListRead t n text) → length (scope_content text.uris.now text.reasons.now) ≤ 4194304
+    → profile_fault (said_list is.standing) ≡ left_fault (said_list is.standing)
+profile-is t n text is le =
     let l = is.standing in
     let xs : extensions_of (said_list l) ≡ list_extensions text = ap (λ (c : CertificateList). extensions_of c) is.same ∙ field-list (list_extensions text) in
-    only-critical (said_list l)
+    only-left (said_list l)
     (ap (λ (c : CertificateList). is_none c.tbsCertList.nextUpdate) is.same)
     (ap (λ (c : CertificateList). list_any names_issuer (entries_of c)) is.same ∙ no-issuers is.issued text.entries.now)
     (subst (λ (ys : List Extension). IsPlainScope (as_scope (value_among ListHolder IssuingDistributionPoint ys))) (sym xs) (plain-scope text le))
-    (not-delta l none (subst (AllByRecursion NullIfDelta) (sym xs) (null-deltas text)))

@@ -32,7 +32,7 @@ text-is : (text : List ℕ) → IsUtf8 text → first_broken (text_rules 0x0C) t
 text-is text is = rw (is_utf8-from_IsUtf8 text is) refl
 
 -- a relative distinguished name of one attribute
-rdn-is : (r : RdnText) → IsUtf8 r.text.now → length (spelled_rdn (rdn_in r)) ≤ 1048576 → IsRdn (rdn_in r) × Fits 0x31 (rdn_content (rdn_in r))
+rdn-is : (r : RdnText) → IsUtf8 r.text.now → length (spelled_rdn (rdn_in r)) ≤ 4194304 → IsRdn (rdn_in r) × Fits 0x31 (rdn_content (rdn_in r))
 unfolding rdn_content attribute_content
 rdn-is r text le =
     let kind = kind_octets r.kind in
@@ -54,14 +54,14 @@ rdn-is r text le =
       record { octet = omega arith; low = omega arith; short = omega arith },
     )
 
-each-is : (rdns : List RdnText) → AreTexts rdns → length (flat_map spelled_rdn (rdns_in rdns)) ≤ 1048576 → AllByRecursion (λ r. IsRdn r × Fits 0x31 (rdn_content r)) (rdns_in rdns)
+each-is : (rdns : List RdnText) → AreTexts rdns → length (flat_map spelled_rdn (rdns_in rdns)) ≤ 4194304 → AllByRecursion (λ r. IsRdn r × Fits 0x31 (rdn_content r)) (rdns_in rdns)
 each-is [] texts le = tt
 each-is (r ∷ rdns) texts le =
     let both = length-append (spelled_rdn (rdn_in r)) (flat_map spelled_rdn (rdns_in rdns)) in
     (rdn-is r texts.0 (omega arith), each-is rdns texts.1 (omega arith))
 
 -- a name
-pub name-is : (rdns : List RdnText) → AreTexts rdns → length (name_octets rdns) ≤ 1048576 → Within 0x30 IsName (name_octets rdns) (rdns_in rdns)
+pub name-is : (rdns : List RdnText) → AreTexts rdns → length (name_octets rdns) ≤ 4194304 → Within 0x30 IsName (name_octets rdns) (rdns_in rdns)
 unfolding name_octets
 name-is rdns texts le =
     let content = flat_map spelled_rdn (rdns_in rdns) in

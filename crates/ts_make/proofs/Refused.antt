@@ -88,7 +88,7 @@ outside-is octets m is outside = is.outside (λ utc. outside (IsInYears-wider 19
 abbrev pub IsOutside : CertText → Type 0
 IsOutside text = (IsInYears 0 9999 text.from → ⊥) ⊎ (IsInYears 0 9999 text.from × (IsInYears 0 9999 text.to → ⊥))
 
-validity-refused : (b a : List ℕ) (text : CertText) (e : Tlv) → IsTimeOf b text.from → IsTimeOf a text.to → length b ≤ 1048576 → IsOutside text → e.content ≡ b ++ a → BreaksOff (validity_of e)
+validity-refused : (b a : List ℕ) (text : CertText) (e : Tlv) → IsTimeOf b text.from → IsTimeOf a text.to → length b ≤ 4194304 → IsOutside text → e.content ≡ b ++ a → BreaksOff (validity_of e)
 validity-refused b a text e from to le (inl outside) whole = first-refused e a (whole ∙ ap (λ (o : List ℕ). o ++ a) (outside-is b text.from from outside))
 validity-refused b a text e from to le (inr outside) whole =
     let t = time-said b text.from from outside.0 le in
@@ -100,7 +100,7 @@ validity-refused b a text e from to le (inr outside) whole =
 abbrev pub IsRefused : {A : Type 0} → Result A CertFault → Type 0
 IsRefused {A} reading = (at : ℕ) × (reading ≡ Err (breaks at (Der TimeRule)))
 
-tbs-refused : (b a : List ℕ) (text : CertText) (e : Tlv) → IsSayable text → IsTimeOf b text.from → IsTimeOf a text.to → length (tbs_octets b a text) ≤ 1048576 → IsOutside text
+tbs-refused : (b a : List ℕ) (text : CertText) (e : Tlv) → IsSayable text → IsTimeOf b text.from → IsTimeOf a text.to → length (tbs_octets b a text) ≤ 4194304 → IsOutside text
     → e.content ≡ tbs_content b a text → IsRefused (tbs_of e)
 unfolding tbs_of tbs_content validity_at within
 tbs-refused b a text e sayable from to le outside whole =
@@ -123,7 +123,7 @@ tbs-refused b a text e sayable from to le outside whole =
     let period = validity-refused b a text (spelled_at p4.at 0x30 (b ++ a)) from to short.before outside refl in
     (period.0, rw (v, s, g, i, outer, period.1) refl)
 
-signed-refused : (b a : List ℕ) (text : CertText) (e : Tlv) (rest : List ℕ) → IsSayable text → IsTimeOf b text.from → IsTimeOf a text.to → length (tbs_octets b a text) ≤ 1048576 → IsOutside text
+signed-refused : (b a : List ℕ) (text : CertText) (e : Tlv) (rest : List ℕ) → IsSayable text → IsTimeOf b text.from → IsTimeOf a text.to → length (tbs_octets b a text) ≤ 4194304 → IsOutside text
     → e.content ≡ tbs_octets b a text ++ rest → IsRefused (signed_of e)
 unfolding signed_of tbs_octets
 signed-refused b a text e rest sayable from to le outside whole =

@@ -46,7 +46,7 @@ pub record IsSaidAt (octets : List ℕ) (moment : ℤ) : Type 0 where
   pub is : IsTime octets time
   pub says : Says time moment
 
-pub time-said : (octets : List ℕ) (moment : ℤ) → IsTimeOf octets moment → IsInYears 0 9999 moment → length octets ≤ 1048576 → IsSaidAt octets moment
+pub time-said : (octets : List ℕ) (moment : ℤ) → IsTimeOf octets moment → IsInYears 0 9999 moment → length octets ≤ 4194304 → IsSaidAt octets moment
 time-said octets moment is years le =
     elim (in_years_or_not 1950 2049 moment) [
       | inl utc ↦

@@ -35,9 +35,9 @@ nulls-same (x ∷ xs) (y ∷ ys) e =
     rw (first, rest) refl
 
 pub made_list-same : (this next : List ℕ) (t u : CrlText) → rdns_in t.issuer.now ≡ rdns_in u.issuer.now → t.this_update ≡ u.this_update
-    → t.next_update ≡ u.next_update → t.signer.now ≡ u.signer.now → t.entries.now ≡ u.entries.now → t.number ≡ u.number
+    → t.next_update ≡ u.next_update → t.signer.now ≡ u.signer.now → t.entries.now ≡ u.entries.now → t.number ≡ u.number → t.base ≡ u.base
     → t.reasons.now ≡ u.reasons.now → map (λ uri. uri.now) t.uris.now ≡ map (λ uri. uri.now) u.uris.now
     → map (λ oid. oid.content.now) t.critical.now ≡ map (λ oid. oid.content.now) u.critical.now → made_list this next t ≡ made_list this next u
 unfolding made_list list_tbs list_content name_octets list_extensions scope_content
-made_list-same this next t u issuer from to signer entries number reasons uris critical =
-    rw (issuer, signer, entries, number, reasons, name-same t.uris.now u.uris.now uris, nulls-same t.critical.now u.critical.now critical) refl
+made_list-same this next t u issuer from to signer entries number base reasons uris critical =
+    rw (issuer, signer, entries, number, base, reasons, name-same t.uris.now u.uris.now uris, nulls-same t.critical.now u.critical.now critical) refl

@@ -48,7 +48,7 @@ serial-is n high =
     ]
 
 -- it is spelled so
-pub serial-spelled : (n : ℕ) → n < 2 ^ 32 → length (spell 0x02 (serial_content n)) ≤ 1048576 → Within 0x02 IsInteger (spell 0x02 (serial_content n)) (serial_content n)
+pub serial-spelled : (n : ℕ) → n < 2 ^ 32 → length (spell 0x02 (serial_content n)) ≤ 4194304 → Within 0x02 IsInteger (spell 0x02 (serial_content n)) (serial_content n)
 serial-spelled n high le =
     let short = content-short 0x02 (serial_content n) in
     let is = serial-is n high in

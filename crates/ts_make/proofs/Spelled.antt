@@ -20,19 +20,19 @@ use Rattle.ts_make.proofs.Said.{tbs_said, said}
 
 -- no field of what is signed is longer than all
 pub record FieldsShort (b a : List ℕ) (text : CertText) : Type 0 where
-  pub content : length (tbs_content b a text) ≤ 1048576
-  pub serial : length (spell 0x02 (serial_content text.serial)) ≤ 1048576
-  pub issuer : length (name_octets text.issuer.now) ≤ 1048576
-  pub period : length (spell 0x30 (b ++ a)) ≤ 1048576
-  pub times : length (b ++ a) ≤ 1048576
-  pub before : length b ≤ 1048576
-  pub after : length a ≤ 1048576
-  pub subject : length (name_octets text.subject.now) ≤ 1048576
-  pub key : length (key_octets text.key.now) ≤ 1048576
-  pub extensions : length (field_octets (described_extensions text.extensions.now)) ≤ 1048576
+  pub content : length (tbs_content b a text) ≤ 4194304
+  pub serial : length (spell 0x02 (serial_content text.serial)) ≤ 4194304
+  pub issuer : length (name_octets text.issuer.now) ≤ 4194304
+  pub period : length (spell 0x30 (b ++ a)) ≤ 4194304
+  pub times : length (b ++ a) ≤ 4194304
+  pub before : length b ≤ 4194304
+  pub after : length a ≤ 4194304
+  pub subject : length (name_octets text.subject.now) ≤ 4194304
+  pub key : length (key_octets text.key.now) ≤ 4194304
+  pub extensions : length (field_octets (described_extensions text.extensions.now)) ≤ 4194304
 
-parts : (v s g i p u k x : List ℕ) → length (v ++ (s ++ (g ++ (i ++ (p ++ (u ++ (k ++ x))))))) ≤ 1048576
-    → (length s ≤ 1048576) × (length i ≤ 1048576) × (length p ≤ 1048576) × (length u ≤ 1048576) × (length k ≤ 1048576) × (length x ≤ 1048576)
+parts : (v s g i p u k x : List ℕ) → length (v ++ (s ++ (g ++ (i ++ (p ++ (u ++ (k ++ x))))))) ≤ 4194304
+    → (length s ≤ 4194304) × (length i ≤ 4194304) × (length p ≤ 4194304) × (length u ≤ 4194304) × (length k ≤ 4194304) × (length x ≤ 4194304)
 parts v s g i p u k x le =
     let e1 = length-append v (s ++ (g ++ (i ++ (p ++ (u ++ (k ++ x)))))) in
     let e2 = length-append s (g ++ (i ++ (p ++ (u ++ (k ++ x))))) in
@@ -43,11 +43,11 @@ parts v s g i p u k x le =
     let e7 = length-append k x in
     (omega arith, omega arith, omega arith, omega arith, omega arith, omega arith)
 
-pub fields-short : (b a : List ℕ) (text : CertText) → length (tbs_octets b a text) ≤ 1048576 → FieldsShort b a text
+pub fields-short : (b a : List ℕ) (text : CertText) → length (tbs_octets b a text) ≤ 4194304 → FieldsShort b a text
 unfolding tbs_octets tbs_content
 fields-short b a text le =
     let within = content-short 0x30 (tbs_content b a text) in
-    let all : length (tbs_content b a text) ≤ 1048576 = omega arith in
+    let all : length (tbs_content b a text) ≤ 4194304 = omega arith in
     let p = parts (version_octets V3) (spell 0x02 (serial_content text.serial)) algorithm_identifier (name_octets text.issuer.now) (spell 0x30 (b ++ a)) (name_octets text.subject.now) (key_octets text.key.now) (field_octets (described_extensions text.extensions.now)) all in
     let times = content-short 0x30 (b ++ a) in
     let both = length-append b a in
@@ -64,7 +64,7 @@ fields-short b a text le =
       extensions = p.5;
     }
 
-tbs-is : (b a : List ℕ) (before after : Time) (text : CertText) → IsSayable text → IsTime b before → IsTime a after → length (tbs_octets b a text) ≤ 1048576
+tbs-is : (b a : List ℕ) (before after : Time) (text : CertText) → IsSayable text → IsTime b before → IsTime a after → length (tbs_octets b a text) ≤ 4194304
     → Within 0x30 IsTbs (tbs_octets b a text) (tbs_said before after text)
 unfolding tbs_octets tbs_content
 tbs-is b a before after text sayable from to le =
@@ -103,11 +103,11 @@ tbs-is b a before after text sayable from to le =
 
 -- what is signed is no longer than the certificate, nor is the signature
 pub record PartsShort (b a : List ℕ) (text : CertText) : Type 0 where
-  pub content : length (tbs_octets b a text ++ (algorithm_identifier ++ bit_octets (sha256 (text.signer.now ++ tbs_octets b a text)))) ≤ 1048576
-  pub tbs : length (tbs_octets b a text) ≤ 1048576
-  pub signature : length (bit_octets (sha256 (text.signer.now ++ tbs_octets b a text))) ≤ 1048576
+  pub content : length (tbs_octets b a text ++ (algorithm_identifier ++ bit_octets (sha256 (text.signer.now ++ tbs_octets b a text)))) ≤ 4194304
+  pub tbs : length (tbs_octets b a text) ≤ 4194304
+  pub signature : length (bit_octets (sha256 (text.signer.now ++ tbs_octets b a text))) ≤ 4194304
 
-pub parts-short : (b a : List ℕ) (text : CertText) → length (made b a text) ≤ 1048576 → PartsShort b a text
+pub parts-short : (b a : List ℕ) (text : CertText) → length (made b a text) ≤ 4194304 → PartsShort b a text
 unfolding made
 parts-short b a text le =
     let tbs = tbs_octets b a text in
@@ -118,7 +118,7 @@ parts-short b a text le =
     let e2 = length-append algorithm_identifier bits in
     record { content = omega arith; tbs = omega arith; signature = omega arith }
 
-pub signed-is : (b a : List ℕ) (before after : Time) (text : CertText) → IsSayable text → IsTime b before → IsTime a after → length (made b a text) ≤ 1048576
+pub signed-is : (b a : List ℕ) (before after : Time) (text : CertText) → IsSayable text → IsTime b before → IsTime a after → length (made b a text) ≤ 4194304
     → Within 0x30 IsSigned (made b a text) (said b a before after text)
 unfolding made
 signed-is b a before after text sayable from to le =

@@ -10,10 +10,10 @@ use Rattle.ts_make.specs.Description.{stand_in}
 use Rattle.ts_make.specs.Made.{bit_octets, key_octets}
 
 -- what is no longer than a certificate may be has a spelling
-pub fits-sequence : (content : List ℕ) → length content ≤ 1048576 → Fits 0x30 content
+pub fits-sequence : (content : List ℕ) → length content ≤ 4194304 → Fits 0x30 content
 fits-sequence content le = record { octet = omega arith; low = omega arith; short = omega arith }
 
-pub fits-bits : (content : List ℕ) → length content ≤ 1048576 → Fits 0x03 content
+pub fits-bits : (content : List ℕ) → length content ≤ 4194304 → Fits 0x03 content
 fits-bits content le = record { octet = omega arith; low = omega arith; short = omega arith }
 
 -- the content of an element is shorter than the element
@@ -53,13 +53,13 @@ algorithm-is =
     }
 
 -- a BIT STRING of whole octets
-pub bits-are : (bits : List ℕ) → length (bit_octets bits) ≤ 1048576 → Within 0x03 IsBits (bit_octets bits) bits
+pub bits-are : (bits : List ℕ) → length (bit_octets bits) ≤ 4194304 → Within 0x03 IsBits (bit_octets bits) bits
 bits-are bits le =
     let short = content-short 0x03 (0 ∷ bits) in
     record { content = 0 ∷ bits; fits = fits-bits (0 ∷ bits) (omega arith); spelled = refl; value = refl }
 
 -- a key of the stand-in's algorithm
-pub key-is : (key : List ℕ) → length (key_octets key) ≤ 1048576 → Within 0x30 IsKeyInfo (key_octets key) (record { algorithm = stand_in; subjectPublicKey = key })
+pub key-is : (key : List ℕ) → length (key_octets key) ≤ 4194304 → Within 0x30 IsKeyInfo (key_octets key) (record { algorithm = stand_in; subjectPublicKey = key })
 unfolding key_octets
 key-is key le =
     let content = algorithm_identifier ++ bit_octets key in

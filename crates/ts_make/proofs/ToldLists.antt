@@ -25,7 +25,7 @@ items-append Spells a b (x ∷ xs) ys first second =
 
 -- where each part puts its items into a list, the list is all of them
 pub told-items : {A : Type 0} (Spells : List ℕ → A → Type 0) (f : ExtensionText → List ℕ) (g : ExtensionText → List A) (P : ExtensionText → Type 0)
-    → ((t : ExtensionText) → P t → length (f t) ≤ 1048576 → AreItems Spells (f t) (g t)) → (texts : List ExtensionText) → AllByRecursion P texts → length (flat_map f texts) ≤ 1048576
+    → ((t : ExtensionText) → P t → length (f t) ≤ 4194304 → AreItems Spells (f t) (g t)) → (texts : List ExtensionText) → AllByRecursion P texts → length (flat_map f texts) ≤ 4194304
     → AreItems Spells (flat_map f texts) (flat_map g texts)
 told-items Spells f g P each [] all le = refl
 told-items Spells f g P each (t ∷ texts) all le =
@@ -44,12 +44,12 @@ one-item Spells octets x is = (octets, [], is, sym (append-nil octets), refl)
 -- ---- object identifiers
 
 -- an element of an object identifier
-pub oid-is : (oid : List ℕ) → is_oid oid ≡ true → length (spell 0x06 oid) ≤ 1048576 → Within 0x06 IsOid (spell 0x06 oid) oid
+pub oid-is : (oid : List ℕ) → is_oid oid ≡ true → length (spell 0x06 oid) ≤ 4194304 → Within 0x06 IsOid (spell 0x06 oid) oid
 oid-is oid is le =
     let short = content-short 0x06 oid in
     record { content = oid; fits = record { octet = omega arith; low = omega arith; short = omega arith }; spelled = refl; value = (refl, is) }
 
-policy-part : (t : ExtensionText) → Unit {0} → length (item items.Policies t) ≤ 1048576 → AreItems (Within 0x30 IsPolicyInformation) (item items.Policies t) (policy t)
+policy-part : (t : ExtensionText) → Unit {0} → length (item items.Policies t) ≤ 4194304 → AreItems (Within 0x30 IsPolicyInformation) (item items.Policies t) (policy t)
 policy-part (part.Policy oid) any le =
     let id = spell 0x06 oid.content.now in
     let short = content-short 0x30 id in
@@ -62,7 +62,7 @@ policy-part (part.Policy oid) any le =
     })
 policy-part other any le = refl
 
-mapping-part : (t : ExtensionText) → Unit {0} → length (item items.PolicyMappings t) ≤ 1048576 → AreItems (Within 0x30 IsPolicyMapping) (item items.PolicyMappings t) (mapping t)
+mapping-part : (t : ExtensionText) → Unit {0} → length (item items.PolicyMappings t) ≤ 4194304 → AreItems (Within 0x30 IsPolicyMapping) (item items.PolicyMappings t) (mapping t)
 mapping-part (part.PolicyMapping issuer subject) any le =
     let first = spell 0x06 issuer.content.now in
     let second = spell 0x06 subject.content.now in
@@ -77,13 +77,13 @@ mapping-part (part.PolicyMapping issuer subject) any le =
     })
 mapping-part other any le = refl
 
-purpose-part : (t : ExtensionText) → Unit {0} → length (item items.KeyPurposes t) ≤ 1048576 → AreItems (Within 0x06 IsOid) (item items.KeyPurposes t) (purpose t)
+purpose-part : (t : ExtensionText) → Unit {0} → length (item items.KeyPurposes t) ≤ 4194304 → AreItems (Within 0x06 IsOid) (item items.KeyPurposes t) (purpose t)
 purpose-part (part.KeyPurpose oid) any le = one-item (Within 0x06 IsOid) (spell 0x06 oid.content.now) oid.content.now (oid-is oid.content.now oid.form le)
 purpose-part other any le = refl
 
 -- ---- values
 
-pub policies-told : (texts : List ExtensionText) → flat_map policy texts ≢ [] → length (items_of items.Policies texts) ≤ 1048576
+pub policies-told : (texts : List ExtensionText) → flat_map policy texts ≢ [] → length (items_of items.Policies texts) ≤ 4194304
     → IsExt (Some extension.CertificatePolicies) (spell 0x30 (items_of items.Policies texts)) (certificatePolicies (flat_map policy texts))
 policies-told texts some le =
     let content = items_of items.Policies texts in
@@ -94,7 +94,7 @@ policies-told texts some le =
       value = (flat_map policy texts, refl, (some, told-items (Within 0x30 IsPolicyInformation) (item items.Policies) policy (λ t. Unit {0}) policy-part texts (any-parts texts) le));
     }
 
-pub mappings-told : (texts : List ExtensionText) → flat_map mapping texts ≢ [] → length (items_of items.PolicyMappings texts) ≤ 1048576
+pub mappings-told : (texts : List ExtensionText) → flat_map mapping texts ≢ [] → length (items_of items.PolicyMappings texts) ≤ 4194304
     → IsExt (Some extension.PolicyMappings) (spell 0x30 (items_of items.PolicyMappings texts)) (policyMappings (flat_map mapping texts))
 mappings-told texts some le =
     let content = items_of items.PolicyMappings texts in
@@ -105,7 +105,7 @@ mappings-told texts some le =
       value = (flat_map mapping texts, refl, (some, told-items (Within 0x30 IsPolicyMapping) (item items.PolicyMappings) mapping (λ t. Unit {0}) mapping-part texts (any-parts texts) le));
     }
 
-pub purposes-told : (texts : List ExtensionText) → flat_map purpose texts ≢ [] → length (items_of items.KeyPurposes texts) ≤ 1048576
+pub purposes-told : (texts : List ExtensionText) → flat_map purpose texts ≢ [] → length (items_of items.KeyPurposes texts) ≤ 4194304
     → IsExt (Some extension.ExtendedKeyUsage) (spell 0x30 (items_of items.KeyPurposes texts)) (extKeyUsage (flat_map purpose texts))
 purposes-told texts some le =
     let content = items_of items.KeyPurposes texts in

@@ -24,7 +24,7 @@ use Rattle.ts_make.proofs.ToldLists.{told-items, one-item}
 
 -- ---- names
 
-name-is : (name : NameText) → IsAsciiName name → length (general_name name) ≤ 1048576 → IsGeneralName (general_name name) (name_said name)
+name-is : (name : NameText) → IsAsciiName name → length (general_name name) ≤ 4194304 → IsGeneralName (general_name name) (name_said name)
 name-is (Dns text) ascii le =
     let short = content-short 0x82 text.now in
     record { tag = 0x82; content = text.now; fits = record { octet = omega arith; low = omega arith; short = omega arith }; spelled = refl; form = (refl, (refl, ascii)) }
@@ -35,11 +35,11 @@ name-is (Mail text) ascii le =
     let short = content-short 0x81 text.now in
     record { tag = 0x81; content = text.now; fits = record { octet = omega arith; low = omega arith; short = omega arith }; spelled = refl; form = (refl, (refl, ascii)) }
 
-alternative-part : (t : ExtensionText) → IsAsciiPart t → length (item items.AlternativeNames t) ≤ 1048576 → AreItems IsGeneralName (item items.AlternativeNames t) (alternative_name t)
+alternative-part : (t : ExtensionText) → IsAsciiPart t → length (item items.AlternativeNames t) ≤ 4194304 → AreItems IsGeneralName (item items.AlternativeNames t) (alternative_name t)
 alternative-part (part.SubjectAltName name) ascii le = one-item IsGeneralName (general_name name) (name_said name) (name-is name ascii le)
 alternative-part other ascii le = refl
 
-pub names-told : (texts : List ExtensionText) → AreAscii texts → flat_map alternative_name texts ≢ [] → length (items_of items.AlternativeNames texts) ≤ 1048576
+pub names-told : (texts : List ExtensionText) → AreAscii texts → flat_map alternative_name texts ≢ [] → length (items_of items.AlternativeNames texts) ≤ 4194304
     → IsExt (Some extension.SubjectAltName) (spell 0x30 (items_of items.AlternativeNames texts)) (subjectAltName (flat_map alternative_name texts))
 names-told texts ascii some le =
     let content = items_of items.AlternativeNames texts in
@@ -52,7 +52,7 @@ names-told texts ascii some le =
 
 -- ---- subtrees
 
-subtree-is : (name : NameText) → IsAsciiName name → length (general_subtree name) ≤ 1048576 → Within 0x30 IsSubtree (general_subtree name) (subtree_said name)
+subtree-is : (name : NameText) → IsAsciiName name → length (general_subtree name) ≤ 4194304 → Within 0x30 IsSubtree (general_subtree name) (subtree_said name)
 subtree-is name ascii le =
     let base = general_name name in
     let short = content-short 0x30 base in
@@ -71,16 +71,16 @@ subtree-is name ascii le =
       };
     }
 
-permitted-part : (t : ExtensionText) → IsAsciiPart t → length (item items.PermittedSubtrees t) ≤ 1048576 → AreItems (Within 0x30 IsSubtree) (item items.PermittedSubtrees t) (permitted t)
+permitted-part : (t : ExtensionText) → IsAsciiPart t → length (item items.PermittedSubtrees t) ≤ 4194304 → AreItems (Within 0x30 IsSubtree) (item items.PermittedSubtrees t) (permitted t)
 permitted-part (part.PermittedSubtree name) ascii le = one-item (Within 0x30 IsSubtree) (general_subtree name) (subtree_said name) (subtree-is name ascii le)
 permitted-part other ascii le = refl
 
-excluded-part : (t : ExtensionText) → IsAsciiPart t → length (item items.ExcludedSubtrees t) ≤ 1048576 → AreItems (Within 0x30 IsSubtree) (item items.ExcludedSubtrees t) (excluded t)
+excluded-part : (t : ExtensionText) → IsAsciiPart t → length (item items.ExcludedSubtrees t) ≤ 4194304 → AreItems (Within 0x30 IsSubtree) (item items.ExcludedSubtrees t) (excluded t)
 excluded-part (part.ExcludedSubtree name) ascii le = one-item (Within 0x30 IsSubtree) (general_subtree name) (subtree_said name) (subtree-is name ascii le)
 excluded-part other ascii le = refl
 
 -- an element that is absent where there are no items
-field-is : (tag : ℕ) (octets : List ℕ) (xs : List GeneralSubtree) → tag < 256 → tag % 32 ≢ 31 → AreItems (Within 0x30 IsSubtree) octets xs → length (tagged_if_any tag octets) ≤ 1048576
+field-is : (tag : ℕ) (octets : List ℕ) (xs : List GeneralSubtree) → tag < 256 → tag % 32 ≢ 31 → AreItems (Within 0x30 IsSubtree) octets xs → length (tagged_if_any tag octets) ≤ 4194304
     → IfAny tag AreSubtrees (tagged_if_any tag octets) (if_any xs)
 field-is tag [] [] octet low are le = refl
 field-is tag (o ∷ octets) [] octet low are le = absurd (cc)
@@ -97,7 +97,7 @@ items-short : (tag : ℕ) (octets : List ℕ) → length octets ≤ length (tagg
 items-short tag [] = omega arith
 items-short tag (o ∷ octets) = content-short tag (o ∷ octets)
 
-pub constraints-told : (texts : List ExtensionText) → AreAscii texts → length (constraints_content texts) ≤ 1048576
+pub constraints-told : (texts : List ExtensionText) → AreAscii texts → length (constraints_content texts) ≤ 4194304
     → IsExt (Some extension.NameConstraints) (spell 0x30 (constraints_content texts))
     (nameConstraints (record { permittedSubtrees = if_any (flat_map permitted texts); excludedSubtrees = if_any (flat_map excluded texts) }))
 unfolding constraints_content
@@ -130,7 +130,7 @@ constraints-told texts ascii le =
 
 -- ---- distribution points
 
-point-part : (t : ExtensionText) → IsAsciiPart t → length (item items.DistributionPoints t) ≤ 1048576 → AreItems (Within 0x30 IsPoint) (item items.DistributionPoints t) (point t)
+point-part : (t : ExtensionText) → IsAsciiPart t → length (item items.DistributionPoints t) ≤ 4194304 → AreItems (Within 0x30 IsPoint) (item items.DistributionPoints t) (point t)
 point-part (part.DistributionPoint uri) ascii le =
     let name = spell 0x86 uri.now in
     let full = spell 0xA0 name in
@@ -174,7 +174,7 @@ point-part (part.DistributionPoint uri) ascii le =
     })
 point-part other ascii le = refl
 
-pub points-told : (texts : List ExtensionText) → AreAscii texts → flat_map point texts ≢ [] → length (items_of items.DistributionPoints texts) ≤ 1048576
+pub points-told : (texts : List ExtensionText) → AreAscii texts → flat_map point texts ≢ [] → length (items_of items.DistributionPoints texts) ≤ 4194304
     → IsExt (Some extension.CrlDistributionPoints) (spell 0x30 (items_of items.DistributionPoints texts)) (cRLDistributionPoints (flat_map point texts))
 points-told texts ascii some le =
     let content = items_of items.DistributionPoints texts in

@@ -144,7 +144,7 @@ bits-are numbers some =
       shortest = subst EndsInOne (sym final) (ends (map (is_set numbers) (range_with_len 0 last)));
     }
 
-pub usage-told : (numbers : List ℕ) → numbers ≢ [] → length (usage_content numbers) ≤ 1048576 → IsExt (Some extension.KeyUsage) (spell 0x03 (usage_content numbers)) (keyUsage (usage_bits numbers))
+pub usage-told : (numbers : List ℕ) → numbers ≢ [] → length (usage_content numbers) ≤ 4194304 → IsExt (Some extension.KeyUsage) (spell 0x03 (usage_content numbers)) (keyUsage (usage_bits numbers))
 usage-told numbers some le =
     record { content = usage_content numbers; fits = fits-bits (usage_content numbers) le; spelled = refl; value = (usage_bits numbers, refl, bits-are numbers some) }
 

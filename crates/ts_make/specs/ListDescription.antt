@@ -1,13 +1,13 @@
 -- What a description says of a list of revoked certificates (RFC 5280 5.1).
-use Rattle.std.specs.Prelude.{◌≡◌, ℕ, true, List, [], ◌∷◌, Some, None, Result, Ok, Err, pos}
+use Rattle.std.specs.Prelude.{◌≡◌, ℕ, true, false, List, [], ◌∷◌, Some, None, Result, Ok, Err, pos}
 use Rattle.ts_der.specs.Integer.{twos_complement}
 use Rattle.ts_cert.specs.declared.time.Time.{Time}
 use Rattle.ts_sig.specs.Key.{Key}
 use Rattle.ts_sig.specs.StandIn.{stand_in_accepts}
 use Rattle.ts_crl.specs.declared.version.ListVersion.TheVariants.{V2}
 use Rattle.ts_crl.specs.Entries.{entries_of}
-use Rattle.ts_crl.specs.Fault.{ListFault, criticalCrlExtension}
-use Rattle.ts_crl.specs.Profile.{unprocessed}
+use Rattle.ts_crl.specs.Fault.{ListFault, criticalCrlExtension, deltaCrl}
+use Rattle.ts_crl.specs.Profile.{unprocessed, is_delta, has_number}
 use Rattle.ts_crl.specs.List.{RevokedCertificate, CertificateList}
 use Rattle.ts_make.specs.declared.list_description.EntryText.{EntryText}
 use Rattle.ts_make.specs.declared.list_description.CrlText.{CrlText}
@@ -45,7 +45,10 @@ IsListSignedBy signer c =
     let key : Key = record { algorithm = c.signatureAlgorithm.algorithm; parameters = c.signatureAlgorithm.parameters; octets = signer } in
     stand_in_accepts c.signatureAlgorithm.whole key c.tbs c.signatureValue ≡ true
 
--- reading gives the list, or refuses it for its first critical extension that is not processed (5.2)
+-- reading gives the list, or refuses it for its first critical extension that is not processed (5.2), or, where it has none, as
+-- a delta without a number (5.2.3, 5.2.4)
 abbrev pub IsReadAs : Result CertificateList ListFault → CertificateList → Type 0
 IsReadAs (Ok c) list = c ≡ list
-IsReadAs (Err f) list = (oid : List ℕ) × (unprocessed list ≡ Some oid) × (f ≡ criticalCrlExtension oid)
+IsReadAs (Err (criticalCrlExtension oid)) list = unprocessed list ≡ Some oid
+IsReadAs (Err deltaCrl) list = (unprocessed list ≡ None) × (is_delta list ≡ true) × (has_number list ≡ false)
+IsReadAs (Err other) list = ⊥

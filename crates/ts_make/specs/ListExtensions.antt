@@ -26,6 +26,11 @@ abbrev pub number_extensions : Option ℕ → List Extension
 number_extensions None = []
 number_extensions (Some n) = extension (id_ce 20) false (spell 0x02 (serial_content n)) ∷ []
 
+-- deltaCRLIndicator, of which the value is BaseCRLNumber ::= CRLNumber, critical, where there is a base number (5.2.4)
+abbrev pub base_extensions : Option ℕ → List Extension
+base_extensions None = []
+base_extensions (Some n) = extension (id_ce 27) true (spell 0x02 (serial_content n)) ∷ []
+
 -- uniformResourceIdentifier [6] IA5String of a GeneralName (4.2.1.6)
 abbrev pub uri_octets : Bor (List ℕ) → List ℕ
 uri_octets uri = spell 0x86 uri.now
@@ -51,10 +56,14 @@ scope_content uris reasons = full_name uris ++ some_reasons reasons
 abbrev pub null_extension : OidRef → Extension
 null_extension oid = extension oid.content.now true (0x05 ∷ 0 ∷ [])
 
--- cRLNumber, then issuingDistributionPoint, critical and absent where its SEQUENCE would be empty (5.2.5), then the others
+-- cRLNumber, then deltaCRLIndicator, then issuingDistributionPoint, critical and absent where its SEQUENCE would be empty
+-- (5.2.5), then the others
 unfoldable pub list_extensions : CrlText → List Extension
 list_extensions text =
-    number_extensions text.number ++ (sequence 28 true (scope_content text.uris.now text.reasons.now) ++ map null_extension text.critical.now)
+    number_extensions text.number
+    ++ (base_extensions text.base
+    ++ (sequence 28 true (scope_content text.uris.now text.reasons.now)
+    ++ map null_extension text.critical.now))
 
 -- crlExtensions [0] EXPLICIT Extensions OPTIONAL (5.1): absent where there are none
 unfoldable pub list_field : List Extension → List ℕ

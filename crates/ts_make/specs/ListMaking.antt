@@ -10,8 +10,9 @@ use Rattle.ts_time.specs.Civil.{IsInYears}
 use Rattle.ts_ext.specs.declared.known.Holder.TheVariants.{List as ListHolder}
 use Rattle.ts_ext.specs.Extension.{Extension}
 use Rattle.ts_ext.specs.ValueRules.{AreSound}
-use Rattle.ts_crl.specs.Fault.{ListFault, broken, criticalCrlExtension}
+use Rattle.ts_crl.specs.Fault.{ListFault, broken, criticalCrlExtension, deltaCrl}
 use Rattle.ts_crl.specs.List.{CertificateList}
+use Rattle.ts_crl.specs.Rules.{all_as_ruled}
 use Rattle.ts_crl.specs.Table.{crl_of}
 use Rattle.ts_make.specs.declared.list_description.EntryText.{EntryText}
 use Rattle.ts_make.specs.declared.list_description.CrlText.{CrlText}
@@ -27,17 +28,20 @@ IsWhole (Ok c) = Unit {0}
 IsWhole (Err (broken fault)) = ⊥
 IsWhole (Err other) = Unit {0}
 
--- reading takes the octets, or refuses them for a critical extension that it does not process, and for nothing else
+-- reading takes the octets, or refuses them for a critical extension that it does not process or as a delta without a number,
+-- and for nothing else
 abbrev pub IsTaken : Result CertificateList ListFault → Type 0
 IsTaken (Ok c) = Unit {0}
-IsTaken (Err f) = (oid : List ℕ) × (f ≡ criticalCrlExtension oid)
+IsTaken (Err (criticalCrlExtension oid)) = Unit {0}
+IsTaken (Err deltaCrl) = Unit {0}
+IsTaken (Err other) = ⊥
 
 -- of the octets of a list: they are returned where their reading is as is asked, and else it is said why not: they are too
 -- long, or a rule that has a place is broken
 abbrev pub AnswersList : (Result CertificateList ListFault → Type 0) → Result (Vec ℕ Global) MakeFault → List ℕ → Type 0
-AnswersList Reads (Ok v) octets = (v.items ≡ octets) × (length octets ≤ 1048576) × Reads (crl_of octets)
-AnswersList Reads (Err TooLong) octets = 1048576 < length octets
-AnswersList Reads (Err (Unreadable fault)) octets = (length octets ≤ 1048576) × (crl_of octets ≡ Err (broken fault))
+AnswersList Reads (Ok v) octets = (v.items ≡ octets) × (length octets ≤ 4194304) × Reads (crl_of octets)
+AnswersList Reads (Err TooLong) octets = 4194304 < length octets
+AnswersList Reads (Err (Unreadable fault)) octets = (length octets ≤ 4194304) × (crl_of octets ≡ Err (broken fault))
 AnswersList Reads (Err Memory) octets = Unit {0}
 
 -- the serial numbers of entries are u32s
@@ -49,11 +53,12 @@ pub record IsSayableList (text : CrlText) : Type 0 where
   pub issuer : AreTexts text.issuer.now
   pub entries : AreSerials text.entries.now
   pub number : IsSmallIfAny text.number
+  pub base : IsSmallIfAny text.base
 
 -- extensions that a list may have: none stands twice (4.2), and the value of each is one that it has (5.2)
 pub record AreAllowedInList (extensions : List Extension) : Type 0 where
   pub distinct : first_repeated (λ x. x.extnID) [] extensions ≡ None
-  pub sound : AreSound ListHolder extensions
+  pub sound : AreSound ListHolder (all_as_ruled ListHolder extensions)
 
 -- what was written is refused only for a time, where a moment lies outside the years 0 to 9999, or for extensions that a
 -- list may not have

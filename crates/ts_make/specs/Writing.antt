@@ -1,4 +1,4 @@
--- Writing octets of which a list may have 1,048,576, and a certificate fewer.
+-- Writing octets of which a list may have 4,194,304, and a certificate fewer.
 use Rattle.std.specs.Prelude.{◌≡◌, ℕ, ◌<◌, List, ◌++◌, length, Result, Ok, Err}
 use Rattle.std.specs.declared.vec.Vec.{Vec}
 use Rattle.std.specs.declared.alloc.Global.{Global}
@@ -7,7 +7,7 @@ use Rattle.ts_make.specs.declared.fault.MakeFault.TheVariants.{Memory, TooLong, 
 
 -- octets were not written: there are more than a list may have, or memory ran out
 abbrev pub IsTooLong : MakeFault → List ℕ → Type 0
-IsTooLong TooLong octets = 1048576 < length octets
+IsTooLong TooLong octets = 4194304 < length octets
 IsTooLong Memory octets = Unit {0}
 IsTooLong (Unreadable f) octets = ⊥
 

@@ -80,7 +80,7 @@ fn octet(flags: &[bool], at: usize) -> u8
 fn content(alloc: Global, numbers: &[u32], last: usize) -> Result<Vec<u8>, MakeFault>
     requires exact { last ≡ last_set numbers.now }
     requires within { (k : ℕ) → k < length numbers.now → slice_index_or numbers.now k 0 ≤ last }
-    requires low { last < 0x800000 }
+    requires low { last < 0x2000000 }
     ensures { Collects result (usage_content numbers.now) }
 {
     let count = last / 8 + 1;
@@ -94,7 +94,7 @@ fn content(alloc: Global, numbers: &[u32], last: usize) -> Result<Vec<u8>, MakeF
 }
 
 /// No list has room for the bit of this number.
-const TOO_FAR: u32 = 0x800000;
+const TOO_FAR: u32 = 0x2000000;
 
 /// The content of the BIT STRING of the bits of these numbers (X.690 8.6.2, 11.2.2).
 pub(crate) fn bits_content(alloc: Global, numbers: &[u32]) -> Result<Vec<u8>, MakeFault>

@@ -36,7 +36,7 @@ pub fn attribute_types()
 
 /// The value of keyUsage has the bits whose numbers the parts say, and no others (RFC 5280 4.2.1.3).
 pub fn key_usages()
-    ensures value { (numbers : List ℕ) → numbers ≢ [] → length (usage_content numbers) ≤ 1048576
+    ensures value { (numbers : List ℕ) → numbers ≢ [] → length (usage_content numbers) ≤ 4194304
         → IsExt (Some known.KeyUsage) (spell 0x03 (usage_content numbers)) (keyUsage (usage_bits numbers)) }
     ensures bits { (numbers : List ℕ) (k : ℕ) → bit k (usage_bits numbers) ≡ is_set numbers k }
 {}
@@ -63,32 +63,32 @@ pub fn policy_constraints()
 
 /// The value of certificatePolicies says the policies of the parts, in their order (RFC 5280 4.2.1.4).
 pub fn policies()
-    ensures { (texts : List ExtensionText) → flat_map policy texts ≢ [] → length (items_of items.Policies texts) ≤ 1048576
+    ensures { (texts : List ExtensionText) → flat_map policy texts ≢ [] → length (items_of items.Policies texts) ≤ 4194304
         → IsExt (Some known.CertificatePolicies) (spell 0x30 (items_of items.Policies texts)) (certificatePolicies (flat_map policy texts)) }
 {}
 
 /// The value of policyMappings says the mappings of the parts, in their order (RFC 5280 4.2.1.5).
 pub fn policy_mappings()
-    ensures { (texts : List ExtensionText) → flat_map mapping texts ≢ [] → length (items_of items.PolicyMappings texts) ≤ 1048576
+    ensures { (texts : List ExtensionText) → flat_map mapping texts ≢ [] → length (items_of items.PolicyMappings texts) ≤ 4194304
         → IsExt (Some known.PolicyMappings) (spell 0x30 (items_of items.PolicyMappings texts)) (policyMappings (flat_map mapping texts)) }
 {}
 
 /// The value of extKeyUsage says the purposes of the parts, in their order (RFC 5280 4.2.1.12).
 pub fn key_purposes()
-    ensures { (texts : List ExtensionText) → flat_map purpose texts ≢ [] → length (items_of items.KeyPurposes texts) ≤ 1048576
+    ensures { (texts : List ExtensionText) → flat_map purpose texts ≢ [] → length (items_of items.KeyPurposes texts) ≤ 4194304
         → IsExt (Some known.ExtendedKeyUsage) (spell 0x30 (items_of items.KeyPurposes texts)) (extKeyUsage (flat_map purpose texts)) }
 {}
 
 /// The value of subjectAltName says the names of the parts, in their order, where its texts are ASCII (RFC 5280 4.2.1.6).
 pub fn alternative_names()
-    ensures { (texts : List ExtensionText) → AreAscii texts → flat_map alternative_name texts ≢ [] → length (items_of items.AlternativeNames texts) ≤ 1048576
+    ensures { (texts : List ExtensionText) → AreAscii texts → flat_map alternative_name texts ≢ [] → length (items_of items.AlternativeNames texts) ≤ 4194304
         → IsExt (Some known.SubjectAltName) (spell 0x30 (items_of items.AlternativeNames texts)) (subjectAltName (flat_map alternative_name texts)) }
 {}
 
 /// The value of nameConstraints says the subtrees of the parts, in their order, where their texts are ASCII (RFC 5280
 /// 4.2.1.10).
 pub fn name_constraints()
-    ensures { (texts : List ExtensionText) → AreAscii texts → length (constraints_content texts) ≤ 1048576
+    ensures { (texts : List ExtensionText) → AreAscii texts → length (constraints_content texts) ≤ 4194304
         → IsExt (Some known.NameConstraints) (spell 0x30 (constraints_content texts))
         (nameConstraints (record { permittedSubtrees = if_any (flat_map permitted texts); excludedSubtrees = if_any (flat_map excluded texts) })) }
 {}
@@ -96,6 +96,6 @@ pub fn name_constraints()
 /// The value of cRLDistributionPoints says the points of the parts, in their order, where their texts are ASCII (RFC 5280
 /// 4.2.1.13).
 pub fn distribution_points()
-    ensures { (texts : List ExtensionText) → AreAscii texts → flat_map point texts ≢ [] → length (items_of items.DistributionPoints texts) ≤ 1048576
+    ensures { (texts : List ExtensionText) → AreAscii texts → flat_map point texts ≢ [] → length (items_of items.DistributionPoints texts) ≤ 4194304
         → IsExt (Some known.CrlDistributionPoints) (spell 0x30 (items_of items.DistributionPoints texts)) (cRLDistributionPoints (flat_map point texts)) }
 {}

@@ -64,16 +64,16 @@ fn write_whole_list(
 ///
 /// # Errors
 ///
-/// `TooLong` exactly where the octets would be more than 1,048,576; `Unreadable` exactly where a rule that has a place is
+/// `TooLong` exactly where the octets would be more than 4,194,304; `Unreadable` exactly where a rule that has a place is
 /// broken: a moment lies outside the years 0 to 9999, which no list can say, or the extensions are not those that a list
-/// may have; `Memory` only where memory ran out. A critical extension that is not processed is no error: what is made is
-/// the list that says it, which reading refuses.
+/// may have; `Memory` only where memory ran out. A critical extension that is not processed is no error, nor is a base
+/// number without a number: what is made is the list that says it, which reading refuses.
 pub fn make_crl(alloc: Global, text: &CrlText<'_>) -> Result<Vec<u8>, MakeFault>
     // It is the one list that says the description, where a list may be so long.
     ensures made { (this next : List ℕ) × IsTimeOf this text.now.this_update × IsTimeOf next text.now.next_update
         × AnswersList IsTaken result (made_list this next text.now) }
     // It has the shape of the list that the description says, and reading gives that list, or refuses it for its
-    // first critical extension that is not processed.
+    // first critical extension that is not processed, or as a delta without a number.
     ensures described { IfOk result (λ v. (l : StandingList) × (shape_of v.items ≡ Ok l) × IsListDescribed text.now (said_list l) × IsReadAs (crl_of v.items) (said_list l)) }
     // It is signed by the stand-in under the signer's key.
     ensures signed { IfOk result (λ v. (l : StandingList) × (shape_of v.items ≡ Ok l) × IsListSignedBy text.now.signer.now (said_list l)) }

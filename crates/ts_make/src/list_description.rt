@@ -29,6 +29,8 @@ pub struct CrlText<'a> {
     pub entries: &'a [EntryText],
     /// cRLNumber, which is not critical (RFC 5280 5.2.3).
     pub number: Option<u32>,
+    /// deltaCRLIndicator, which is critical: the base number of a delta (RFC 5280 5.2.4).
+    pub base: Option<u32>,
     /// onlySomeReasons of issuingDistributionPoint, critical: the bits of these numbers are 1 (RFC 5280 5.2.5).
     pub reasons: &'a [u32],
     /// distributionPoint of issuingDistributionPoint, critical: its full name, of these URIs (RFC 5280 5.2.5).

@@ -3,7 +3,7 @@
 ghost use Rattle.std.specs.Prelude.{◌≡◌, ◌++◌, true, map, OnOk};
 ghost use Rattle.std.specs.List.{flat_map};
 ghost use Rattle.ts_make.specs.Extensions.{extension_octets, sequence};
-ghost use Rattle.ts_make.specs.ListExtensions.{reason_extension, number_extensions, uri_octets, full_name, some_reasons, scope_content, null_extension, list_extensions, list_field};
+ghost use Rattle.ts_make.specs.ListExtensions.{reason_extension, number_extensions, base_extensions, uri_octets, full_name, some_reasons, scope_content, null_extension, list_extensions, list_field};
 ghost use Rattle.ts_make.specs.Told.{IsSmallIfAny};
 ghost use Rattle.ts_make.specs.Writing.{Appends, Writes};
 
@@ -46,6 +46,23 @@ fn append_list_number(
     let mut value = Vec::new(alloc);
     append_number(alloc, &mut value, INTEGER, n)?;
     append_extension(alloc, octets, &[0x55, 0x1d, 20], false, &value)
+}
+
+/// Appends deltaCRLIndicator, where there is a base number (RFC 5280 5.2.4).
+fn append_base_number(
+    alloc: Global,
+    octets: &mut Vec<u8>,
+    base: Option<u32>,
+) -> Result<(), MakeFault>
+    ensures exact { Appends result (flat_map extension_octets (base_extensions base)) octets.old.items octets.new.items }
+    ensures small { OnOk result (IsSmallIfAny base) }
+{
+    let Some(n) = base else {
+        return Ok(());
+    };
+    let mut value = Vec::new(alloc);
+    append_number(alloc, &mut value, INTEGER, n)?;
+    append_extension(alloc, octets, &[0x55, 0x1d, 27], true, &value)
 }
 
 /// Appends URIs as names (RFC 5280 4.2.1.6).
@@ -128,9 +145,11 @@ fn append_nulls(
 fn write_extensions(alloc: Global, text: &CrlText<'_>) -> Result<Vec<u8>, MakeFault>
     ensures exact { Writes result (flat_map extension_octets (list_extensions text.now)) }
     ensures small { OnOk result (IsSmallIfAny text.now.number) }
+    ensures small_base { OnOk result (IsSmallIfAny text.now.base) }
 {
     let mut extensions = Vec::new(alloc);
     append_list_number(alloc, &mut extensions, text.number)?;
+    append_base_number(alloc, &mut extensions, text.base)?;
     append_scope(alloc, &mut extensions, text.uris, text.reasons)?;
     append_nulls(alloc, &mut extensions, text.critical)?;
     Ok(extensions)
@@ -148,6 +167,7 @@ pub(crate) fn append_list_extensions(
 ) -> Result<(), MakeFault>
     ensures exact { Appends result (list_field (list_extensions text.now)) octets.old.items octets.new.items }
     ensures small { OnOk result (IsSmallIfAny text.now.number) }
+    ensures small_base { OnOk result (IsSmallIfAny text.now.base) }
 {
     let extensions = write_extensions(alloc, text)?;
     if extensions.is_empty() {

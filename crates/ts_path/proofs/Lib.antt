@@ -1,2 +1,6 @@
-pub mod Verdicts
 pub mod OneVerdict
+pub mod Steps
+pub mod Counting
+pub mod SelfIssued
+pub mod Advance
+pub mod Positions

@@ -1,8 +1,8 @@
 -- A question has one verdict.
 use Rattle.std.proofs.Common.{◌≡◌, ℕ, ◌<◌, Bool, true, false, cond, eqb, refl, sym, ap, ◌∙◌, arith, ◌⊎◌, inl, inr}
 use Rattle.std.proofs.lemmas.Bool.{cases_order}
-use Rattle.ts_path.specs.Question.{Question}
-use Rattle.ts_path.specs.Conditions.{Condition, Holds, number_of, anchor_purpose, signature, too_early, expired, revoked, undetermined, issuer_name, unsupported_constraint, not_permitted, excluded, policy_required, maps_any, not_ca, path_length, key_usage, critical_extension, final_policy, purpose}
+use Rattle.ts_path.specs.Chain.{Question}
+use Rattle.ts_path.specs.Conditions.{Condition, number_of, anchor_purpose, signature, too_early, expired, revoked, undetermined, issuer_name, unsupported_constraint, not_permitted, excluded, policy_required, maps_any, not_ca, path_length, key_usage, critical_extension, final_policy, purpose}
 use Rattle.ts_path.specs.Verdict.{IsLeast}
 
 -- the condition of a number
@@ -48,7 +48,7 @@ numbered critical_extension = refl
 numbered final_policy = refl
 numbered purpose = refl
 
-one_number : (k m : Condition) → number_of k ≡ number_of m → k ≡ m
+pub one_number : (k m : Condition) → number_of k ≡ number_of m → k ≡ m
 one_number k m e = sym (numbered k) ∙ (ap condition_numbered e ∙ numbered m)
 
 pub one_least : (q : Question) (i j : ℕ) (k m : Condition) → IsLeast q i k → IsLeast q j m → (i ≡ j) × (k ≡ m)

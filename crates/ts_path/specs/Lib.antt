@@ -1,5 +1,11 @@
-pub mod Question
+pub mod Names
+pub mod Asked
+pub mod Chain
+pub mod Counters
 pub mod WorkingKey
+pub mod Purposes
+pub mod Extensions
+pub mod State
 pub mod Conditions
 pub mod Verdict
 pub mod View

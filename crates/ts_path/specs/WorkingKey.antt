@@ -1,9 +1,10 @@
 -- The key under which a certificate's signature is checked (RFC 5280 6.1.1 (d), 6.1.2 (g) to (i), 6.1.4 (c) to (f)).
-use Rattle.std.specs.Prelude.{ℕ, Bool, true, false, List, [], ◌∷◌, map, take, reverse, Option, Some, None, if◌then◌else◌}
+use Rattle.std.specs.Prelude.{◌≡◌, ℕ, Bool, true, false, List, [], ◌∷◌, ◌++◌, Option, Some, None, if◌then◌else◌}
+use Rattle.std.specs.List.{AllByRecursion}
 use Rattle.std.specs.Str.{bytes_eq}
 use Rattle.ts_sig.specs.Key.{Key}
-use Rattle.ts_cert.specs.Certificate.{KeyInfo}
-use Rattle.ts_path.specs.Question.{Question, Issuer, issuers}
+use Rattle.ts_cert.specs.Certificate.{KeyInfo, Certificate}
+use Rattle.ts_path.specs.Asked.{TrustAnchor}
 
 -- NULL as a whole element (X.690 8.8)
 abbrev pub null : List ℕ
@@ -14,26 +15,34 @@ abbrev pub stated : Option (List ℕ) → Option (List ℕ)
 stated None = None
 stated (Some p) = if bytes_eq p null then None else Some p
 
--- whether the next key has the same algorithm
-abbrev pub continues : KeyInfo → List KeyInfo → Bool
-continues k [] = false
-continues k (next ∷ keys) = bytes_eq k.algorithm.algorithm next.algorithm.algorithm
+-- the parameters that a key states
+abbrev pub own : KeyInfo → Option (List ℕ)
+own k = stated k.algorithm.parameters
 
--- a key's own parameters, or those that it inherits
+-- two keys have one algorithm
+abbrev pub is_alike : KeyInfo → KeyInfo → Bool
+is_alike k other = bytes_eq k.algorithm.algorithm other.algorithm.algorithm
+
+-- a key's own parameters, or others, if they are inherited
 abbrev pub or_inherited : Option (List ℕ) → Bool → Option (List ℕ) → Option (List ℕ)
 or_inherited (Some p) inherits others = Some p
 or_inherited None inherits others = if inherits then others else None
 
--- the parameters of the first of these keys: its own, or those of the ones behind it, as far as they have its algorithm
-unfoldable pub parameters_of : List KeyInfo → Option (List ℕ)
-parameters_of [] = None
-parameters_of (k ∷ keys) = or_inherited (stated k.algorithm.parameters) (continues k keys) (parameters_of keys)
+-- the keys of the issuers above a certificate, the nearest first, the last that of the anchor
+abbrev pub subject_key : Certificate → KeyInfo
+subject_key c = c.tbsCertificate.subjectPublicKeyInfo
 
--- the keys of the issuers before a position, the nearest first
-abbrev pub keys_before : Question → ℕ → List KeyInfo
-keys_before q i = reverse (take i (map (λ issuer. issuer.key) (issuers q)))
+abbrev pub nearest_key : TrustAnchor → List Certificate → KeyInfo
+nearest_key anchor [] = anchor.key
+nearest_key anchor (c ∷ above) = subject_key c
 
--- algorithm and octets of an issuer's key, with the parameters that it has or inherits
-abbrev pub working_key : Question → ℕ → Issuer → Key
-working_key q i issuer =
-    record { algorithm = issuer.key.algorithm.algorithm; parameters = parameters_of (keys_before q i); octets = issuer.key.subjectPublicKey }
+-- the parameters that the nearest key is used with: its own, or inherited
+unfoldable pub parameters_of : TrustAnchor → List Certificate → Option (List ℕ)
+parameters_of anchor [] = own anchor.key
+parameters_of anchor (c ∷ above) = or_inherited (own (subject_key c)) (is_alike (subject_key c) (nearest_key anchor above)) (parameters_of anchor above)
+
+-- algorithm and octets of the nearest key, with these parameters
+abbrev pub working_key : TrustAnchor → List Certificate → Key
+working_key anchor above =
+    let k = nearest_key anchor above in
+    record { algorithm = k.algorithm.algorithm; parameters = parameters_of anchor above; octets = k.subjectPublicKey }

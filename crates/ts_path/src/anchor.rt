@@ -1,9 +1,8 @@
 //! Trust anchors.
 
-ghost use Rattle.std.specs.Prelude.{◌≡◌};
+ghost use Rattle.std.specs.Prelude.{◌≡◌, None};
 ghost use Rattle.ts_cert.specs.CertView.{cert_in};
-ghost use Rattle.ts_path.specs.Question.{issuer_of};
-ghost use Rattle.ts_path.specs.View.{issuer_in};
+ghost use Rattle.ts_path.specs.View.{anchor_in};
 
 use ts_cert::{Cert, SubjectPublicKeyInfo};
 use ts_name::Name;
@@ -13,17 +12,21 @@ use ts_name::Name;
 pub struct Anchor<'a> {
     pub name: Name<'a>,
     pub key: SubjectPublicKeyInfo<'a>,
+    /// The purposes for which the anchor is trusted, each as the content octets of its object identifier; `None` where for
+    /// any.
+    pub purposes: Option<&'a [&'a [u8]]>,
 }
 
 impl<'a> Anchor<'a> {
-    /// The subject of a certificate as a trust anchor. Nothing else of the certificate counts, its validity and its
-    /// signature neither.
+    /// The subject of a certificate as a trust anchor for any purpose. Nothing else of the certificate counts, its validity,
+    /// its extensions and its signature neither.
     pub fn of(cert: &Cert<'a>) -> Anchor<'a>
-        ensures { issuer_in result ≡ issuer_of (cert_in cert.now) }
+        ensures { anchor_in result ≡ record { name = (cert_in cert.now).tbsCertificate.subject; key = (cert_in cert.now).tbsCertificate.subjectPublicKeyInfo; purposes = None } }
     {
         Anchor {
             name: cert.subject(),
             key: cert.subject_public_key_info(),
+            purposes: None,
         }
     }
 }

@@ -1,68 +1,259 @@
-//! The conditions on the first certificate of a chain, one by one.
+//! The conditions on a certificate that ask nothing of policies, one by one.
 
-ghost use Rattle.std.specs.Prelude.{◌≡◌, ◌↔◌, ◌≤ℤ◌, IsTrue, [], ◌∷◌};
+ghost use Rattle.std.specs.Prelude.{◌≡◌, ◌↔◌, ◌≤ℤ◌, IfOk, IsTrue, Bool, List, [], false, map, option_map};
 ghost use Rattle.ts_name.specs.Sameness.{canon_name};
 ghost use Rattle.ts_cert.specs.CertView.{cert_in};
-ghost use Rattle.ts_path.specs.View.{issuer_in};
-ghost use Rattle.ts_path.specs.Judging.{key_before, IsFirst};
+ghost use Rattle.ts_constraint.specs.Conditions.{IsExempt, IsAnswer};
+ghost use Rattle.ts_constraint.specs.Names.{names_of};
+ghost use Rattle.ts_policy.specs.Certificates.{policies_in};
+ghost use Rattle.ts_policy.specs.Labels.{Path};
+ghost use Rattle.ts_policy.specs.Paths.{CertPolicies};
+ghost use Rattle.ts_policy.specs.Seen.{InPaths};
+ghost use Rattle.ts_revoke.specs.declared.crls.Crls.{Crls as CrlsOf};
+ghost use Rattle.ts_path.specs.declared.anchor.Anchor.{Anchor as AnchorOf};
+ghost use Rattle.ts_path.specs.Asked.{Asked};
+ghost use Rattle.ts_path.specs.Conditions.{Site, status_at, final_explicit as final_explicit_of, is_trusted as is_trusted_of, may_go_on as may_go_on_of};
+ghost use Rattle.ts_path.specs.Extensions.{explicit_policy_of};
+ghost use Rattle.ts_path.specs.State.{policies_at};
+ghost use Rattle.ts_path.specs.View.{anchor_in, site_in, at};
+ghost use Rattle.ts_path.specs.Judging.{MeetsBelow, Finds};
 
 use crate::anchor::Anchor;
+use crate::counters::explicit_policy;
+use crate::extensions::{first_refused, is_ca, is_meant_for, is_trusted_for, may_sign};
 use crate::inputs::Inputs;
 use crate::reason::Reason;
-use crate::working_key::key_of_anchor;
+use crate::self_issued::is_self_issued;
+use crate::state::State;
+use std::alloc::{AllocError, Global};
 use ts_cert::Cert;
+use ts_constraint::NameFault;
+use ts_policy::{Certificate, Policies};
+use ts_revoke::{Crls, Issuer, Status, status};
 use ts_sig::SignatureCheck;
 
-fn is_signed<S: SignatureCheck>(anchor: &Anchor<'_>, cert: &Cert<'_>, check: &S) -> bool
-    ensures { result ≡ S.accepts check.now (cert_in cert.now).signatureAlgorithm.whole (key_before (issuer_in anchor.now)) (cert_in cert.now).tbs (cert_in cert.now).signatureValue }
-{
-    let key = key_of_anchor(&anchor.key);
-    check.good(
-        cert.signature_algorithm().whole,
-        &key,
-        cert.tbs(),
-        cert.signature(),
-    )
-}
-
-fn has_begun(cert: &Cert<'_>, inputs: &Inputs) -> bool
+fn has_begun(cert: &Cert<'_>, inputs: &Inputs<'_>) -> bool
     ensures { IsTrue result ↔ ((cert_in cert.now).tbsCertificate.validity.not_before.moment ≤ℤ inputs.now.moment) }
 {
     cert.validity().not_before.moment <= inputs.moment
 }
 
-fn has_not_ended(cert: &Cert<'_>, inputs: &Inputs) -> bool
+fn has_not_ended(cert: &Cert<'_>, inputs: &Inputs<'_>) -> bool
     ensures { IsTrue result ↔ (inputs.now.moment ≤ℤ (cert_in cert.now).tbsCertificate.validity.not_after.moment) }
 {
     inputs.moment <= cert.validity().not_after.moment
 }
 
-fn is_issued(anchor: &Anchor<'_>, cert: &Cert<'_>) -> bool
-    ensures { IsTrue result ↔ (canon_name (cert_in cert.now).tbsCertificate.issuer ≡ canon_name (issuer_in anchor.now).name) }
-{
-    cert.issuer().same(anchor.name)
+impl<'a> State<'a> {
+    fn is_signed<S: SignatureCheck>(&self, cert: &Cert<'a>, check: &S) -> bool
+        ensures { result ≡ S.accepts check.now (cert_in cert.now).signatureAlgorithm.whole self.now.key (cert_in cert.now).tbs (cert_in cert.now).signatureValue }
+    {
+        check.good(
+            cert.signature_algorithm().whole,
+            &self.key,
+            cert.tbs(),
+            cert.signature(),
+        )
+    }
+
+    /// Whether the anchor is trusted for the purpose that is asked, which is asked of the first certificate alone.
+    fn is_trusted(&self, anchor: &Anchor<'a>, inputs: &Inputs<'a>) -> bool
+        ensures { result ≡ is_trusted_of (anchor_in anchor.now) (option_map (λ p. p.now) inputs.now.purpose) self.now }
+    {
+        self.passed != 0 || is_trusted_for(inputs.purpose, anchor.purposes)
+    }
+
+    /// Whether the path may go on behind the certificate.
+    fn may_go_on(&self, cert: &Cert<'a>) -> bool
+        ensures { result ≡ may_go_on_of self.now (cert_in cert.now) }
+    {
+        is_self_issued(cert) || self.counters.max_path_length > 0
+    }
+
+    /// Whether the names of the certificate meet the constraints above it.
+    fn check_names(&self, cert: &Cert<'a>, last: bool) -> Result<(), NameFault>
+        ensures exempt { IsExempt (cert_in cert.now).tbsCertificate last → result ≡ Ok tt }
+        ensures checked { ¬ (IsExempt (cert_in cert.now).tbsCertificate last) → IsAnswer self.now.sources (names_of (cert_in cert.now).tbsCertificate) result }
+    {
+        self.bounds.check(cert, last)
+    }
+
+    fn is_issued(&self, cert: &Cert<'a>) -> bool
+        ensures { IsTrue result ↔ (canon_name (cert_in cert.now).tbsCertificate.issuer ≡ canon_name self.now.name) }
+    {
+        cert.issuer().same(self.name)
+    }
+
+    /// The first condition that the certificate does not meet, of those on the anchor, the signature and the time.
+    fn first_of_origin<S: SignatureCheck>(
+        &self,
+        anchor: &Anchor<'a>,
+        inputs: &Inputs<'a>,
+        check: &S,
+        cert: &Cert<'a>,
+    ) -> Option<Reason<'a>>
+        ensures { (crls : CrlsOf) (above : List CertPolicies) (last : Bool) → Finds 5 (site_in anchor.now inputs.now crls (S.accepts check.now) self.now above (cert_in cert.now) last) result }
+    {
+        if !self.is_trusted(anchor, inputs) {
+            return Some(Reason::AnchorPurpose);
+        }
+        if !self.is_signed(cert, check) {
+            return Some(Reason::Signature);
+        }
+        if !has_begun(cert, inputs) {
+            return Some(Reason::TooEarly);
+        }
+        if !has_not_ended(cert, inputs) {
+            return Some(Reason::Expired);
+        }
+        None
+    }
+
+    /// What the CRLs at hand say of the certificate (RFC 5280 6.3).
+    fn status<S: SignatureCheck>(
+        &self,
+        inputs: &Inputs<'a>,
+        crls: &Crls<'_>,
+        check: &S,
+        cert: &Cert<'a>,
+    ) -> Status
+        ensures { (anchor : AnchorOf) (above : List CertPolicies) (last : Bool) → result ≡ status_at (site_in anchor inputs.now crls.now (S.accepts check.now) self.now above (cert_in cert.now) last) }
+    {
+        let issuer = Issuer {
+            key: self.key,
+            key_usage: self.usage,
+        };
+        status(crls, cert, &issuer, inputs.moment, check, inputs.use_deltas)
+    }
+
+    /// The first of the conditions on revocation that the certificate does not meet.
+    fn first_of_status<S: SignatureCheck>(
+        &self,
+        inputs: &Inputs<'a>,
+        crls: &Crls<'_>,
+        check: &S,
+        cert: &Cert<'a>,
+    ) -> Option<Reason<'a>>
+        ensures { (anchor : AnchorOf) (above : List CertPolicies) (last : Bool) → let x = site_in anchor inputs.now crls.now (S.accepts check.now) self.now above (cert_in cert.now) last in MeetsBelow 5 x → Finds 7 x result }
+    {
+        match self.status(inputs, crls, check, cert) {
+            Status::Good => None,
+            Status::Revoked(code) => Some(Reason::Revoked(code)),
+            Status::Undetermined => {
+                if inputs.hard {
+                    return Some(Reason::Undetermined);
+                }
+                None
+            }
+        }
+    }
+
+    /// The first of the conditions that ask nothing of policies, of the certificate's place in the chain and of its extensions
+    /// that it does not meet (RFC 5280 6.1.3 (a) to (c)).
+    pub(crate) fn first_of_basics<S: SignatureCheck>(
+        &self,
+        anchor: &Anchor<'a>,
+        inputs: &Inputs<'a>,
+        crls: &Crls<'_>,
+        check: &S,
+        cert: &Cert<'a>,
+        last: bool,
+    ) -> Option<Reason<'a>>
+        ensures { (above : List CertPolicies) → Finds 11 (site_in anchor.now inputs.now crls.now (S.accepts check.now) self.now above (cert_in cert.now) last) result }
+    {
+        if let Some(reason) = self.first_of_origin(anchor, inputs, check, cert) {
+            return Some(reason);
+        }
+        if let Some(reason) = self.first_of_status(inputs, crls, check, cert) {
+            return Some(reason);
+        }
+        self.first_of_names(cert, last)
+    }
+
+    /// The first condition on names that the certificate does not meet.
+    fn first_of_names(&self, cert: &Cert<'a>, last: bool) -> Option<Reason<'a>>
+        ensures { (asked : Asked) (above : List CertPolicies) → MeetsBelow 7 (at asked self.now above (cert_in cert.now) last) → Finds 11 (at asked self.now above (cert_in cert.now) last) result }
+    {
+        if !self.is_issued(cert) {
+            return Some(Reason::IssuerName);
+        }
+        match self.check_names(cert, last) {
+            Ok(()) => None,
+            Err(NameFault::Unsupported(_)) => Some(Reason::UnsupportedConstraint),
+            Err(NameFault::NotPermitted(_)) => Some(Reason::NotPermitted),
+            Err(NameFault::Excluded(_)) => Some(Reason::Excluded),
+        }
+    }
+
+    /// The first condition on a certificate that issues another that it does not meet, but for that on its policies.
+    pub(crate) fn first_of_issuer(&self, cert: &Cert<'a>) -> Option<Reason<'a>>
+        ensures { (asked : Asked) (above : List CertPolicies) → MeetsBelow 13 (at asked self.now above (cert_in cert.now) false) → Finds 16 (at asked self.now above (cert_in cert.now) false) result }
+    {
+        if !is_ca(cert) {
+            return Some(Reason::NotCa);
+        }
+        if !self.may_go_on(cert) {
+            return Some(Reason::PathLength);
+        }
+        if !may_sign(cert) {
+            return Some(Reason::KeyUsage);
+        }
+        None
+    }
 }
 
-/// The first condition that the certificate does not meet.
-pub(crate) fn first_failing<'a, S: SignatureCheck>(
-    anchor: &Anchor<'a>,
-    cert: &Cert<'a>,
-    inputs: &Inputs,
-    check: &S,
-) -> Option<Reason<'a>>
-    ensures { IsFirst (issuer_in anchor.now) (cert_in cert.now) inputs.now.moment (S.accepts check.now) result }
+impl<'a> State<'a> {
+    /// What a certificate states of policies.
+    pub(crate) fn policies_of(
+        &self,
+        alloc: Global,
+        cert: &Cert<'a>,
+        last: bool,
+    ) -> Result<Certificate<'a>, AllocError>
+        ensures { IfOk result (λ c. policies_in c ≡ policies_at self.now (cert_in cert.now) last) }
+    {
+        let stated = Certificate::of(
+            alloc,
+            *cert,
+            last,
+            self.counters.inhibit_any_policy,
+            self.counters.policy_mapping,
+        )?;
+        Ok(stated)
+    }
+
+    /// Whether a policy is required, and no policy path is left.
+    pub(crate) fn lacks_policy(&self, policies: &Policies<'a>) -> bool
+        ensures { IsTrue result ↔ ((self.now.counters.explicit_policy ≡ 0) × ((w : Path) → InPaths policies.now w → ⊥)) }
+    {
+        self.counters.explicit_policy == 0 && policies.is_empty()
+    }
+
+    /// explicit_policy at the end: it falls by one, and is 0 where the last certificate states requireExplicitPolicy as 0
+    /// (RFC 5280 6.1.5 (a), (b)).
+    pub(crate) fn final_explicit(&self, cert: &Cert<'a>) -> u32
+        ensures { result ≡ final_explicit_of self.now.counters.explicit_policy (explicit_policy_of (cert_in cert.now).tbsCertificate) }
+    {
+        match explicit_policy(cert) {
+            Some(0) => 0,
+            _ => self.counters.explicit_policy.saturating_sub(1),
+        }
+    }
+}
+
+/// Whether a policy is required at the end, and none is accepted.
+pub(crate) fn accepts_none(explicit_policy: u32, accepted: &[&[u8]]) -> bool
+    ensures { IsTrue result ↔ ((explicit_policy ≡ 0) × (map (λ p. p.now) accepted.now ≡ [])) }
 {
-    if !is_signed(anchor, cert, check) {
-        return Some(Reason::Signature);
+    explicit_policy == 0 && accepted.is_empty()
+}
+
+/// The first critical extension that is not processed, as a reason.
+pub(crate) fn first_of_extensions<'a>(cert: &Cert<'a>) -> Option<Reason<'a>>
+    ensures { (x : Site) → x.certificate ≡ cert_in cert.now → MeetsBelow 16 x → Finds 17 x result }
+{
+    match first_refused(cert) {
+        Some(oid) => Some(Reason::CriticalExtension(oid)),
+        None => None,
     }
-    if !has_begun(cert, inputs) {
-        return Some(Reason::TooEarly);
-    }
-    if !has_not_ended(cert, inputs) {
-        return Some(Reason::Expired);
-    }
-    if !is_issued(anchor, cert) {
-        return Some(Reason::IssuerName);
-    }
-    None
 }

@@ -1,9 +1,9 @@
 //! Laws about the definitions that the clauses of this crate cite. Each stands on a function that does nothing.
 
 ghost use Rattle.std.specs.Prelude.{◌≡◌, ℕ};
-ghost use Rattle.ts_path.specs.Question.{Question};
-ghost use Rattle.ts_path.specs.Conditions.{Condition, Holds};
-ghost use Rattle.ts_path.specs.Verdict.{IsLeast};
+ghost use Rattle.ts_path.specs.Chain.{Question};
+ghost use Rattle.ts_path.specs.Conditions.{Condition};
+ghost use Rattle.ts_path.specs.Verdict.{Holds, IsLeast};
 
 /// A question has one verdict: where a condition fails the chain is not valid, and of the conditions that fail one is the
 /// least.

@@ -1,34 +1,54 @@
 //! Path validation.
 
-ghost use Rattle.std.specs.Prelude.{◌≡◌, length};
+ghost use Rattle.std.specs.Prelude.{◌≤◌, IfOk, length};
 ghost use Rattle.ts_path.specs.View.{question_in};
 ghost use Rattle.ts_path.specs.Verdict.{IsVerdict};
 
 use crate::anchor::Anchor;
 use crate::inputs::Inputs;
-use crate::judging::first_failing;
 use crate::verdict::Verdict;
+use crate::walk::{End, Step, Walk};
+use std::alloc::{AllocError, Global};
 use ts_cert::Cert;
+use ts_revoke::Crls;
 use ts_sig::SignatureCheck;
 
-/// The verdict on a chain of one certificate under a trust anchor (RFC 5280 6.1). It takes no memory.
+/// The greatest number of certificates in a chain.
+pub const MAX_CHAIN: usize = 16;
+
+/// The verdict on a chain of 1 to [`MAX_CHAIN`] certificates under a trust anchor (RFC 5280 6.1). The first of them is the one
+/// that the anchor issued, the last is the target. A signature is checked at most once.
 ///
-/// So far it judges the signature, the two times and the issuer's name. It does not look at extensions: not to be relied on
-/// for a certificate that has some.
+/// # Errors
+///
+/// Memory that is refused.
 pub fn validate<'a, S: SignatureCheck>(
+    alloc: Global,
     anchor: &Anchor<'a>,
     chain: &[Cert<'a>],
-    inputs: &Inputs,
+    inputs: &Inputs<'a>,
+    crls: &Crls<'_>,
     check: &S,
-) -> Verdict<'a>
-    requires { length chain.now ≡ 1 }
-    ensures { IsVerdict (question_in anchor.now chain.now inputs.now (S.accepts check.now)) result }
+) -> Result<Verdict<'a>, AllocError>
+    requires some { 1 ≤ length chain.now }
+    requires few { length chain.now ≤ 16 }
+    ensures { IfOk result (IsVerdict (question_in anchor.now chain.now inputs.now crls.now (S.accepts check.now))) }
 {
-    match first_failing(anchor, &chain[0], inputs, check) {
-        None => Verdict::Valid,
-        Some(reason) => Verdict::Invalid {
-            position: 1,
-            reason,
-        },
+    let mut walk = Walk::start(alloc, anchor, inputs, chain.len() as u8)?;
+    let mut rest = chain;
+    while let [cert, below @ ..] = rest {
+        let position = walk.position();
+        if below.is_empty() {
+            return match walk.end(alloc, anchor, inputs, crls, check, cert)? {
+                End::Accepted(policies) => Ok(Verdict::Valid(policies)),
+                End::Refused(reason) => Ok(Verdict::Invalid { position, reason }),
+            };
+        }
+        match walk.pass(alloc, anchor, inputs, crls, check, cert)? {
+            Step::Next(next) => walk = next,
+            Step::Stop(reason) => return Ok(Verdict::Invalid { position, reason }),
+        }
+        rest = below;
     }
+    unreachable!()
 }

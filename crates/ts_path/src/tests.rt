@@ -1,11 +1,12 @@
-//! Rows by hand: one certificate under one anchor. The octets were made by another tool.
+//! Rows by hand: one certificate under one anchor, and chains of three. The octets and the digests were made by another tool. The
+//! other rules are shown by scripts of the lab.
 
 use super::*;
 use std::alloc::Global;
 use ts_cert::Cert;
 use ts_der::Reader;
-use ts_shape::CertFault;
-use ts_sig::DigestCheck;
+use ts_revoke::Crls;
+use ts_sig::{DigestCheck, TableCheck};
 use ts_time::Moment;
 
 /// The anchor: CN=R, with a key of one octet, signed by itself.
@@ -49,18 +50,54 @@ const FIRST: i64 = 1_767_225_600;
 /// 2027-01-01, its last.
 const LAST: i64 = 1_798_761_600;
 
-/// The position of the certificate and the number of the reason, none where the chain is valid.
-fn judge(anchor: &[u8], cert: &[u8], moment: i64) -> Result<Option<(u8, u8)>, CertFault> {
-    let anchor = Anchor::of(&Cert::read(anchor)?);
-    let inputs = Inputs {
-        moment: Moment(moment),
-    };
-    Ok(
-        match validate(&anchor, &[Cert::read(cert)?], &inputs, &DigestCheck) {
-            Verdict::Valid => None,
-            Verdict::Invalid { position, reason } => Some((position, reason.number())),
-        },
+/// The position of the certificate and the number of the reason, none where a chain of one certificate is valid. The outer `None` is
+/// want of memory, or that octets are no certificate.
+fn judge(alloc: Global, anchor: &[u8], cert: &[u8], moment: i64) -> Option<Option<(u8, u8)>> {
+    let root = Cert::read(anchor).ok()?;
+    let chain = [Cert::read(cert).ok()?];
+    let inputs = Inputs::at(Moment(moment));
+    let verdict = validate(
+        alloc,
+        &Anchor::of(&root),
+        &chain,
+        &inputs,
+        &Crls::none(),
+        &DigestCheck,
     )
+    .ok()?;
+    Some(answer(&verdict))
+}
+
+/// The same of a chain of three with this CA in the middle, whose signatures are listed in a table.
+fn judge_three(
+    alloc: Global,
+    middle: &'static [u8],
+    table: &TableCheck,
+) -> Option<Option<(u8, u8)>> {
+    let root = Cert::read(KEYED).ok()?;
+    let chain = [
+        Cert::read(FIRST_CA).ok()?,
+        Cert::read(middle).ok()?,
+        Cert::read(TARGET).ok()?,
+    ];
+    let inputs = Inputs::at(Moment(JUNE));
+    let verdict = validate(
+        alloc,
+        &Anchor::of(&root),
+        &chain,
+        &inputs,
+        &Crls::none(),
+        table,
+    )
+    .ok()?;
+    Some(answer(&verdict))
+}
+
+fn answer(verdict: &Verdict<'_>) -> Option<(u8, u8)> {
+    match verdict {
+        Verdict::Valid(_) => None,
+        Verdict::Invalid { position, reason } => Some((*position, reason.number())),
+    }
 }
 
 /// An anchor, a certificate and a moment, with the position and the number of the reason, none where the chain is
@@ -84,10 +121,48 @@ const CHAINS: [(&[u8], &[u8], i64, Option<(u8, u8)>); 12] = [
 fn judges_moments_signatures_names_and_parameters(rt: HostRuntime) {
     for &(anchor, cert, moment, verdict) in &CHAINS {
         assert!(rt;
-            judge(anchor, cert, moment) == Ok(verdict),
+            judge(rt.alloc(), anchor, cert, moment) == Some(verdict),
             "{cert:?} at {moment}"
         );
     }
+}
+
+// ---- keys that inherit parameters (RFC 5280 6.1.4 (d) to (f))
+
+/// An anchor whose key has parameters: the element 04 01 07.
+const KEYED: &[u8] =
+    b"\x30\x6b\x30\x5d\xa0\x03\x02\x01\x02\x02\x01\x01\x30\x06\x06\x04\x88\x37\x01\x01\x30\x0c\x31\x0a\x30\x08\x06\x03\x55\x04\x03\x0c\x01\x52\x30\x1e\x17\x0d\x32\x36\x30\x31\x30\x31\x30\x30\x30\x30\x30\x30\x5a\x17\x0d\x32\x37\x30\x31\x30\x31\x30\x30\x30\x30\x30\x30\x5a\x30\x0c\x31\x0a\x30\x08\x06\x03\x55\x04\x03\x0c\x01\x52\x30\x0f\x30\x09\x06\x04\x88\x37\x01\x01\x04\x01\x07\x03\x02\x00\x72\x30\x06\x06\x04\x88\x37\x01\x01\x03\x02\x00\x55";
+
+/// A CA under it, whose key has no parameters, and so those of the anchor.
+const FIRST_CA: &[u8] =
+    b"\x30\x7d\x30\x6f\xa0\x03\x02\x01\x02\x02\x01\x02\x30\x06\x06\x04\x88\x37\x01\x01\x30\x0c\x31\x0a\x30\x08\x06\x03\x55\x04\x03\x0c\x01\x52\x30\x1e\x17\x0d\x32\x36\x30\x31\x30\x31\x30\x30\x30\x30\x30\x30\x5a\x17\x0d\x32\x37\x30\x31\x30\x31\x30\x30\x30\x30\x30\x30\x5a\x30\x0c\x31\x0a\x30\x08\x06\x03\x55\x04\x03\x0c\x01\x41\x30\x0c\x30\x06\x06\x04\x88\x37\x01\x01\x03\x02\x00\x61\xa3\x13\x30\x11\x30\x0f\x06\x03\x55\x1d\x13\x01\x01\xff\x04\x05\x30\x03\x01\x01\xff\x30\x06\x06\x04\x88\x37\x01\x01\x03\x02\x00\x55";
+
+/// A CA under that, whose key has NULL as parameters, and so those of the anchor.
+const SECOND_CA: &[u8] =
+    b"\x30\x7f\x30\x71\xa0\x03\x02\x01\x02\x02\x01\x03\x30\x06\x06\x04\x88\x37\x01\x01\x30\x0c\x31\x0a\x30\x08\x06\x03\x55\x04\x03\x0c\x01\x41\x30\x1e\x17\x0d\x32\x36\x30\x31\x30\x31\x30\x30\x30\x30\x30\x30\x5a\x17\x0d\x32\x37\x30\x31\x30\x31\x30\x30\x30\x30\x30\x30\x5a\x30\x0c\x31\x0a\x30\x08\x06\x03\x55\x04\x03\x0c\x01\x42\x30\x0e\x30\x08\x06\x04\x88\x37\x01\x01\x05\x00\x03\x02\x00\x62\xa3\x13\x30\x11\x30\x0f\x06\x03\x55\x1d\x13\x01\x01\xff\x04\x05\x30\x03\x01\x01\xff\x30\x06\x06\x04\x88\x37\x01\x01\x03\x02\x00\x55";
+
+/// The same CA with a key of another algorithm, which inherits none.
+const OTHER_CA: &[u8] =
+    b"\x30\x7d\x30\x6f\xa0\x03\x02\x01\x02\x02\x01\x03\x30\x06\x06\x04\x88\x37\x01\x01\x30\x0c\x31\x0a\x30\x08\x06\x03\x55\x04\x03\x0c\x01\x41\x30\x1e\x17\x0d\x32\x36\x30\x31\x30\x31\x30\x30\x30\x30\x30\x30\x5a\x17\x0d\x32\x37\x30\x31\x30\x31\x30\x30\x30\x30\x30\x30\x5a\x30\x0c\x31\x0a\x30\x08\x06\x03\x55\x04\x03\x0c\x01\x42\x30\x0c\x30\x06\x06\x04\x88\x37\x01\x02\x03\x02\x00\x62\xa3\x13\x30\x11\x30\x0f\x06\x03\x55\x1d\x13\x01\x01\xff\x04\x05\x30\x03\x01\x01\xff\x30\x06\x06\x04\x88\x37\x01\x01\x03\x02\x00\x55";
+
+/// A certificate under the second CA.
+const TARGET: &[u8] =
+    b"\x30\x68\x30\x5a\xa0\x03\x02\x01\x02\x02\x01\x04\x30\x06\x06\x04\x88\x37\x01\x01\x30\x0c\x31\x0a\x30\x08\x06\x03\x55\x04\x03\x0c\x01\x42\x30\x1e\x17\x0d\x32\x36\x30\x31\x30\x31\x30\x30\x30\x30\x30\x30\x5a\x17\x0d\x32\x37\x30\x31\x30\x31\x30\x30\x30\x30\x30\x30\x5a\x30\x0c\x31\x0a\x30\x08\x06\x03\x55\x04\x03\x0c\x01\x4c\x30\x0c\x30\x06\x06\x04\x88\x37\x01\x01\x03\x02\x00\x6c\x30\x06\x06\x04\x88\x37\x01\x01\x03\x02\x00\x55";
+
+/// The digests of the five signatures, under keys with the parameters that they inherit, or none.
+const CHECKED: &[u8] = b"\
+c8189a7a454b69fd03b9cf55d315b181e2572f879379f8bcaaaa98e17c672f10\n\
+c79334adb44ba91fa06b71e9891d0183878740edea1a57730f095b012e5b0c78\n\
+76f95c662fc2508610e7a2412d7d9c856d7bbf3bd09a3d4d0af23fce0f13f236\n\
+0cf639114a2f81f7ef7a07b69520f95a17c3ea638e1c7003d892c0a5cd4cb22a\n\
+35af3250a78912f9262069b3220e0f181ec549487254ca7374a1e419ecab9577\n\
+";
+
+#[test]
+fn inherits_parameters(rt: HostRuntime) {
+    let table = TableCheck::read(rt.alloc(), CHECKED).unwrap();
+    assert!(rt; judge_three(rt.alloc(), SECOND_CA, &table) == Some(None));
+    assert!(rt; judge_three(rt.alloc(), OTHER_CA, &table) == Some(None));
 }
 
 /// Whether a reason is printed so.

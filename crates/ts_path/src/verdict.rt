@@ -3,10 +3,11 @@
 use crate::reason::Reason;
 
 /// The verdict on a chain.
-#[derive(Clone, Copy, Debug)]
+#[derive(Drop)]
 pub enum Verdict<'a> {
-    /// Each certificate meets each condition.
-    Valid,
+    /// Each certificate meets each condition. The policies that are accepted, each as the content octets of its object
+    /// identifier, ascending by these (RFC 5280 6.1.6).
+    Valid(Vec<&'a [u8]>),
     /// A certificate does not meet a condition: of all that fail, the one at the least position, and there the one of
     /// the least number.
     Invalid {

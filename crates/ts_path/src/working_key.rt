@@ -1,10 +1,11 @@
 //! The key under which a signature is checked.
 
-ghost use Rattle.std.specs.Prelude.{◌≡◌, [], ◌∷◌};
+ghost use Rattle.std.specs.Prelude.{◌≡◌};
 ghost use Rattle.std.specs.Option.{option_copied};
 ghost use Rattle.ts_sig.specs.Key.{key_of};
 ghost use Rattle.ts_cert.specs.View.{key_in};
-ghost use Rattle.ts_path.specs.WorkingKey.{stated, parameters_of};
+ghost use Rattle.ts_path.specs.WorkingKey.{stated, own};
+ghost use Rattle.ts_path.specs.Judging.{key_after as after};
 
 use ts_cert::SubjectPublicKeyInfo;
 use ts_sig::WorkingKey;
@@ -23,13 +24,38 @@ fn stated_parameters(parameters: Option<&[u8]>) -> Option<&[u8]>
 }
 
 /// The key of an anchor, which has no issuer whose parameters it could inherit (RFC 5280 6.1.2 (g) to (i)).
-#[tactic(auto, unfolding(crate::specs::WorkingKey::parameters_of))]
 pub(crate) fn key_of_anchor<'a>(key: &SubjectPublicKeyInfo<'a>) -> WorkingKey<'a>
-    ensures { key_of result ≡ record { algorithm = (key_in key.now).algorithm.algorithm; parameters = parameters_of (key_in key.now ∷ []); octets = (key_in key.now).subjectPublicKey } }
+    ensures { key_of result ≡ record { algorithm = (key_in key.now).algorithm.algorithm; parameters = own (key_in key.now); octets = (key_in key.now).subjectPublicKey } }
 {
     WorkingKey {
         algorithm: key.algorithm.algorithm,
         parameters: stated_parameters(key.algorithm.parameters),
         octets: key.subject_public_key,
     }
+}
+
+/// The key of a certificate, which inherits the parameters of the key before it if it states none and has the same algorithm
+/// (RFC 5280 6.1.4 (d) to (f)).
+pub(crate) fn key_after<'a>(
+    before: &WorkingKey<'a>,
+    key: &SubjectPublicKeyInfo<'a>,
+) -> WorkingKey<'a>
+    ensures { key_of result ≡ after (key_of before.now) (key_in key.now) }
+{
+    WorkingKey {
+        algorithm: key.algorithm.algorithm,
+        parameters: parameters_after(before, key),
+        octets: key.subject_public_key,
+    }
+}
+
+/// The parameters of a key, or those that it inherits.
+fn parameters_after<'a>(before: &WorkingKey<'a>, key: &SubjectPublicKeyInfo<'a>) -> Option<&'a [u8]>
+    ensures { option_copied result ≡ (after (key_of before.now) (key_in key.now)).parameters }
+{
+    let own = stated_parameters(key.algorithm.parameters);
+    if own.is_none() && key.algorithm.algorithm == before.algorithm {
+        return before.parameters;
+    }
+    own
 }

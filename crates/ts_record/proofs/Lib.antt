@@ -1,6 +1,10 @@
+mod Forces
 mod Laws
+mod Ledgers
 mod Numbers
 mod Opened
+mod Places
+mod Ready
 mod Records
 mod Reopened
 mod Spellings

@@ -3,19 +3,19 @@ use Rattle.std.proofs.Common.{◌≡◌, ◌⊎◌, inl, inr, ◌+◌, ℕ, cond
 use Rattle.std.specs.List.{flat_map}
 use Rattle.ts_disk.specs.Disk.{State, IsDurable, Call, Same}
 use Rattle.ts_journal.specs.Images.{head, Block, block}
-use Rattle.ts_journal.specs.Settled.{IsSpare, header_of}
+use Rattle.ts_journal.specs.Settled.{Holds, IsSpare, header_of}
 use Rattle.ts_journal.specs.Choice.{IsLive, IsOther, IsChosen}
 use Rattle.ts_journal.specs.declared.choice.Choice.{Choice}
 use Rattle.ts_journal.specs.declared.journal.Journal.{Journal}
 use Rattle.ts_journal.specs.declared.journal.Stage.{Stage}
 use Rattle.ts_journal.specs.declared.journal.Stage.TheVariants.{Live, Closed, Begun, Copying}
 use Rattle.ts_synod.specs.declared.message.Fact.{Fact}
-use Rattle.ts_record.specs.Facts.{OpensTo}
+use Rattle.ts_record.specs.Facts.{AreFacts, OpensTo}
 use Rattle.ts_record.specs.Blocks.{IsRead}
-use Rattle.ts_record.specs.Kept.{Keeps}
 use Rattle.ts_record.specs.Opening.{IsRefused, IsFault}
+use Rattle.ts_record.specs.Rewrite.{rewrite_at, IsUnderWay}
 use Rattle.ts_record.specs.declared.fault.Fault.{Fault}
-use Rattle.ts_record.specs.declared.fault.Fault.TheVariants.{Memory, DiskFailed, Broken, NotFormatted, OldVersion, Damaged}
+use Rattle.ts_record.specs.declared.fault.Fault.TheVariants.{Memory, DiskFailed, Broken, GenerationsExhausted, NotFormatted, OldVersion, Damaged}
 use Rattle.ts_record.proofs.Opened.{read_is, not_unreadable, not_unchosen, stands_chosen}
 
 pub stays_durable : (old new : State) → IsDurable old → Call Same old new → new.read ≡ old.read → IsDurable new
@@ -25,6 +25,7 @@ pub refused_fault : {C : Type 0} (octets : C → List ℕ) (old_a old_b new_a ne
 refused_fault octets old_a old_b new_a new_b a b Memory a_is b_is refused = absurd refused
 refused_fault octets old_a old_b new_a new_b a b DiskFailed a_is b_is refused = absurd refused
 refused_fault octets old_a old_b new_a new_b a b Broken a_is b_is refused = absurd refused
+refused_fault octets old_a old_b new_a new_b a b GenerationsExhausted a_is b_is refused = absurd refused
 refused_fault octets old_a old_b new_a new_b a b NotFormatted a_is b_is refused = subst (λ x. IsRefused x old_b.read NotFormatted) a_is (subst (λ y. IsRefused a y NotFormatted) b_is refused)
 refused_fault octets old_a old_b new_a new_b a b OldVersion a_is b_is refused = subst (λ x. IsRefused x old_b.read OldVersion) a_is (subst (λ y. IsRefused a y OldVersion) b_is refused)
 refused_fault octets old_a old_b new_a new_b a b (Damaged at) a_is b_is refused = absurd refused
@@ -37,7 +38,7 @@ spare_of Copying state j durable other = absurd other
 
 -- what was read stands on the disk in use
 pub keeps_of : {D C : Type 0} (state : D → State) (octets : C → List ℕ) (j : Journal D) (facts : List (Fact C)) → IsLive (header_of j) (state j.current).read → IsOther j.stage j.generation (state j.spare).read
-    → IsDurable (state j.current) → IsDurable (state j.spare) → IsRead octets (state j.current).read facts j.end → Keeps state octets j facts
+    → IsDurable (state j.current) → IsDurable (state j.spare) → IsRead octets (state j.current).read facts j.end → (bodies copied : List (List ℕ)) × Holds state bodies copied j × AreFacts octets bodies facts
 keeps_of state octets j facts live other durable still read =
     let h = header_of j in
     let blocks = read.0.blocks in
@@ -77,9 +78,17 @@ pub no_fault : {C : Type 0} (octets : C → List ℕ) (old_a old_b new_a new_b :
 no_fault octets old_a old_b new_a new_b Memory facts is opens = inl refl
 no_fault octets old_a old_b new_a new_b DiskFailed facts is opens = inr refl
 no_fault octets old_a old_b new_a new_b Broken facts is opens = absurd is
+no_fault octets old_a old_b new_a new_b GenerationsExhausted facts is opens = absurd is
 no_fault octets old_a old_b new_a new_b NotFormatted facts is opens = absurd (not_unchosen opens.0 old_a.read old_b.read is.0 opens.1)
 no_fault octets old_a old_b new_a new_b OldVersion facts is opens = absurd (not_unchosen opens.0 old_a.read old_b.read is.0 opens.1)
 no_fault octets old_a old_b new_a new_b (Damaged at) facts is opens =
     let choice = is.0 in
     let s = stands_chosen choice.swapped choice.owner choice.stage opens.0 old_a.read old_b.read is.1.live is.1.other opens.1 in
     absurd (not_unreadable octets (cond choice.swapped old_b.read old_a.read) facts at s.0 s.1 opens.0 is.2 s.2 opens.2)
+
+-- no rewrite is under way on a record that was opened
+pub none_under_way : {C : Type 0} (octets : C → List ℕ) (stage : Stage) (generation : ℕ) (image : List ℕ) (facts list : List (Fact C)) (copied : List (List ℕ)) (done : ℕ) → IsOther stage generation image → IsUnderWay octets facts copied (rewrite_at stage list done)
+none_under_way octets Live generation image facts list copied done other = tt
+none_under_way octets Closed generation image facts list copied done other = tt
+none_under_way octets Begun generation image facts list copied done other = absurd other
+none_under_way octets Copying generation image facts list copied done other = absurd other

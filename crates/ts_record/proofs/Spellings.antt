@@ -19,13 +19,13 @@ no_longer octets [] i fact le is = absurd (omega (arith, le))
 no_longer {C} octets (f ∷ facts) zero fact le is = omega (arith, ap (λ (x : Fact C). length (spelling octets x)) is, length-append (spelling octets f) (spellings octets facts))
 no_longer octets (f ∷ facts) (suc i) fact le is = omega (arith, no_longer octets facts i fact (omega (arith, le)) is, length-append (spelling octets f) (spellings octets facts))
 
+pub one_octet : {C : Type 0} (octets : C → List ℕ) (f : Fact C) → 1 ≤ length (spelling octets f)
+one_octet octets (Used r) = omega arith
+one_octet octets (Promised p b) = omega arith
+one_octet octets (Took p b c) = omega arith
+one_octet octets (Chosen p c) = omega arith
+
 -- each fact has an octet at least
 pub some : {C : Type 0} (octets : C → List ℕ) (facts : List (Fact C)) → 0 < length facts → 1 ≤ length (spellings octets facts)
 some octets [] more = absurd (omega (arith, more))
-some {C} octets (fact ∷ facts) more = omega (arith, has_kind fact, length-append (spelling octets fact) (spellings octets facts))
-  where
-    has_kind : (f : Fact C) → 1 ≤ length (spelling octets f)
-    has_kind (Used r) = omega arith
-    has_kind (Promised p b) = omega arith
-    has_kind (Took p b c) = omega arith
-    has_kind (Chosen p c) = omega arith
+some octets (fact ∷ facts) more = omega (arith, one_octet octets fact, length-append (spelling octets fact) (spellings octets facts))

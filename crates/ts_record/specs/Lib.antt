@@ -1,6 +1,9 @@
 pub mod Blocks
+pub mod Compacted
 pub mod Facts
 pub mod Faults
 pub mod Kept
 pub mod Opening
+pub mod Places
 pub mod Record
+pub mod Rewrite

@@ -7,7 +7,7 @@ use Rattle.ts_disk.specs.Disk.{State}
 use Rattle.ts_record.specs.Blocks.{IsUnreadable}
 use Rattle.ts_record.specs.Record.{EitherFailed}
 use Rattle.ts_record.specs.declared.fault.Fault.{Fault}
-use Rattle.ts_record.specs.declared.fault.Fault.TheVariants.{Memory, DiskFailed, Broken, NotFormatted, OldVersion, Damaged}
+use Rattle.ts_record.specs.declared.fault.Fault.TheVariants.{Memory, DiskFailed, Broken, GenerationsExhausted, NotFormatted, OldVersion, Damaged}
 
 -- the first eight octets of a record of version 1
 abbrev pub BeginsOld : List ℕ → Type 0
@@ -22,6 +22,7 @@ abbrev pub IsRefused : List ℕ → List ℕ → Fault → Type 0
 IsRefused a b Memory = ⊥
 IsRefused a b DiskFailed = ⊥
 IsRefused a b Broken = ⊥
+IsRefused a b GenerationsExhausted = ⊥
 IsRefused a b NotFormatted = Unchosen a b × (IsOld a b → ⊥)
 IsRefused a b OldVersion = Unchosen a b × IsOld a b
 IsRefused a b (Damaged at) = ⊥
@@ -32,6 +33,7 @@ abbrev pub IsFault : {C : Type 0} → (C → List ℕ) → State → State → S
 IsFault octets old_a old_b new_a new_b Memory = Unit {0}
 IsFault octets old_a old_b new_a new_b DiskFailed = EitherFailed old_a old_b new_a new_b
 IsFault octets old_a old_b new_a new_b Broken = ⊥
+IsFault octets old_a old_b new_a new_b GenerationsExhausted = ⊥
 IsFault octets old_a old_b new_a new_b NotFormatted = IsRefused old_a.read old_b.read NotFormatted
 IsFault octets old_a old_b new_a new_b OldVersion = IsRefused old_a.read old_b.read OldVersion
 IsFault octets old_a old_b new_a new_b (Damaged at) = (choice : Choice) × IsChosen choice old_a.read old_b.read × IsUnreadable octets (cond choice.swapped old_b.read old_a.read) at

@@ -15,6 +15,8 @@ pub enum Fault {
     DiskFailed,
     /// A device failed in an earlier call.
     Broken,
+    /// The generation is the last one, 2^64 - 1: the record can't be rewritten.
+    GenerationsExhausted,
     /// The two disks are not those of a record.
     NotFormatted,
     /// The first disk has a record of version 1.

@@ -12,7 +12,8 @@
 //! |---|---|
 //! | `Record::format` | `first`, `second`: the octets; `opens`: each pair of images opens to no facts |
 //! | `Record::open` | `opens`: each pair of images opens to the facts; `only`: where what is read opens to facts, these are answered, or memory or a device failed; `fault`: where each fault comes from; `same` |
-//! | `Record::append` | `moments`: at every moment each pair of images opens to the facts before, or to those with all of the new ones; `kept`, `opens`; `memory`, `failed`, `broken`, `stays` |
+//! | `Record::append` | `moments`: at every moment each pair of images opens to the facts before, or to those with all of the new ones; `kept`, `opens`, `swapped`, `generation`; `refused`: at a fault the facts stay, and so does the rewrite; `memory`, `failed`, `broken`, `stays` |
+//! | `Record::compact` | one step of a rewrite on the other disk. `moments`: at every moment each pair of images opens to facts of the same force; `from`: before the last step to the facts, from the disk in use; `steps`, `force`, `opens`; `refused`, `memory`, `failed`, `broken`, `stays`, `exhausted`, `last` |
 //! | `Record::facts`, `close` | the facts; the two disks |
 //! | `Codec` | a command's octets; one spelling, both ways |
 //!
@@ -22,14 +23,20 @@
 
 mod blocks;
 mod codec;
+mod compacted;
 mod fault;
+mod ledger;
 mod opening;
+mod progress;
 mod reading;
 mod record;
+#[cfg(test)]
+mod rewrite_tests;
 #[cfg(test)]
 mod tests;
 mod writing;
 
 pub use codec::Codec;
 pub use fault::Fault;
+pub use progress::Progress;
 pub use record::{Record, Refused};

@@ -1,19 +1,23 @@
 // A record of facts on two disks.
-ghost use Rattle.std.specs.Prelude.{◌≡◌, ◌≤◌, ◌⊎◌, ◌++◌, ◌∷◌, [], ◌^◌, ◌-◌, ◌<◌, ℕ, List, false, true, length, IfOk, OnOk, IfErr, MatchResult, IsErrOf, drop, cond};
+ghost use Rattle.std.specs.Prelude.{◌≡◌, ◌≤◌, ◌⊎◌, ◌++◌, ◌∷◌, [], ◌^◌, ◌+◌, ℕ, List, false, true, length, IfOk, OnOk, OnErr, IfErr, MatchResult, IsErrOf, drop, cond};
 ghost use Rattle.ts_disk.specs.Disk.{IsDurable, DeviceFailed};
 ghost use Rattle.ts_journal.specs.Images.{head, AnyPair, EveryPair};
-ghost use Rattle.ts_record.specs.declared.fault.Fault.TheVariants.{Memory, DiskFailed, Broken, NotFormatted, OldVersion, Damaged};
+ghost use Rattle.ts_record.specs.declared.fault.Fault.TheVariants.{Memory, DiskFailed, Broken, GenerationsExhausted};
 ghost use Rattle.ts_record.specs.Facts.{AllFit, spellings, OpensTo};
-ghost use Rattle.ts_journal.specs.Choice.{header_of_owner, IsLive, IsOther};
+ghost use Rattle.ts_journal.specs.Choice.{header_of_owner, IsLive, IsOther, IsChosen};
+ghost use Rattle.ts_journal.specs.declared.choice.Choice.{Choice};
 ghost use Rattle.ts_synod.specs.declared.message.Fact.{Fact};
 ghost use Rattle.ts_record.specs.Blocks.{IsRead};
 ghost use Rattle.ts_record.specs.Opening.{IsFault};
-ghost use Rattle.ts_record.specs.Record.{ToBeforeOrAfter, EitherFailed};
+ghost use Rattle.ts_record.specs.Record.{ToBeforeOrAfter, OpensToFrom, OpensToForce, EitherFailed};
+ghost use Rattle.ts_record.specs.Rewrite.{idle, with_more, IsLast, Steps};
+ghost use Rattle.ts_record.specs.Kept.{course};
+ghost use Rattle.ts_synod.specs.Force.{SameForce};
 
 use crate::blocks::Contents;
+use crate::ledger::{Ledger, append, step};
 use crate::opening::{Found, opened};
-use crate::writing::{copies, entry_of, move_behind};
-use crate::{Codec, Fault};
+use crate::{Codec, Fault, Progress};
 use std::alloc::Global;
 use std::marker::Model;
 use ts_disk::Disk;
@@ -23,21 +27,19 @@ use ts_synod::Fact;
 /// A record of facts on two disks, of which one is in use.
 #[derive(Drop)]
 pub struct Record<D: Disk, C: Codec> {
-    journal: Journal<D>,
-    facts: Vec<Fact<C>>,
+    ledger: Ledger<D, C>,
     broken: bool,
 }
 
 impl<D: Disk, C: Codec> Model for Record<D, C> {
     ghost use Rattle.std.specs.Prelude.{◌≡◌, false};
-    ghost use Rattle.ts_journal.specs.Settled.{disk_a, disk_b};
-    ghost use Rattle.ts_record.specs.Kept.{Kept, Keeps};
+    ghost use Rattle.ts_record.specs.Kept.{Kept, Keeps, kept_of};
 
     ghost Value = { Kept D C };
 
-    ghost view = { λ r. record { a = disk_a r.journal; b = disk_b r.journal; facts = r.facts.items; broken = r.broken } };
+    ghost view = { λ r. kept_of r.ledger r.broken };
 
-    ghost invariant = { λ r. r.broken ≡ false → Keeps D.state C.octets r.journal r.facts.items };
+    ghost invariant = { λ r. r.broken ≡ false → Keeps D.state C.octets r.ledger };
 }
 
 /// Why a record was not opened, and its two disks.
@@ -49,7 +51,12 @@ pub struct Refused<D: Disk> {
 }
 
 // The record that was read.
-fn record_of<D: Disk, C: Codec>(current: D, spare: D, found: Found<C>) -> Record<D, C>
+fn record_of<D: Disk, C: Codec>(
+    alloc: Global,
+    current: D,
+    spare: D,
+    found: Found<C>,
+) -> Record<D, C>
     requires live { IsLive (header_of_owner found.choice.owner) (D.state current).read }
     requires other { IsOther found.choice.stage found.choice.owner.generation (D.state spare).read }
     requires durable { IsDurable (D.state current) }
@@ -59,23 +66,31 @@ fn record_of<D: Disk, C: Codec>(current: D, spare: D, found: Found<C>) -> Record
     ensures b { result.b ≡ cond found.choice.swapped current spare }
     ensures facts { result.facts ≡ found.contents.facts.items }
     ensures broken { result.broken ≡ false }
-    ensures opens { AnyPair (OpensTo C.octets result.facts) (D.state result.a) (D.state result.b) }
+    ensures swapped { result.swapped ≡ found.choice.swapped }
+    ensures generation { result.generation ≡ found.choice.owner.generation }
+    ensures rewrite { result.rewrite ≡ idle }
+    ensures opens { AnyPair (OpensToFrom C.octets result.swapped result.facts) (D.state result.a) (D.state result.b) }
 {
     let Found { choice, contents } = found;
     let Contents { facts, end } = contents;
+    let journal = Journal {
+        current,
+        spare,
+        swapped: choice.swapped,
+        node: choice.owner.node,
+        nodes: choice.owner.nodes,
+        generation: choice.owner.generation,
+        end,
+        stage: choice.stage,
+        copy_end: 0,
+    };
     Record {
-        journal: Journal {
-            current,
-            spare,
-            swapped: choice.swapped,
-            node: choice.owner.node,
-            nodes: choice.owner.nodes,
-            generation: choice.owner.generation,
-            end,
-            stage: choice.stage,
-            copy_end: 0,
+        ledger: Ledger {
+            journal,
+            facts,
+            copy: Vec::new(alloc),
+            done: 0,
         },
-        facts,
         broken: false,
     }
 }
@@ -101,8 +116,13 @@ impl<D: Disk, C: Codec> Record<D, C> {
 
     /// Opens the record on two disks, which are synced and read first. Refused, it gives the disks back.
     pub fn open(alloc: Global, a: D, b: D) -> Result<Record<D, C>, Refused<D>>
-        // Each pair of images that a crash may leave opens to the facts.
-        ensures opens { IfOk result (λ opened. AnyPair (OpensTo C.octets opened.facts) (D.state opened.a) (D.state opened.b)) }
+        // Each pair of images that a crash may leave opens to the facts, from the disk in use.
+        ensures opens { IfOk result (λ opened. AnyPair (OpensToFrom C.octets opened.swapped opened.facts) (D.state opened.a) (D.state opened.b)) }
+        // The disk in use is the one of the greatest generation among those that are live.
+        ensures chosen { IfOk result (λ opened. (choice : Choice) × IsChosen choice (D.state a).read (D.state b).read
+            × (opened.swapped ≡ choice.swapped) × (opened.generation ≡ choice.owner.generation)) }
+        // No rewrite is begun: one that was not switched is forgotten.
+        ensures idle { IfOk result (λ opened. opened.rewrite ≡ idle) }
         ensures whole { IfOk result (λ opened. opened.broken ≡ false) }
         // What a read gives stays.
         ensures same { MatchResult result
@@ -118,9 +138,9 @@ impl<D: Disk, C: Codec> Record<D, C> {
         match opened(alloc, &mut a, &mut b) {
             Ok(found) => {
                 if found.choice.swapped {
-                    Ok(record_of(b, a, found))
+                    Ok(record_of(alloc, b, a, found))
                 } else {
-                    Ok(record_of(a, b, found))
+                    Ok(record_of(alloc, a, b, found))
                 }
             }
             Err(fault) => Err(Refused { fault, a, b }),
@@ -131,7 +151,7 @@ impl<D: Disk, C: Codec> Record<D, C> {
     pub fn facts(&self) -> &[Fact<C>]
         ensures { result.now ≡ self.now.facts }
     {
-        &self.facts
+        &self.ledger.facts
     }
 
     /// Gives the two disks back, in the order in which they were given.
@@ -139,11 +159,8 @@ impl<D: Disk, C: Codec> Record<D, C> {
         ensures a { result.0 ≡ self.a }
         ensures b { result.1 ≡ self.b }
     {
-        let Record {
-            journal,
-            facts: _,
-            broken: _,
-        } = self;
+        let Record { ledger, broken: _ } = self;
+        let Ledger { journal, .. } = ledger;
         let Journal {
             current,
             spare,
@@ -165,12 +182,21 @@ impl<D: Disk, C: Codec> Record<D, C> {
 
         ensures kept { OnOk result (self.new.facts ≡ self.old.facts ++ facts.now) }
 
-        // At every moment each pair of images opens to the facts before, or to those and all of the new ones.
-        ensures moments { self.old.broken ≡ false
-            → EveryPair (ToBeforeOrAfter C.octets self.old.facts facts.now) (D.state self.old.a) (D.state self.old.b) (D.state self.new.a) (D.state self.new.b) }
+        // A rewrite copies the new facts too.
+        ensures rewrite { OnOk result (self.new.rewrite ≡ with_more self.old.rewrite facts.now) }
+        ensures swapped { self.new.swapped ≡ self.old.swapped }
+        ensures generation { self.new.generation ≡ self.old.generation }
 
-        // Afterwards each pair of images opens to the facts.
-        ensures opens { OnOk result (AnyPair (OpensTo C.octets self.new.facts) (D.state self.new.a) (D.state self.new.b)) }
+        // At a fault the facts stay, and so do the disk in use, its generation and the rewrite.
+        ensures refused { OnErr result (course self.new ≡ course self.old) }
+
+        // At every moment each pair of images opens to the facts before, or to those and all of the new ones, and from the
+        // disk in use.
+        ensures moments { self.old.broken ≡ false
+            → EveryPair (ToBeforeOrAfter C.octets self.old.swapped self.old.facts facts.now) (D.state self.old.a) (D.state self.old.b) (D.state self.new.a) (D.state self.new.b) }
+
+        // Afterwards each pair of images opens to the facts, from the disk in use.
+        ensures opens { OnOk result (AnyPair (OpensToFrom C.octets self.new.swapped self.new.facts) (D.state self.new.a) (D.state self.new.b)) }
 
         ensures fault { IfErr result (λ fault. (fault ≡ Memory) ⊎ (fault ≡ DiskFailed) ⊎ (fault ≡ Broken)) }
         ensures memory { IsErrOf result Fault.Memory → self.new ≡ self.old }
@@ -186,13 +212,61 @@ impl<D: Disk, C: Codec> Record<D, C> {
         if facts.is_empty() {
             return Ok(());
         }
-        let octets = entry_of(alloc, facts)?;
-        let mut more = copies(alloc, facts)?;
-        self.facts.reserve(more.len())?;
-        self.broken = true;
-        self.journal.append(&octets)?;
-        self.broken = false;
-        move_behind(&mut self.facts, &mut more);
-        Ok(())
+        let answer = append(alloc, &mut self.ledger, facts);
+        self.broken = is_failure(&answer);
+        answer
     }
+
+    /// Makes one step of a rewrite of the record on its other disk. The first decides what is copied, closes that disk's live gate
+    /// where it is open, and syncs; the second writes its header, of the next generation; then each copies a fact, as a body
+    /// of its own; and the last one opens the live gate, so that the record is on that disk. Facts may be appended between two
+    /// steps, and are copied too. Memory is reserved before the first device call.
+    pub fn compact(&mut self, alloc: Global) -> Result<Progress, Fault>
+        ensures steps { IfOk result (λ answer. Steps (course self.old) answer (course self.new)) }
+
+        // At a fault the facts stay, and so do the disk in use, its generation and the rewrite.
+        ensures refused { OnErr result (course self.new ≡ course self.old) }
+
+        // At every moment each pair of images opens to facts of the same force.
+        ensures moments { self.old.broken ≡ false
+            → EveryPair (OpensToForce C.octets self.old.facts) (D.state self.old.a) (D.state self.old.b) (D.state self.new.a) (D.state self.new.b) }
+
+        // Before the last step each pair opens to the facts, from the disk in use.
+        ensures from { self.old.broken ≡ false → (IsLast self.old.rewrite → ⊥)
+            → EveryPair (OpensToFrom C.octets self.old.swapped self.old.facts) (D.state self.old.a) (D.state self.old.b) (D.state self.new.a) (D.state self.new.b) }
+
+        // Afterwards each pair of images opens to the facts, from the disk in use.
+        ensures opens { OnOk result (AnyPair (OpensToFrom C.octets self.new.swapped self.new.facts) (D.state self.new.a) (D.state self.new.b)) }
+
+        // The facts to be copied are of the force of all.
+        ensures force { OnOk result (SameForce self.new.facts self.old.facts) }
+
+        ensures fault { IfErr result (λ fault. (fault ≡ Memory) ⊎ (fault ≡ DiskFailed) ⊎ (fault ≡ Broken) ⊎ (fault ≡ GenerationsExhausted)) }
+        ensures memory { IsErrOf result Fault.Memory → self.new ≡ self.old }
+        ensures failed { IsErrOf result Fault.DiskFailed → (self.new.broken ≡ true) × (self.new.facts ≡ self.old.facts)
+            × EitherFailed (D.state self.old.a) (D.state self.old.b) (D.state self.new.a) (D.state self.new.b) }
+        ensures broken { IsErrOf result Fault.Broken → (self.old.broken ≡ true) × (self.new ≡ self.old) }
+        ensures stays { self.old.broken ≡ true → IsErrOf result Fault.Broken }
+        ensures exhausted { IsErrOf result Fault.GenerationsExhausted → (self.old.generation + 1 ≡ 2 ^ 64) × (self.new ≡ self.old) }
+        ensures last { self.old.broken ≡ false → self.old.generation + 1 ≡ 2 ^ 64 → IsErrOf result Fault.GenerationsExhausted }
+        ensures whole { OnOk result (self.new.broken ≡ false) }
+    {
+        if self.broken {
+            return Err(Fault::Broken);
+        }
+        if self.ledger.journal.generation == u64::MAX {
+            return Err(Fault::GenerationsExhausted);
+        }
+        let answer = step(alloc, &mut self.ledger);
+        self.broken = is_failure(&answer);
+        answer
+    }
+}
+
+// Whether a device failed in the call.
+fn is_failure<T>(answer: &Result<T, Fault>) -> bool
+    ensures failed { result ≡ true → IsErrOf answer.now Fault.DiskFailed }
+    ensures others { result ≡ false → IsErrOf answer.now Fault.DiskFailed → ⊥ }
+{
+    matches!(answer, Err(Fault::DiskFailed))
 }

@@ -2,12 +2,12 @@ use crate::{Codec, Fault, Record, Refused};
 use std::alloc::{AllocError, Global};
 use std::marker::Model;
 use std::test::Fail;
-use ts_disk::{DiskCall, MemDisk};
+use ts_disk::{DiskCall, MemDisk, Torn};
 use ts_synod::Fact;
 
 // A command that is any octets.
 #[derive(Drop)]
-struct Word {
+pub(crate) struct Word {
     octets: Vec<u8>,
 }
 
@@ -204,56 +204,6 @@ fn each_bad_image_has_its_fault(rt: HostRuntime) -> Result<(), Fail> {
     Ok(())
 }
 
-// The image that a crash leaves of a disk: what isn't synced has its old octets, its new ones, or one octet.
-#[derive(Clone, Copy, Debug, PartialEq, Eq)]
-enum Torn {
-    Old,
-    New,
-    Byte(u8),
-}
-
-fn overwritten(
-    image: &mut Vec<u8>,
-    at: usize,
-    octets: &[u8],
-    torn: Torn,
-) -> Result<(), AllocError> {
-    for (i, octet) in octets.iter().enumerate() {
-        let octet = match torn {
-            Torn::Byte(octet) => octet,
-            _ => *octet,
-        };
-        match image.get_mut(at.saturating_add(i)) {
-            Some(place) => *place = octet,
-            None => image.push(octet)?,
-        }
-    }
-    Ok(())
-}
-
-fn crashed(
-    alloc: Global,
-    first: &[u8],
-    calls: &[DiskCall],
-    torn: Torn,
-) -> Result<Vec<u8>, AllocError> {
-    let mut read = first.to_vec(alloc)?;
-    let mut left = first.to_vec(alloc)?;
-    for call in calls {
-        match call {
-            DiskCall::Read => {}
-            DiskCall::Write { at, octets } => {
-                overwritten(&mut read, *at, octets, Torn::New)?;
-                if torn != Torn::Old {
-                    overwritten(&mut left, *at, octets, torn)?;
-                }
-            }
-            DiskCall::Sync => left = read.to_vec(alloc)?,
-        }
-    }
-    Ok(left)
-}
-
 // Whether a crash after so many calls of an append leaves the new fact.
 const CRASHES: [(u64, Torn, bool); 15] = [
     (0, Torn::Old, false),
@@ -284,8 +234,7 @@ fn stopped(alloc: Global, calls: u64, torn: Torn) -> Result<(usize, Option<Fault
     let answer = record.append(alloc, &[Fact::Used { round: 1 }]);
     let again = record.append(alloc, &[Fact::Used { round: 2 }]);
     let (a, b) = record.close();
-    let left = MemDisk::new(alloc, crashed(alloc, &[], a.calls(), torn)?)?;
-    let Ok(record) = Record::<MemDisk, Word>::open(alloc, left, b) else {
+    let Ok(record) = Record::<MemDisk, Word>::open(alloc, a.crash(torn)?, b) else {
         return Ok((98, None));
     };
     let fault = match (answer, again) {
@@ -306,6 +255,81 @@ fn a_crash_leaves_the_facts_before_or_after(rt: HostRuntime) -> Result<(), Fail>
             (usize::from(kept), fault),
             "{calls}"
         );
+    }
+    Ok(())
+}
+
+// A record of four bodies.
+fn with_four_bodies(alloc: Global) -> Result<Option<(MemDisk, MemDisk)>, Fail> {
+    let (mut a, mut b) = (empty(alloc)?, empty(alloc)?);
+    Record::<MemDisk, Word>::format(&mut a, &mut b, 1, 3)?;
+    let Ok(mut record) = Record::<MemDisk, Word>::open(alloc, a, b) else {
+        return Ok(None);
+    };
+    record.append(alloc, &[Fact::Used { round: 1 }])?;
+    record.append(
+        alloc,
+        &[Fact::Promised {
+            position: 1,
+            ballot: 17,
+        }],
+    )?;
+    let command = Word {
+        octets: [7, 8].to_vec(alloc)?,
+    };
+    record.append(
+        alloc,
+        &[Fact::Took {
+            position: 1,
+            ballot: 17,
+            command,
+        }],
+    )?;
+    let command = Word {
+        octets: [9].to_vec(alloc)?,
+    };
+    record.append(
+        alloc,
+        &[Fact::Chosen {
+            position: 1,
+            command,
+        }],
+    )?;
+    Ok(Some(record.close()))
+}
+
+fn is_named(fault: Option<Fault>) -> bool {
+    matches!(
+        fault,
+        None | Some(Fault::NotFormatted) | Some(Fault::Damaged(_))
+    )
+}
+
+// Whether opening answers facts or a fault that names the image, with each of these octets at a place.
+fn answers(alloc: Global, whole: &[u8], b: &[u8], at: usize) -> Result<bool, AllocError> {
+    let mut all = true;
+    for octet in [0, 0x7f, 0x80, 0xff] {
+        let mut image = whole.to_vec(alloc)?;
+        if let Some(place) = image.get_mut(at) {
+            *place = octet;
+        }
+        all &= is_named(fault_of(alloc, &image, b)?);
+    }
+    Ok(all)
+}
+
+#[test]
+fn any_octet_may_be_another_and_any_end_missing(rt: HostRuntime) -> Result<(), Fail> {
+    let alloc = rt.alloc();
+    let Some((a, b)) = with_four_bodies(alloc)? else {
+        panic!(&rt; "not opened");
+    };
+    let (whole, shut) = (a.octets(), b.octets());
+    assert_eq!(rt; fault_of(alloc, whole, shut)?, None);
+    for at in 0..whole.len() {
+        let cut = fault_of(alloc, &whole[..at], shut)?;
+        let is_refused = cut.is_some() && is_named(cut);
+        assert!(rt; is_refused && answers(alloc, whole, shut, at)?, "{at}");
     }
     Ok(())
 }

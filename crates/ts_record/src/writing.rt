@@ -1,5 +1,5 @@
 // Facts are written as a body.
-ghost use Rattle.std.specs.Prelude.{◌≡◌, ◌≤◌, ◌+◌, ◌^◌, ◌<◌, ◌++◌, length, IfOk, OnOk, ◌∷◌, vec_len, vec_capacity};
+ghost use Rattle.std.specs.Prelude.{◌≡◌, ◌≤◌, ◌+◌, ◌^◌, ◌<◌, ◌++◌, length, IfOk, OnOk, cond, [], ◌∷◌, vec_len, vec_capacity};
 ghost use Rattle.std.specs.Int.{to_be_bytes, w32};
 ghost use Rattle.ts_journal.specs.Images.{entry};
 ghost use Rattle.ts_record.specs.Facts.{blob, spelling, spellings};
@@ -43,6 +43,21 @@ pub(crate) fn copies<C: Codec>(alloc: Global, facts: &[Fact<C>]) -> Result<Vec<F
         all.push(copied(alloc, fact)?)?;
     }
     Ok(all)
+}
+
+// Copies of facts, where they are wanted.
+pub(crate) fn copies_if<C: Codec>(
+    alloc: Global,
+    wanted: bool,
+    facts: &[Fact<C>],
+) -> Result<Vec<Fact<C>>, AllocError>
+    ensures { IfOk result (λ copies. copies.items ≡ cond wanted facts.now []) }
+{
+    if wanted {
+        copies(alloc, facts)
+    } else {
+        Ok(Vec::new(alloc))
+    }
 }
 
 // Moves facts behind others, for which there is room.
@@ -122,14 +137,34 @@ fn spelled<C: Codec>(alloc: Global, facts: &[Fact<C>]) -> Result<Vec<u8>, AllocE
     Ok(octets)
 }
 
+// What stands behind the gate of a body.
+fn framed(alloc: Global, body: &[u8]) -> Result<Vec<u8>, AllocError>
+    requires { length body.now ≤ 4194500 }
+    ensures { IfOk result (λ octets. octets.items ≡ entry body.now) }
+{
+    let mut out = Vec::new(alloc);
+    push_blob(&mut out, body)?;
+    out.push(0)?;
+    Ok(out)
+}
+
 // What stands behind the gate of a body of these facts.
 pub(crate) fn entry_of<C: Codec>(alloc: Global, facts: &[Fact<C>]) -> Result<Vec<u8>, AllocError>
     requires { length (spellings C.octets facts.now) ≤ 4194500 }
     ensures { IfOk result (λ octets. octets.items ≡ entry (spellings C.octets facts.now)) }
 {
     let body = spelled(alloc, facts)?;
-    let mut out = Vec::new(alloc);
-    push_blob(&mut out, &body)?;
-    out.push(0)?;
+    let out = framed(alloc, &body)?;
+    Ok(out)
+}
+
+// The same of one fact.
+pub(crate) fn entry_of_one<C: Codec>(alloc: Global, fact: &Fact<C>) -> Result<Vec<u8>, AllocError>
+    requires { length (spelling C.octets fact.now) ≤ 4194500 }
+    ensures { IfOk result (λ octets. octets.items ≡ entry (spelling C.octets fact.now)) }
+{
+    let mut body = Vec::new(alloc);
+    push_spelling(alloc, &mut body, fact)?;
+    let out = framed(alloc, &body)?;
     Ok(out)
 }

@@ -1,0 +1,185 @@
+//! A walk along a chain, from the anchor's side.
+
+ghost use Rattle.std.specs.Prelude.{◌≡◌, ℕ, ◌+◌, Bool, List, [], ◌<◌, true, false, IfOk};
+ghost use Rattle.ts_cert.specs.CertView.{cert_in};
+ghost use Rattle.ts_sig.specs.Key.{Key};
+ghost use Rattle.ts_revoke.specs.declared.crls.Crls.{Crls as CrlsOf};
+ghost use Rattle.ts_path.specs.State.{state_at};
+ghost use Rattle.ts_path.specs.View.{asked_in, site_in};
+ghost use Rattle.ts_path.specs.Judging.{IsJudged, IsStep, IsEnd};
+
+use crate::anchor::Anchor;
+use crate::extensions::is_meant_for;
+use crate::inputs::Inputs;
+use crate::judging::{accepts_none, first_of_extensions};
+use crate::reason::Reason;
+use crate::state::State;
+use std::alloc::{AllocError, Global};
+use ts_cert::Cert;
+use ts_policy::Policies;
+use ts_revoke::Crls;
+use ts_sig::SignatureCheck;
+
+/// The state variables at a certificate, the valid policy tree among them.
+#[derive(Drop)]
+pub(crate) struct Walk<'a> {
+    pub(crate) state: State<'a>,
+    pub(crate) policies: Policies<'a>,
+}
+
+/// What the conditions up to that on the valid policy tree lead to.
+#[derive(Drop)]
+pub(crate) enum Judged<'a> {
+    /// The certificate meets them.
+    Met(Met<'a>),
+    /// The first that it does not meet.
+    Failed(Reason<'a>),
+}
+
+/// The state variables once the policies of a certificate are taken.
+#[derive(Drop)]
+pub(crate) struct Met<'a> {
+    pub(crate) state: State<'a>,
+    pub(crate) policies: Policies<'a>,
+    /// Whether a mapping of the certificate names anyPolicy.
+    pub(crate) maps_any: bool,
+}
+
+/// What a certificate that is not the last leads to.
+#[derive(Drop)]
+pub(crate) enum Step<'a> {
+    /// The state at the next certificate.
+    Next(Walk<'a>),
+    /// The first condition that the certificate does not meet.
+    Stop(Reason<'a>),
+}
+
+/// What the last certificate leads to.
+#[derive(Drop)]
+pub(crate) enum End<'a> {
+    /// The policies that are accepted.
+    Accepted(Vec<&'a [u8]>),
+    /// The first condition that the certificate does not meet.
+    Refused(Reason<'a>),
+}
+
+impl<'a> Walk<'a> {
+    /// The walk before the first certificate of a chain of this length.
+    pub(crate) fn start(
+        alloc: Global,
+        anchor: &Anchor<'a>,
+        inputs: &Inputs<'a>,
+        length: u8,
+    ) -> Result<Walk<'a>, AllocError>
+        ensures state { IfOk result (λ w. (crls : CrlsOf) (good : List ℕ → Key → List ℕ → List ℕ → Bool) → w.state ≡ state_at (asked_in anchor.now inputs.now crls good) length []) }
+        ensures policies { IfOk result (λ w. w.policies ≡ record { certificates = []; mapped = true }) }
+    {
+        Ok(Walk {
+            state: State::start(alloc, anchor, inputs, length)?,
+            policies: Policies::start(alloc)?,
+        })
+    }
+
+    /// The position of the next certificate.
+    pub(crate) fn position(&self) -> u8
+        requires { self.now.state.passed < 255 }
+        ensures { result ≡ self.now.state.passed + 1 }
+    {
+        self.state.position()
+    }
+
+    /// Passes a certificate that is not the last (RFC 5280 6.1.3, 6.1.4).
+    pub(crate) fn pass<S: SignatureCheck>(
+        self,
+        alloc: Global,
+        anchor: &Anchor<'a>,
+        inputs: &Inputs<'a>,
+        crls: &Crls<'_>,
+        check: &S,
+        cert: &Cert<'a>,
+    ) -> Result<Step<'a>, AllocError>
+        requires mapped { self.policies.mapped ≡ true }
+        requires room { self.state.passed < 255 }
+        ensures { IfOk result (IsStep (site_in anchor.now inputs.now crls.now (S.accepts check.now) self.entry.state self.entry.policies.certificates (cert_in cert.now) false)) }
+    {
+        let met = match self.judge(alloc, anchor, inputs, crls, check, cert, false)? {
+            Judged::Met(met) => met,
+            Judged::Failed(reason) => return Ok(Step::Stop(reason)),
+        };
+        if met.maps_any {
+            return Ok(Step::Stop(Reason::MapsAny));
+        }
+        if let Some(reason) = met.state.first_of_issuer(cert) {
+            return Ok(Step::Stop(reason));
+        }
+        if let Some(reason) = first_of_extensions(cert) {
+            return Ok(Step::Stop(reason));
+        }
+        let mut state = met.state;
+        let policies = met.policies.map(alloc)?;
+        state.advance(cert)?;
+        Ok(Step::Next(Walk { state, policies }))
+    }
+
+    /// Ends at the last certificate (RFC 5280 6.1.3, 6.1.5).
+    pub(crate) fn end<S: SignatureCheck>(
+        self,
+        alloc: Global,
+        anchor: &Anchor<'a>,
+        inputs: &Inputs<'a>,
+        crls: &Crls<'_>,
+        check: &S,
+        cert: &Cert<'a>,
+    ) -> Result<End<'a>, AllocError>
+        requires { self.policies.mapped ≡ true }
+        ensures { IfOk result (IsEnd (site_in anchor.now inputs.now crls.now (S.accepts check.now) self.entry.state self.entry.policies.certificates (cert_in cert.now) true)) }
+    {
+        let met = match self.judge(alloc, anchor, inputs, crls, check, cert, true)? {
+            Judged::Met(met) => met,
+            Judged::Failed(reason) => return Ok(End::Refused(reason)),
+        };
+        if let Some(reason) = first_of_extensions(cert) {
+            return Ok(End::Refused(reason));
+        }
+        let explicit = met.state.final_explicit(cert);
+        let accepted = met.policies.finish(alloc, inputs.user_policies)?;
+        if accepts_none(explicit, &accepted) {
+            return Ok(End::Refused(Reason::FinalPolicy));
+        }
+        if !is_meant_for(inputs.purpose, cert) {
+            return Ok(End::Refused(Reason::Purpose));
+        }
+        Ok(End::Accepted(accepted))
+    }
+
+    /// Judges the conditions up to that on the valid policy tree (RFC 5280 6.1.3).
+    fn judge<S: SignatureCheck>(
+        self,
+        alloc: Global,
+        anchor: &Anchor<'a>,
+        inputs: &Inputs<'a>,
+        crls: &Crls<'_>,
+        check: &S,
+        cert: &Cert<'a>,
+        last: bool,
+    ) -> Result<Judged<'a>, AllocError>
+        requires { self.policies.mapped ≡ true }
+        ensures { IfOk result (IsJudged (site_in anchor.now inputs.now crls.now (S.accepts check.now) self.entry.state self.entry.policies.certificates (cert_in cert.now) last)) }
+    {
+        let state = self.state;
+        if let Some(reason) = state.first_of_basics(anchor, inputs, crls, check, cert, last) {
+            return Ok(Judged::Failed(reason));
+        }
+        let stated = state.policies_of(alloc, cert, last)?;
+        let maps_any = stated.maps_any();
+        let policies = self.policies.certificate(alloc, stated)?;
+        if state.lacks_policy(&policies) {
+            return Ok(Judged::Failed(Reason::PolicyRequired));
+        }
+        Ok(Judged::Met(Met {
+            state,
+            policies,
+            maps_any,
+        }))
+    }
+}

@@ -1,0 +1,6 @@
+mod Sets
+mod Walks
+mod SameNames
+mod ByList
+mod Reaching
+mod Magnitudes

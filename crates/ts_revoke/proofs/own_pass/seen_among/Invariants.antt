@@ -1,0 +1,15 @@
+use Rattle.std.proofs.Common.{◌≡◌, [], None, drop}
+use Rattle.std.specs.Prelude.{map, unwrap_or, option_map}
+use Rattle.ts_ext.specs.NamedBits.{no_reasons}
+use Rattle.ts_ext.specs.NameViews.{points_in}
+use Rattle.ts_crl.specs.ListView.{crl_in}
+use Rattle.ts_revoke.specs.ByList.{found_after, reasons_after}
+use Rattle.ts_revoke.specs.View.{question_in}
+use Rattle.ts_revoke.proofs.own_pass.seen_among.Given as goal
+
+abbrev pub invariant-loop-crl : goal.invariant-loop-crl
+invariant-loop-crl g l =
+    let q = question_in l.fn.q (g.S.SignatureCheck.accepts l.fn.check) in
+    let points = unwrap_or (option_map points_in l.fn.points) [] in
+    (found_after q points l.found (map crl_in (drop l.crl-index l.fn.q.crls.now.lists.now)) ≡ found_after q points None q.lists)
+    × (reasons_after q points l.reasons (map crl_in (drop l.crl-index l.fn.q.crls.now.lists.now)) ≡ reasons_after q points no_reasons q.lists)

@@ -1,0 +1,33 @@
+-- When two names are shared (RFC 5280 6.3.3 (b) (2) (i)): directory names that are the same, other forms of equal octets.
+use Rattle.std.specs.Prelude.{◌==◌, ◌&&◌, Bool, false, List}
+use Rattle.std.specs.List.{list_any}
+use Rattle.std.specs.Str.{bytes_eq}
+use Rattle.std.specs.Cmp.Lexicographic.{pointwise}
+use Rattle.ts_name.specs.Canon.{Attr, CanonAttr}
+use Rattle.ts_name.specs.Sameness.{canon_name}
+use Rattle.ts_name.specs.General.{GeneralName, otherName, rfc822Name, dNSName, x400Address, directoryName, ediPartyName, uniformResourceIdentifier, iPAddress, registeredID}
+
+-- whether two attributes in canonical form are one
+abbrev pub is_same_attr : CanonAttr → CanonAttr → Bool
+is_same_attr a b = bytes_eq a.kind b.kind && (a.tag == b.tag && bytes_eq a.value b.value)
+
+-- whether two names are the same: their canonical forms are equal (7.1)
+unfoldable pub is_same_name : List (List Attr) → List (List Attr) → Bool
+is_same_name a b = pointwise (pointwise is_same_attr) (canon_name a) (canon_name b)
+
+-- whether two general names are one
+unfoldable pub is_same_general : GeneralName → GeneralName → Bool
+is_same_general (otherName a) (otherName b) = bytes_eq a b
+is_same_general (rfc822Name a) (rfc822Name b) = bytes_eq a b
+is_same_general (dNSName a) (dNSName b) = bytes_eq a b
+is_same_general (x400Address a) (x400Address b) = bytes_eq a b
+is_same_general (directoryName a) (directoryName b) = is_same_name a b
+is_same_general (ediPartyName a) (ediPartyName b) = bytes_eq a b
+is_same_general (uniformResourceIdentifier a) (uniformResourceIdentifier b) = bytes_eq a b
+is_same_general (iPAddress a) (iPAddress b) = bytes_eq a b
+is_same_general (registeredID a) (registeredID b) = bytes_eq a b
+is_same_general a b = false
+
+-- whether some name of the first is among the second
+abbrev pub share : List GeneralName → List GeneralName → Bool
+share names others = list_any (λ n. list_any (is_same_general n) others) names

@@ -1,0 +1,103 @@
+//! Pass 2: the distribution point that is named by the certificate's issuer.
+
+ghost use Rattle.std.specs.Prelude.{◌≡◌, map, option_map};
+ghost use Rattle.ts_ext.specs.NameViews.{point_name_in, issuing_point_in};
+ghost use Rattle.ts_cert.specs.CertView.{cert_in};
+ghost use Rattle.ts_crl.specs.ListView.{crl_in};
+ghost use Rattle.ts_revoke.specs.ByList.{is_taken as is_taken_at, revoked_at, reasons_at, status_after};
+ghost use Rattle.ts_revoke.specs.Usable.{name_shared, is_named, issuer_point};
+ghost use Rattle.ts_revoke.specs.View.{question_in};
+
+use crate::deltas::listed;
+use crate::entries::revoking;
+use crate::names::holds_directory_name;
+use crate::points::mask_without_reasons;
+use crate::question::Question;
+use crate::reasons::{is_all, is_within, union};
+use crate::usable::serves;
+use crate::verdict::Status;
+use ts_cert::Cert;
+use ts_crl::Crl;
+use ts_ext::{IssuingDistributionPoint, PointName, ReasonSet};
+use ts_sig::SignatureCheck;
+
+/// Whether a name, if a CRL has one, is the certificate's issuer among others.
+fn is_shared(name: &Option<PointName<'_>>, cert: &Cert<'_>) -> bool
+    ensures { result ≡ name_shared (option_map point_name_in name.now) (issuer_point (cert_in cert.now)).distributionPoint }
+{
+    match name {
+        None => true,
+        Some(PointName::FullName(names)) => holds_directory_name(cert.issuer(), names.element),
+        Some(PointName::RelativeName(_)) => false,
+    }
+}
+
+/// Whether a CRL of this scope is for the point that is named by the certificate's issuer.
+fn is_for_issuer(cert: &Cert<'_>, scope: &Option<IssuingDistributionPoint<'_>>) -> bool
+    ensures { result ≡ is_named (issuer_point (cert_in cert.now)) (option_map issuing_point_in scope.now) }
+{
+    match scope {
+        Some(scope) => is_shared(&scope.name, cert),
+        None => true,
+    }
+}
+
+/// Whether pass 2 uses a CRL, when these reasons are covered. The names come last, so that only a signed CRL has its names
+/// compared.
+#[tactic(auto, unfolding(crate::specs::ByList::is_taken))]
+fn is_taken<S: SignatureCheck>(
+    crl: &Crl<'_>,
+    q: &Question<'_>,
+    check: &S,
+    covered: ReasonSet,
+) -> bool
+    ensures { result ≡ is_taken_at (question_in q.now (S.accepts check.now)) (issuer_point (cert_in q.now.cert.now)) covered (crl_in crl.now) }
+{
+    let scope = crl.scope();
+    !is_within(mask_without_reasons(&scope), covered)
+        && serves(crl, q, check)
+        && is_for_issuer(q.cert, &scope)
+}
+
+/// What one CRL says in pass 2: the reason for which it revokes, and its mask.
+#[tactic(auto, unfolding(crate::specs::ByList::revoked_at, crate::specs::ByList::reasons_at))]
+fn said_by<S: SignatureCheck>(
+    crl: &Crl<'_>,
+    q: &Question<'_>,
+    check: &S,
+    covered: ReasonSet,
+) -> (Option<u8>, ReasonSet)
+    ensures revoked { result.0 ≡ revoked_at (question_in q.now (S.accepts check.now)) (issuer_point (cert_in q.now.cert.now)) covered (crl_in crl.now) }
+    ensures reasons { result.1 ≡ reasons_at (question_in q.now (S.accepts check.now)) (issuer_point (cert_in q.now.cert.now)) covered (crl_in crl.now) }
+{
+    if !is_taken(crl, q, check, covered) {
+        return (None, ReasonSet::none());
+    }
+    (
+        revoking(listed(crl, q, check)),
+        mask_without_reasons(&crl.scope()),
+    )
+}
+
+/// Pass 2, when these reasons are covered.
+pub(crate) fn issuer_pass<S: SignatureCheck>(
+    q: &Question<'_>,
+    check: &S,
+    covered: ReasonSet,
+) -> Status
+    ensures { result ≡ status_after (question_in q.now (S.accepts check.now)) (issuer_point (cert_in q.now.cert.now)) covered covered (map crl_in q.now.crls.now.lists.now) }
+{
+    let mut reasons = covered;
+    for crl in q.crls.lists {
+        let (revoked, more) = said_by(crl, q, check, covered);
+        if let Some(reason) = revoked {
+            return Status::Revoked(reason);
+        }
+        reasons = union(reasons, more);
+    }
+    if is_all(reasons) {
+        Status::Good
+    } else {
+        Status::Undetermined
+    }
+}

@@ -1,0 +1,64 @@
+//! Whether a certificate is revoked (RFC 5280 6.3.3), by the CRLs and delta CRLs of a store.
+//!
+//! ```text
+//! let crls = Crls { lists: &complete, deltas: &deltas };              // in store order
+//! let issuer = Issuer { key, key_usage: above.key_usage() };          // None for an anchor
+//! match status(&crls, &cert, &issuer, moment, &check, use_deltas) {
+//!     Status::Good => ..,                // usable CRLs cover all reasons, and none lists the serial number
+//!     Status::Revoked(reason) => ..,     // the reason's number, 0 where the entry gives none
+//!     Status::Undetermined => ..,        // the usable CRLs do not cover all reasons
+//! }
+//! ```
+//!
+//! The RFC's loop visits the CRLs of each distribution point in an order that it leaves open, and stops as soon as all reasons
+//! are covered: a certificate may be revoked in one order and good in another. Here it is `Good` only if it is good in every
+//! order.
+//!
+//! | Definition | What it says |
+//! |---|---|
+//! | `specs/Usable` | which pairs of a distribution point and a CRL are usable, each condition by itself; the mask of a pair |
+//! | `specs/Listed`, `Numbers` | what a CRL says of the serial number; its delta CRL, and when that counts |
+//! | `specs/Status`, `Pairs`, `Decision` | the pairs of both passes; the status |
+//! | `specs/Loop` | the loop of the RFC over an order of pairs |
+//!
+//! | Call | What its clause says |
+//! |---|---|
+//! | [`status`] | the status of these definitions, exactly |
+//! | [`laws::in_any_order`] | where it is `Good` or `Undetermined` the loop answers the same in every order; where it is `Revoked`, the loop answers so in some order |
+//!
+//! `status` takes no memory. The definition goes through the distribution points and at each through all CRLs; the code goes
+//! through the CRLs and at each through all points (`specs/ByList`), so that in each pass a CRL's signature is checked once at
+//! most and its entries are searched once at most, whatever the certificate says.
+#![tactic(auto)]
+
+mod crls;
+mod decision;
+mod deltas;
+mod entries;
+mod found;
+mod issuer;
+mod issuer_pass;
+pub mod laws;
+mod names;
+mod numbers;
+mod own_pass;
+mod points;
+mod question;
+mod reach;
+mod reasons;
+mod slots;
+#[cfg(test)]
+mod test_certs;
+#[cfg(test)]
+mod test_deltas;
+#[cfg(test)]
+mod test_lists;
+#[cfg(test)]
+mod tests;
+mod usable;
+mod verdict;
+
+pub use crls::Crls;
+pub use decision::status;
+pub use issuer::Issuer;
+pub use verdict::Status;

@@ -1,0 +1,5 @@
+mod Blobs
+mod Identifiers
+mod Places
+mod Steps
+mod Fields

@@ -1,0 +1,11 @@
+use Rattle.ts_store.proofs.Steps.{unchanged, taken, joined}
+use Rattle.ts_store.proofs.laws.one_step.Goals as goal
+
+pub returns-clause-unchanged : goal.returns-clause-unchanged
+returns-clause-unchanged c = unchanged
+
+pub returns-clause-taken : goal.returns-clause-taken
+returns-clause-taken c = taken
+
+pub returns-clause-joined : goal.returns-clause-joined
+returns-clause-joined c = joined

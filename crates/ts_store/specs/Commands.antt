@@ -1,0 +1,56 @@
+-- Commands of a trust store, how they are spelled, and which have a spelling.
+use Rattle.std.specs.Prelude.{◌≡◌, ◌≤◌, ℕ, List, [], ◌∷◌, ◌++◌, length, Option, Some, None}
+use Rattle.std.specs.List.{flat_map}
+use Rattle.std.specs.Int.{to_be_bytes, w32}
+use Rattle.ts_store.specs.Purposes.{ArePurposes}
+use Rattle.ts_store.specs.declared.command.Command.{Command}
+use Rattle.ts_store.specs.declared.command.Command.TheVariants.{AddAnchor, WithdrawAnchor, LoadCrl, DropCrl, SetPurposes, Noop}
+
+-- one octet of length, and that many octets
+abbrev pub blob8 : List ℕ → List ℕ
+blob8 octets = length octets ∷ octets
+
+-- four octets of length, and that many octets
+abbrev pub blob32 : List ℕ → List ℕ
+blob32 octets = to_be_bytes w32 (length octets) ++ octets
+
+-- 00 for any; else 01, an octet of their number, and the contents octets of each
+abbrev pub purposes_spelling : Option (List (List ℕ)) → List ℕ
+purposes_spelling None = 0 ∷ []
+purposes_spelling (Some oids) = 1 ∷ length oids ∷ flat_map blob8 oids
+
+-- the octet of the kind, and the fields
+abbrev pub fields : Command → List ℕ
+fields (AddAnchor id certificate) = 1 ∷ blob32 certificate
+fields (WithdrawAnchor id anchor) = 2 ∷ anchor
+fields (LoadCrl id crl) = 3 ∷ blob32 crl
+fields (DropCrl id crl) = 4 ∷ crl
+fields (SetPurposes id anchor purposes) = 5 ∷ (anchor ++ purposes_spelling purposes)
+fields (Noop id) = 6 ∷ []
+
+-- the id that the client chose
+abbrev pub id_of : Command → List ℕ
+id_of (AddAnchor id certificate) = id
+id_of (WithdrawAnchor id anchor) = id
+id_of (LoadCrl id crl) = id
+id_of (DropCrl id crl) = id
+id_of (SetPurposes id anchor purposes) = id
+id_of (Noop id) = id
+
+-- the id, and what it is about
+abbrev pub spelling : Command → List ℕ
+spelling command = id_of command ++ fields command
+
+-- the fields are within their limits
+abbrev pub FieldsFit : Command → Type 0
+FieldsFit (AddAnchor id certificate) = length certificate ≤ 65536
+FieldsFit (WithdrawAnchor id anchor) = length anchor ≡ 32
+FieldsFit (LoadCrl id crl) = length crl ≤ 4194304
+FieldsFit (DropCrl id crl) = length crl ≡ 32
+FieldsFit (SetPurposes id anchor purposes) = (length anchor ≡ 32) × ArePurposes purposes
+FieldsFit (Noop id) = Unit {0}
+
+-- 16 octets of id, and fields within their limits
+pub record Fits (command : Command) : Type 0 where
+  pub id : length (id_of command) ≡ 16
+  pub fields : FieldsFit command

@@ -1,0 +1,116 @@
+//! Commands.
+
+ghost use Rattle.std.specs.Prelude.{◌≡◌, ◌<◌, ◌≤◌, List, ℕ, Some, length, IfOk, IfSome, MatchResult};
+ghost use Rattle.ts_store.specs.Commands.{id_of, spelling, Fits};
+ghost use Rattle.ts_store.specs.declared.command.Command.TheVariants.{AddAnchor, LoadCrl};
+
+use crate::purposes::Purposes;
+use crate::reading::read_command;
+use crate::values::{CertificateOctets, CrlOctets, TooLong};
+use crate::writing::{has_spelling, push_spelling};
+use std::alloc::{AllocError, Global};
+
+/// A command of a trust store. Its client chose its id.
+#[derive(Debug, Drop)]
+pub enum Command {
+    /// Adds a trust anchor for any purpose.
+    AddAnchor {
+        id: [u8; 16],
+        certificate: CertificateOctets,
+    },
+    /// Removes the trust anchor whose certificate has this SHA-256 digest.
+    WithdrawAnchor {
+        id: [u8; 16],
+        anchor: [u8; 32],
+    },
+    /// Adds a list of revoked certificates.
+    LoadCrl {
+        id: [u8; 16],
+        crl: CrlOctets,
+    },
+    /// Removes the list that has this SHA-256 digest.
+    DropCrl {
+        id: [u8; 16],
+        crl: [u8; 32],
+    },
+    /// Sets the purposes of the trust anchor whose certificate has this SHA-256 digest.
+    SetPurposes {
+        id: [u8; 16],
+        anchor: [u8; 32],
+        purposes: Purposes,
+    },
+    /// Changes nothing.
+    Noop {
+        id: [u8; 16],
+    },
+}
+
+impl Command {
+    /// The command that adds a trust anchor with these octets as its certificate, which may be none.
+    ///
+    /// # Errors
+    ///
+    /// `TooLong` exactly where there are more than 65,536 octets.
+    pub fn add_anchor(id: [u8; 16], certificate: Vec<u8>) -> Result<Command, TooLong>
+        ensures { MatchResult result (λ command. (command ≡ AddAnchor id certificate.items) × (length certificate.items ≤ 65536)) (λ _. 65536 < length certificate.items) }
+    {
+        let certificate = CertificateOctets::new(certificate)?;
+        Ok(Command::AddAnchor { id, certificate })
+    }
+
+    /// The command that adds these octets as a list of revoked certificates, which may be none.
+    ///
+    /// # Errors
+    ///
+    /// `TooLong` exactly where there are more than 4,194,304 octets.
+    pub fn load_crl(id: [u8; 16], crl: Vec<u8>) -> Result<Command, TooLong>
+        ensures { MatchResult result (λ command. (command ≡ LoadCrl id crl.items) × (length crl.items ≤ 4194304)) (λ _. 4194304 < length crl.items) }
+    {
+        let crl = CrlOctets::new(crl)?;
+        Ok(Command::LoadCrl { id, crl })
+    }
+
+    /// The id that the client chose.
+    pub fn id(&self) -> [u8; 16]
+        ensures { result ≡ id_of self.now }
+    {
+        match self {
+            Command::AddAnchor { id, .. }
+            | Command::WithdrawAnchor { id, .. }
+            | Command::LoadCrl { id, .. }
+            | Command::DropCrl { id, .. }
+            | Command::SetPurposes { id, .. }
+            | Command::Noop { id } => *id,
+        }
+    }
+
+    /// The command that octets are: 16 octets of id, an octet of the kind, and its fields. `None` exactly where they are
+    /// not one whole command.
+    ///
+    /// # Errors
+    ///
+    /// Memory that is refused.
+    pub fn read(alloc: Global, octets: &[u8]) -> Result<Option<Command>, AllocError>
+        // What is read is spelled so.
+        ensures found { IfOk result (λ read. IfSome read (λ command. Fits command × (octets.now ≡ spelling command))) }
+        // What is spelled so is read.
+        ensures only { (command : Command) → Fits command → octets.now ≡ spelling command → IfOk result (λ read. read ≡ Some command) }
+    {
+        read_command(alloc, octets)
+    }
+
+    /// The octets of the command, which are its one spelling.
+    ///
+    /// # Errors
+    ///
+    /// Memory that is refused.
+    pub fn octets(&self, alloc: Global) -> Result<Vec<u8>, AllocError>
+        ensures spelled { IfOk result (λ octets. octets.items ≡ spelling self.now) }
+        ensures fits { Fits self.now }
+    {
+        has_spelling(self);
+        let mut octets = Vec::new(alloc);
+        push_spelling(&mut octets, self)?;
+        Ok(octets)
+    }
+}

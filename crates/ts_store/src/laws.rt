@@ -1,0 +1,22 @@
+//! Laws about the spelling of commands, and about the fold of them that the store is. Each stands on a function that does
+//! nothing.
+
+ghost use Rattle.std.specs.Prelude.{◌≡◌, ◌⊎◌, List, ℕ, suc, ◌++◌};
+ghost use Rattle.ts_store.specs.Store.{State, step, after};
+ghost use Rattle.ts_store.specs.declared.outcome.Outcome.TheVariants.{Applied};
+ghost use Rattle.ts_store.specs.Commands.{spelling, Fits};
+ghost use Rattle.ts_store.specs.declared.command.Command.{Command};
+
+/// No two commands have one spelling, and no two lists of octets are one command's.
+pub fn one_spelling()
+    ensures command { (command other : Command) → Fits command → Fits other → spelling command ≡ spelling other → command ≡ other }
+    ensures octets { (octets others : List ℕ) (command : Command) → octets ≡ spelling command → others ≡ spelling command → octets ≡ others }
+{}
+
+/// A command that is not applied leaves the tables as they are; each command takes one position; commands one behind
+/// another are those of both lists.
+pub fn one_step()
+    ensures unchanged { (position : ℕ) (command : Command) (state : State) → ((step position command state).outcome ≡ Applied) ⊎ ((step position command state).state.tables ≡ state.tables) }
+    ensures taken { (position : ℕ) (command : Command) (state : State) → (step position command state).state.taken ≡ suc state.taken }
+    ensures joined { (state : State) (commands more : List Command) → after state (commands ++ more) ≡ after (after state commands) more }
+{}
