@@ -1,6 +1,5 @@
 pub mod OneVerdict
 pub mod Steps
 pub mod Counting
-pub mod SelfIssued
 pub mod Advance
 pub mod Positions

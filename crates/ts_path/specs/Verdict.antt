@@ -1,6 +1,6 @@
 -- The verdict on a chain: valid where no condition fails, with the policies that are accepted, else the least position at which one
 -- does, and the least there (RFC 5280 6.1).
-use Rattle.std.specs.Prelude.{◌≡◌, ℕ, ◌<◌, ◌≤◌, ◌⊎◌, ◌↔◌, List, map, length, Some}
+use Rattle.std.specs.Prelude.{◌≡◌, ℕ, ◌<◌, ◌≤◌, ◌⊎◌, ◌↔◌, List, map, length, Option, Some, None}
 use Rattle.ts_policy.specs.Labels.{Label, In}
 use Rattle.ts_policy.specs.Accepted.{AreAscending}
 use Rattle.ts_path.specs.declared.reason.Reason.{Reason}
@@ -76,3 +76,24 @@ pub record AreAccepted (q : Question) (policies : List Label) : Type 0 where
 abbrev pub IsVerdict : Question → Verdict → Type 0
 IsVerdict q (Valid policies) = ((i : ℕ) (k : Condition) → Holds k q i) × AreAccepted q (map (λ p. p.now) policies.items)
 IsVerdict q (Invalid position reason) = IsLeast q position (condition_of reason) × HasDetails q position reason
+
+-- ---- what a verdict says, as values
+
+-- the number of the reason for which a certificate is revoked, and the object identifier of a critical extension, where a reason says one
+abbrev pub code_of : Reason → Option ℕ
+code_of (Revoked code) = Some code
+code_of other = None
+
+abbrev pub oid_of : Reason → Option (List ℕ)
+oid_of (CriticalExtension oid) = Some oid.content.now
+oid_of other = None
+
+abbrev pub IsSameReason : Reason → Reason → Type 0
+IsSameReason a b = (condition_of a ≡ condition_of b) × (code_of a ≡ code_of b) × (oid_of a ≡ oid_of b)
+
+-- two verdicts say the same
+abbrev pub IsSame : Verdict → Verdict → Type 0
+IsSame (Valid policies) (Valid others) = map (λ p. p.now) policies.items ≡ map (λ p. p.now) others.items
+IsSame (Valid policies) (Invalid position reason) = ⊥
+IsSame (Invalid position reason) (Valid policies) = ⊥
+IsSame (Invalid position reason) (Invalid other another) = (position ≡ other) × IsSameReason reason another

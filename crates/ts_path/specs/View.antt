@@ -20,9 +20,10 @@ use Rattle.ts_path.specs.Conditions.{Site}
 abbrev pub anchor_in : Anchor → TrustAnchor
 anchor_in a = record { name = rdns_in a.name; key = key_in a.key; purposes = option_map (λ ps. map (λ p. p.now) ps.now) a.purposes }
 
-abbrev pub asked_in : Anchor → Inputs → Crls → (List ℕ → Key → List ℕ → List ℕ → Bool) → Asked
-asked_in anchor inputs crls good = record {
-  anchor = anchor_in anchor;
+-- what is asked of a chain under a trust anchor
+abbrev pub asked_under : Inputs → Crls → (List ℕ → Key → List ℕ → List ℕ → Bool) → TrustAnchor → Asked
+asked_under inputs crls good anchor = record {
+  anchor = anchor;
   moment = inputs.moment;
   purpose = option_map (λ p. p.now) inputs.purpose;
   user_policies = map (λ p. p.now) inputs.user_policies.now;
@@ -36,6 +37,9 @@ asked_in anchor inputs crls good = record {
   use_deltas = inputs.use_deltas;
   good = good;
 }
+
+abbrev pub asked_in : Anchor → Inputs → Crls → (List ℕ → Key → List ℕ → List ℕ → Bool) → Asked
+asked_in anchor inputs crls good = asked_under inputs crls good (anchor_in anchor)
 
 abbrev pub question_in : Anchor → List Cert → Inputs → Crls → (List ℕ → Key → List ℕ → List ℕ → Bool) → Question
 question_in anchor chain inputs crls good = record { asked = asked_in anchor inputs crls good; chain = map cert_in chain }

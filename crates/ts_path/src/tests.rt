@@ -69,11 +69,8 @@ fn judge(alloc: Global, anchor: &[u8], cert: &[u8], moment: i64) -> Option<Optio
 }
 
 /// The same of a chain of three with this CA in the middle, whose signatures are listed in a table.
-fn judge_three(
-    alloc: Global,
-    middle: &'static [u8],
-    table: &TableCheck,
-) -> Option<Option<(u8, u8)>> {
+fn judge_three(alloc: Global, middle: &'static [u8]) -> Option<Option<(u8, u8)>> {
+    let table = TableCheck::read(alloc, CHECKED).ok()?;
     let root = Cert::read(KEYED).ok()?;
     let chain = [
         Cert::read(FIRST_CA).ok()?,
@@ -87,7 +84,7 @@ fn judge_three(
         &chain,
         &inputs,
         &Crls::none(),
-        table,
+        &table,
     )
     .ok()?;
     Some(answer(&verdict))
@@ -160,9 +157,8 @@ c79334adb44ba91fa06b71e9891d0183878740edea1a57730f095b012e5b0c78\n\
 
 #[test]
 fn inherits_parameters(rt: HostRuntime) {
-    let table = TableCheck::read(rt.alloc(), CHECKED).unwrap();
-    assert!(rt; judge_three(rt.alloc(), SECOND_CA, &table) == Some(None));
-    assert!(rt; judge_three(rt.alloc(), OTHER_CA, &table) == Some(None));
+    assert!(rt; judge_three(rt.alloc(), SECOND_CA) == Some(None));
+    assert!(rt; judge_three(rt.alloc(), OTHER_CA) == Some(None));
 }
 
 /// Whether a reason is printed so.

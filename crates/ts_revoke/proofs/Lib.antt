@@ -1,6 +1,6 @@
 mod Sets
 mod Walks
-mod SameNames
+pub mod SameNames
 mod ByList
 mod Reaching
 mod Magnitudes

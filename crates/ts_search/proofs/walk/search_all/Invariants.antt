@@ -1,0 +1,15 @@
+-- none of the shorter chains is valid, and the chains at hand are those of one length, cut where more would be tried than may be
+use Rattle.std.proofs.Common.{◌≡◌, ◌+◌, length, map, take}
+use Rattle.ts_search.specs.Levels.{chains, level}
+use Rattle.ts_search.specs.Search.{NoneOf}
+use Rattle.ts_search.specs.View.{search_among}
+use Rattle.ts_search.proofs.walk.search_all.Given as goal
+
+abbrev pub invariant-loop-above : goal.invariant-loop-above
+invariant-loop-above g l =
+    let rows = map (λ row. row.items) l.rows.items in
+    record {
+      at_hand : map (λ c. c.items) l.chains.items ≡ take (l.left + 1) (level rows l._above);
+      left_is : l.left + length (chains rows l._above) ≡ 4096;
+      none : NoneOf (search_among l.certificates l.anchors l.inputs l.crls (g.S.SignatureCheck.accepts l.check)) (chains rows l._above);
+    }

@@ -1,0 +1,62 @@
+-- The chains that a search tries. Each is a list of places from the anchor's side: the certificate searched for, the leaf, has place 0 and
+-- stands last; the certificates of the pool have the places 1, 2 and so on.
+use Rattle.std.specs.Prelude.{◌≡◌, ◌≤◌, ◌<◌, ◌⊎◌, ℕ, Bool, false, ◌==◌, List, [], ◌∷◌, length, Option, Some, None, slice_get, IsTrue}
+use Rattle.std.specs.List.{list_any, AllByRecursion}
+use Rattle.ts_cert.specs.Certificate.{Certificate}
+use Rattle.ts_revoke.specs.Names.{is_same_name}
+use Rattle.ts_policy.specs.Labels.{In}
+
+-- the issuer of a certificate has the name of another's subject (RFC 5280 6.1.3 (a) (4))
+abbrev pub has_issuer : Option Certificate → Option Certificate → Bool
+has_issuer (Some c) (Some above) = is_same_name c.tbsCertificate.issuer above.tbsCertificate.subject
+has_issuer c above = false
+
+-- by places, the first certificate's subject is the second's issuer
+unfoldable pub issues : List Certificate → ℕ → ℕ → Bool
+issues certificates i j = has_issuer (slice_get certificates j) (slice_get certificates i)
+
+-- each certificate's issuer is the subject of the one before it
+abbrev pub AreLinked : (ℕ → ℕ → Bool) → List ℕ → Type 0
+AreLinked issues [] = Unit {0}
+AreLinked issues (i ∷ []) = Unit {0}
+AreLinked issues (i ∷ j ∷ below) = IsTrue (issues i j) × AreLinked issues (j ∷ below)
+
+-- no place stands twice
+abbrev pub AreDistinct : List ℕ → Type 0
+AreDistinct [] = Unit {0}
+AreDistinct (i ∷ below) = (list_any (λ j. j == i) below ≡ false) × AreDistinct below
+
+-- the last place is 0
+abbrev pub EndsAtLeaf : List ℕ → Type 0
+EndsAtLeaf [] = ⊥
+EndsAtLeaf (i ∷ []) = i ≡ 0
+EndsAtLeaf (i ∷ j ∷ below) = EndsAtLeaf (j ∷ below)
+
+-- a chain of at most ten of so many certificates, each once, the leaf last
+pub record IsCandidate (issues : ℕ → ℕ → Bool) (count : ℕ) (chain : List ℕ) : Type 0 where
+  pub few : length chain ≤ 10
+  pub within : AllByRecursion (λ i. i < count) chain
+  pub distinct : AreDistinct chain
+  pub leaf : EndsAtLeaf chain
+  pub linked : AreLinked issues chain
+
+-- of two chains of one length, the one whose place is the lesser where they first differ, from the leaf up
+abbrev pub IsBelow : List ℕ → List ℕ → Type 0
+IsBelow [] d = ⊥
+IsBelow (i ∷ c) [] = ⊥
+IsBelow (i ∷ c) (j ∷ d) = IsBelow c d ⊎ ((c ≡ d) × (i < j))
+
+-- shorter chains come first
+abbrev pub Precedes : List ℕ → List ℕ → Type 0
+Precedes c d = (length c < length d) ⊎ ((length c ≡ length d) × IsBelow c d)
+
+-- each precedes all behind it
+abbrev pub AreInOrder : List (List ℕ) → Type 0
+AreInOrder [] = Unit {0}
+AreInOrder (c ∷ cs) = AllByRecursion (Precedes c) cs × AreInOrder cs
+
+-- these are all candidates, in order
+pub record AreCandidates (issues : ℕ → ℕ → Bool) (count : ℕ) (cs : List (List ℕ)) : Type 0 where
+  pub ordered : AreInOrder cs
+  pub only : AllByRecursion (IsCandidate issues count) cs
+  pub all : (c : List ℕ) → IsCandidate issues count c → In c cs

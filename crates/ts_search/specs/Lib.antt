@@ -1,0 +1,5 @@
+pub mod Candidates
+pub mod Levels
+pub mod Search
+pub mod Trial
+pub mod View

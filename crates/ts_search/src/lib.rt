@@ -1,0 +1,31 @@
+//! The search for a chain: from a certificate, through a pool, to a trust anchor under which the chain is valid.
+//!
+//! ```text
+//! match search(alloc, &leaf, &pool, &anchors, &inputs, &crls, &check)? {
+//!     Answer::Found { anchor, chain, policies } => ..,   // places: of the anchor, and of the certificates from its side
+//!     Answer::NoPath => ..,                              // no chain is valid
+//!     Answer::SearchLimit => ..,                         // none of the first 4,096 is valid, and there are more
+//! }
+//! ```
+//!
+//! A candidate is a chain of at most ten of the certificates at hand, each once, the leaf last, in which each certificate's issuer is
+//! the subject of the one before it. Candidates are tried in order, the shorter first, and of one length by their places from the leaf
+//! up; each under the anchors in their order. The first pair that path validation calls valid is the answer.
+//!
+//! | Call | Clauses |
+//! |---|---|
+//! | [`search`] | the answer is that over all candidates in order (`IsAnswer`); memory that is refused is its only error |
+//! | [`laws::one_answer`] | the candidates in order are one list, so that a search has one answer |
+#![tactic(auto)]
+
+mod answer;
+mod issuers;
+pub mod laws;
+mod levels;
+#[cfg(test)]
+mod tests;
+mod trial;
+mod walk;
+
+pub use answer::Answer;
+pub use walk::{MAX_CANDIDATES, MAX_LENGTH, MAX_POOL, search};
