@@ -13,3 +13,6 @@ pub mod PlacedLaws
 pub mod Crls
 pub mod Judging
 pub mod OneSpelling
+mod Lending
+pub mod SameNames
+mod Magnitudes

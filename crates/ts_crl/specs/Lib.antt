@@ -14,3 +14,6 @@ pub mod Marks
 pub mod MarkView
 pub mod EntryView
 pub mod ListView
+pub mod Kept
+pub mod Slots
+pub mod OwnedView

@@ -204,7 +204,7 @@ fn find_entry<'a>(crl: Crl<'a>, serial: Integer<'_>) -> Option<Entry<'a>>
 }
 
 /// The first rule that a list of the right shape breaks.
-fn broken_rule<'a>(crl: &Crl<'a>) -> Option<CrlFault<'a>>
+pub(crate) fn broken_rule<'a>(crl: &Crl<'a>) -> Option<CrlFault<'a>>
     ensures { option_map fault_in result ≡ list_fault (standing_list_in crl.now) }
 {
     match placed_fault(crl) {

@@ -101,7 +101,7 @@ fn is_relative(crl: &Crl<'_>) -> bool
 }
 
 /// Whether a list states what has changed since another one (RFC 5280 5.2.4).
-fn is_delta(crl: &Crl<'_>) -> bool
+pub(crate) fn is_delta(crl: &Crl<'_>) -> bool
     ensures { result ≡ is_delta_list (crl_in crl.now) }
 {
     is_among(Known::DeltaCrlIndicator, crl.extensions)

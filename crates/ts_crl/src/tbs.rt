@@ -30,7 +30,7 @@ pub(crate) struct TbsCertList<'a> {
 }
 
 /// A time that may be absent, to be kept.
-fn stamp_if_any(time: Option<Time>) -> Option<Stamp>
+pub(crate) fn stamp_if_any(time: Option<Time>) -> Option<Stamp>
     ensures { option_map time_in result ≡ time }
 {
     match time {

@@ -1,6 +1,6 @@
 -- The fields of a command, and its id.
-use Rattle.std.proofs.Common.{◌≡◌, ◌≢◌, ◌≤◌, ◌<◌, ℕ, Bool, true, List, [], ◌∷◌, ◌++◌, length, get_or, take, drop, refl, sym, ◌∙◌, ap, arith, append_assoc, length-take, take-append-drop, Option, Some, None}
-use Rattle.std.proofs.lemmas.List.{append-nil, drop_at, take_at, drop_more}
+use Rattle.std.proofs.Common.{◌≡◌, ◌≤◌, ℕ, List, ◌∷◌, ◌++◌, length, get_or, take, drop, refl, sym, ◌∙◌, ap, arith, take-append-drop, Option, Some, None}
+use Rattle.std.proofs.lemmas.List.{drop_at, take_at, drop_more}
 use Rattle.ts_store.specs.declared.command.Command.{Command}
 use Rattle.ts_store.specs.declared.command.Command.TheVariants.{AddAnchor, WithdrawAnchor, LoadCrl, DropCrl, SetPurposes, Noop}
 use Rattle.ts_store.specs.Purposes.{ArePurposes}

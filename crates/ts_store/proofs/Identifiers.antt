@@ -1,5 +1,5 @@
 -- The contents octets of an object identifier are read as those of an element.
-use Rattle.std.proofs.Common.{◌≡◌, ◌<◌, ◌^◌, ℕ, Bool, true, false, not, List, [], ◌++◌, length, refl, sym, ◌∙◌, ap, arith, Result, Ok, Err, Option, Some, None, if◌then◌else◌}
+use Rattle.std.proofs.Common.{◌≡◌, ◌<◌, ◌^◌, ℕ, Bool, true, false, not, List, length, refl, sym, ap, arith, Result, Ok, Err, Some, None, if◌then◌else◌}
 use Rattle.ts_der.specs.declared.fault.DerFault.TheVariants.{OidForm}
 use Rattle.ts_der.specs.declared.fault.Fault.{Fault}
 use Rattle.ts_der.specs.Element.{Fits, Tlv}

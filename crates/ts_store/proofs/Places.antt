@@ -1,5 +1,5 @@
 -- The table of trust anchors before and after a command.
-use Rattle.std.proofs.Common.{◌≡◌, ◌⊎◌, ⊎_elim, ◌+◌, ◌<◌, ℕ, zero, suc, Bool, true, false, List, [], ◌∷◌, ◌++◌, length, get_or, refl, sym, ◌∙◌, ap, subst, arith, Option, Some, None, Result, Ok, Err}
+use Rattle.std.proofs.Common.{◌≡◌, ◌⊎◌, ⊎_elim, ◌+◌, ◌<◌, ℕ, zero, suc, Bool, true, false, List, [], ◌∷◌, ◌++◌, length, get_or, refl, ◌∙◌, ap, subst, arith, Option, Some, None, Result, Ok, Err}
 use Rattle.std.specs.Prelude.{is_some, slice_set}
 use Rattle.sha2.specs.Sha256.{sha256}
 use Rattle.ts_shape.specs.declared.fault.CertFault.{CertFault}
@@ -7,7 +7,7 @@ use Rattle.ts_cert.specs.Table.{certificate_fault}
 use Rattle.ts_cert.specs.declared.owned.OwnedCert.{OwnedCert}
 use Rattle.ts_cert.specs.declared.owned.OwnedCertFault.{OwnedCertFault}
 use Rattle.ts_cert.specs.declared.owned.OwnedCertFault.TheVariants.{Memory, Unreadable}
-use Rattle.ts_store.specs.Anchors.{place_of, new_anchor, new_refusal, add_unless, add_anchor, refuse_if, with_purposes, set_at, set_purposes}
+use Rattle.ts_store.specs.Anchors.{place_of, new_refusal, add_unless, add_anchor, refuse_if, with_purposes, set_at, set_purposes}
 use Rattle.ts_store.specs.Changes.{Becomes}
 use Rattle.ts_store.specs.declared.anchor.TrustAnchor.{TrustAnchor}
 use Rattle.ts_store.specs.declared.outcome.Refusal.{Refusal}

@@ -1,7 +1,9 @@
 pub mod Anchors
 pub mod Changes
 pub mod Commands
+pub mod Ids
 pub mod Lists
 pub mod Purposes
 pub mod Reading
 pub mod Store
+pub mod Tables

@@ -88,7 +88,7 @@ impl Anchors {
 }
 
 /// The SHA-256 of octets.
-fn digest(octets: &[u8]) -> [u8; 32]
+pub(crate) fn digest(octets: &[u8]) -> [u8; 32]
     ensures { result ≡ sha256 octets.now }
 {
     let mut hasher = Sha256::new();

@@ -1,11 +1,13 @@
 //! Laws about the spelling of commands, and about the fold of them that the store is. Each stands on a function that does
 //! nothing.
 
-ghost use Rattle.std.specs.Prelude.{◌≡◌, ◌⊎◌, List, ℕ, suc, ◌++◌};
+ghost use Rattle.std.specs.Prelude.{◌≡◌, ◌⊎◌, List, ℕ, suc, ◌++◌, Some, None};
 ghost use Rattle.ts_store.specs.Store.{State, step, after};
 ghost use Rattle.ts_store.specs.declared.outcome.Outcome.TheVariants.{Applied};
-ghost use Rattle.ts_store.specs.Commands.{spelling, Fits};
+ghost use Rattle.ts_store.specs.Commands.{id_of, spelling, Fits};
+ghost use Rattle.ts_store.specs.Ids.{first_of};
 ghost use Rattle.ts_store.specs.declared.command.Command.{Command};
+ghost use Rattle.ts_store.specs.declared.ids.First.{First};
 
 /// No two commands have one spelling, and no two lists of octets are one command's.
 pub fn one_spelling()
@@ -13,10 +15,14 @@ pub fn one_spelling()
     ensures octets { (octets others : List ℕ) (command : Command) → octets ≡ spelling command → others ≡ spelling command → octets ≡ others }
 {}
 
-/// A command that is not applied leaves the tables as they are; each command takes one position; commands one behind
-/// another are those of both lists.
+/// A command that is not applied leaves the tables as they are; each command takes one position; a command with a new id
+/// holds it with its position and outcome, and keeps it whatever commands follow; commands one behind another are those of
+/// both lists.
 pub fn one_step()
     ensures unchanged { (position : ℕ) (command : Command) (state : State) → ((step position command state).outcome ≡ Applied) ⊎ ((step position command state).state.tables ≡ state.tables) }
     ensures taken { (position : ℕ) (command : Command) (state : State) → (step position command state).state.taken ≡ suc state.taken }
+    ensures held { (position : ℕ) (command : Command) (state : State) → first_of (id_of command) state.ids ≡ None
+        → first_of (id_of command) (step position command state).state.ids ≡ Some (record { position = position; outcome = (step position command state).outcome }) }
+    ensures kept { (position : ℕ) (command : Command) (state : State) (id : List ℕ) (first : First) → first_of id state.ids ≡ Some first → first_of id (step position command state).state.ids ≡ Some first }
     ensures joined { (state : State) (commands more : List Command) → after state (commands ++ more) ≡ after (after state commands) more }
 {}

@@ -1,4 +1,4 @@
-use Rattle.std.proofs.Common.{refl, ap, ◌∷◌, length, take, arith, ◌∙◌, sym, length-take}
+use Rattle.std.proofs.Common.{refl, ap, ◌∷◌, length, arith, ◌∙◌, sym, length-take}
 use Rattle.std.proofs.lemmas.List.{take_rest}
 use Rattle.ts_store.proofs.Fields.{digest_first, no_purposes}
 use Rattle.ts_store.proofs.reading.set_purposes.Goals as goal

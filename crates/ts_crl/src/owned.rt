@@ -1,0 +1,130 @@
+//! A list that is kept.
+
+ghost use Rattle.std.specs.Prelude.{◌≡◌, ◌⊎◌, ℕ, List, Some, None, Ok, Err, option_map, IfErr, IsErrAnd};
+ghost use Rattle.ts_crl.specs.Fault.{ListFault};
+ghost use Rattle.ts_crl.specs.Kept.{kept_text, unreadable_in, RefusedFor, first_place, WasRead, Checks};
+ghost use Rattle.ts_crl.specs.EntryView.{revoked_in};
+ghost use Rattle.ts_crl.specs.ListView.{crl_in};
+ghost use Rattle.ts_crl.specs.OwnedView.{list_of};
+ghost use Rattle.ts_crl.specs.Spelling.{IsCertificateList};
+ghost use Rattle.ts_crl.specs.Table.{crl_fault, crl_of};
+ghost use Rattle.ts_crl.specs.declared.owned.OwnedCrlFault.TheVariants.{Memory};
+
+use crate::crl::{Crl, broken_rule};
+use crate::fault::CrlFault;
+use crate::kept::list_in;
+use crate::shape::read_shape;
+use std::alloc::{AllocError, Global};
+use std::error::Error;
+use std::fmt;
+use std::marker::Model;
+use ts_shape::CertFault;
+
+/// Why a list is not kept.
+#[derive(Clone, Copy, Debug, PartialEq, Eq)]
+pub enum OwnedCrlFault<'a> {
+    /// Memory ran out.
+    Memory,
+    /// The octets are no list that can be used: the first rule that they break.
+    Unreadable(CrlFault<'a>),
+}
+
+/// The name of the reason, as `Memory` and `Unreadable(Truncated at 4)`.
+impl<'a> fmt::Display for OwnedCrlFault<'a> {
+    ghost output = { λ fault. Some (kept_text fault) };
+
+    fn fmt<W: fmt::Write>(&self, f: &mut fmt::Formatter<W>) -> fmt::Result {
+        match self {
+            OwnedCrlFault::Memory => write!(f, "Memory"),
+            OwnedCrlFault::Unreadable(fault) => write!(f, "Unreadable({fault})"),
+        }
+    }
+}
+
+impl<'a> Error for OwnedCrlFault<'a> {}
+
+impl<'a> From<AllocError> for OwnedCrlFault<'a> {
+    ghost from_gives = { λ _ e. e ≡ Memory };
+
+    fn from(_error: AllocError) -> OwnedCrlFault<'a> {
+        OwnedCrlFault::Memory
+    }
+}
+
+/// A list of revoked certificates with memory of its own. A contract sees it as its octets, which are a list.
+#[derive(Debug, Drop)]
+pub struct OwnedCrl {
+    octets: Vec<u8>,
+    /// Where the first extensions of its entries are, which is all that has to be known of these.
+    first: Option<CertFault>,
+}
+
+impl Model for OwnedCrl {
+    ghost Value = { List ℕ };
+
+    ghost view = { λ crl. crl.octets.items };
+
+    ghost invariant = { λ crl. WasRead crl.first crl.octets.items };
+}
+
+/// Where the first extensions of the entries of a list are.
+fn first_extensions<'a>(crl: &Crl<'a>) -> Option<CertFault>
+    ensures { result ≡ first_place (option_map revoked_in crl.now.revoked) }
+{
+    match crl.revoked {
+        Some(revoked) => revoked.findings.old_version,
+        None => None,
+    }
+}
+
+/// What has to be known of octets that are a list, to lend it again.
+#[tactic(auto, unfolding(crate::specs::Table::crl_of))]
+fn check<'a>(octets: &'a [u8]) -> Result<Option<CertFault>, CrlFault<'a>>
+    ensures { Checks octets.now result }
+{
+    let crl = read_shape(octets)?;
+    match broken_rule(&crl) {
+        Some(fault) => Err(fault),
+        None => Ok(first_extensions(&crl)),
+    }
+}
+
+impl OwnedCrl {
+    /// A copy of octets that are a list.
+    ///
+    /// # Errors
+    ///
+    /// `Unreadable` with the first rule that the octets break, as [`Crl::read`] answers it; then `Memory`, where memory
+    /// ran out. Nothing is kept then.
+    pub fn read<'a>(alloc: Global, octets: &'a [u8]) -> Result<OwnedCrl, OwnedCrlFault<'a>>
+        ensures kept { crl_fault octets.now ≡ None → (result ≡ Ok octets.now) ⊎ (result ≡ Err Memory) }
+        ensures refused { (f : ListFault) → crl_fault octets.now ≡ Some f → IsErrAnd result (λ e. unreadable_in e ≡ Some f) }
+        ensures exact { IfErr result (λ e. RefusedFor octets.now e) }
+    {
+        let first = match check(octets) {
+            Ok(first) => first,
+            Err(fault) => return Err(OwnedCrlFault::Unreadable(fault)),
+        };
+        let octets = Vec::from_slice(alloc, octets)?;
+        Ok(OwnedCrl { octets, first })
+    }
+
+    /// The list, lent. Its names, its entries and its extensions are not read again.
+    pub fn view(&self) -> Crl<'_>
+        ensures found { IsCertificateList self.now (crl_in result) }
+        ensures exact { crl_of self.now ≡ Ok (crl_in result) }
+        ensures said { crl_in result ≡ list_of self.now }
+    {
+        match list_in(self.octets.as_slice(), self.first) {
+            Ok(crl) => crl,
+            Err(_) => unreachable!(),
+        }
+    }
+
+    /// The octets of the list.
+    pub fn octets(&self) -> &[u8]
+        ensures { result.now ≡ self.now }
+    {
+        self.octets.as_slice()
+    }
+}

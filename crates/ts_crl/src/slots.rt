@@ -1,0 +1,93 @@
+//! Slots: lists of one issuer, one scope and one authority key.
+
+ghost use Rattle.std.specs.List.{find};
+ghost use Rattle.std.specs.Prelude.{◌≡◌, option_map};
+ghost use Rattle.ts_name.specs.NameView.{rdns_in};
+ghost use Rattle.ts_ext.specs.ExtensionView.{extensions_in};
+ghost use Rattle.ts_crl.specs.EntryView.{extension_as};
+ghost use Rattle.ts_crl.specs.ListView.{crl_in};
+ghost use Rattle.ts_crl.specs.Profile.{is_delta as is_delta_list};
+ghost use Rattle.ts_crl.specs.Slots.{is_same_name, octets_of, is_same_value as are_same_value, is_same_slot as are_one_slot};
+ghost use Rattle.ts_crl.specs.Values.{is_known};
+
+use crate::crl::Crl;
+use crate::profile::is_delta;
+use ts_ext::{Extension, Extensions, Known};
+use ts_name::Name;
+
+/// Whether two names are the same.
+fn is_same(name: Name<'_>, other: Name<'_>) -> bool
+    ensures { result ≡ is_same_name (rdns_in name.entry) (rdns_in other.entry) }
+{
+    name.same(other)
+}
+
+/// The first of the extensions that is this one.
+fn find_among<'a>(known: Known, extensions: Extensions<'a>) -> Option<Extension<'a>>
+    ensures { option_map extension_as result ≡ find (is_known known) (extensions_in extensions.entry) }
+{
+    extensions.find(known)
+}
+
+/// The octets of an extension's value, among others.
+fn octets_among<'a>(known: Known, extensions: Extensions<'a>) -> Option<&'a [u8]>
+    ensures { option_map (λ o. o.now) result ≡ option_map (λ x. x.extnValue) (find (is_known known) (extensions_in extensions.entry)) }
+{
+    match find_among(known, extensions) {
+        Some(extension) => Some(extension.value.content),
+        None => None,
+    }
+}
+
+/// The octets of an extension's value in a list.
+fn value_octets<'a>(known: Known, crl: &Crl<'a>) -> Option<&'a [u8]>
+    ensures { option_map (λ o. o.now) result ≡ octets_of known (crl_in crl.now) }
+{
+    match crl.extensions() {
+        Some(extensions) => octets_among(known, extensions),
+        None => None,
+    }
+}
+
+/// Whether two values are both absent, or equal.
+fn is_same_value(value: Option<&[u8]>, other: Option<&[u8]>) -> bool
+    ensures { result ≡ are_same_value (option_map (λ o. o.now) value.entry) (option_map (λ o. o.now) other.entry) }
+{
+    match (value, other) {
+        (None, None) => true,
+        (Some(a), Some(b)) => a == b,
+        _ => false,
+    }
+}
+
+#[tactic(auto, unfolding(crate::specs::Slots::is_same_slot))]
+fn are_of_one_slot(crl: &Crl<'_>, other: &Crl<'_>) -> bool
+    ensures { result ≡ are_one_slot (crl_in crl.now) (crl_in other.now) }
+{
+    is_same(crl.issuer(), other.issuer())
+        && is_same_value(
+            value_octets(Known::IssuingDistributionPoint, crl),
+            value_octets(Known::IssuingDistributionPoint, other),
+        )
+        && is_same_value(
+            value_octets(Known::AuthorityKeyIdentifier, crl),
+            value_octets(Known::AuthorityKeyIdentifier, other),
+        )
+}
+
+impl<'a> Crl<'a> {
+    /// Whether two lists are of one slot: their issuers are the same, and so are the octets of their issuing
+    /// distribution points and of their authority key identifiers, or both have none (RFC 5280 6.3.3 (c)).
+    pub fn is_same_slot(self, other: Crl<'_>) -> bool
+        ensures { result ≡ are_one_slot (crl_in self.entry) (crl_in other.entry) }
+    {
+        are_of_one_slot(&self, &other)
+    }
+
+    /// Whether the list states what has changed since another one (RFC 5280 5.2.4).
+    pub fn is_delta(self) -> bool
+        ensures { result ≡ is_delta_list (crl_in self.entry) }
+    {
+        is_delta(&self)
+    }
+}
