@@ -1,0 +1,5 @@
+pub mod PartLaws
+pub mod Lengths
+pub mod Fields
+pub mod Loop
+pub mod Replies

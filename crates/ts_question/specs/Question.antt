@@ -1,0 +1,96 @@
+-- What is asked of a node: its limits, and its one spelling.
+use Rattle.std.specs.Prelude.{◌≡◌, ◌&&◌, ℕ, Bool, true, nat_le, is_some, List, [], ◌∷◌, ◌++◌, length, Option, Some, None, IfSome}
+use Rattle.std.specs.List.{flat_map, list_all}
+use Rattle.std.specs.Int.{to_be_bytes, w16, w32, w64, cast_unsigned}
+use Rattle.std.specs.Int.RustNames.{FitsSigned}
+use Rattle.ts_der.specs.ObjectIdentifier.{is_oid}
+use Rattle.ts_question.specs.declared.terms.Flags.{Flags}
+use Rattle.ts_question.specs.declared.terms.Terms.{Terms}
+use Rattle.ts_question.specs.declared.question.Target.{Target}
+use Rattle.ts_question.specs.declared.question.Target.TheVariants.{Chain, Search}
+use Rattle.ts_question.specs.Parts.{bits, blob8, blob16, blob32, optional}
+
+-- what is asked
+pub record Asked : Type 0 where
+  pub terms : Terms
+  pub target : Target
+
+-- ---- limits
+
+-- a store's position, or none
+abbrev pub is_position : Option ℕ → Bool
+is_position None = true
+is_position (Some k) = nat_le k 1000000
+
+-- at most 64 subtrees, whose lengths two octets hold
+abbrev pub are_subtrees : List (List ℕ) → Bool
+are_subtrees subtrees = nat_le (length subtrees) 64 && list_all (λ s. nat_le (length s) 65535) subtrees
+
+abbrev pub are_terms : Terms → Bool
+are_terms t = is_position t.k && nat_le (length t.user_policies) 32 && are_subtrees t.permitted_subtrees && are_subtrees t.excluded_subtrees
+
+-- at least one certificate, and at most so many, each of at most 65,536 octets
+abbrev pub are_certificates : ℕ → List (List ℕ) → Bool
+are_certificates most certificates = nat_le 1 (length certificates) && nat_le (length certificates) most && list_all (λ c. nat_le (length c) 65536) certificates
+
+-- a chain has at most 16 certificates, a search a leaf and a pool of at most 32
+abbrev pub is_target : Target → Bool
+is_target (Chain anchor certificates) = are_certificates 16 certificates
+is_target (Search certificates) = are_certificates 33 certificates
+
+abbrev pub is_within : Asked → Bool
+is_within q = are_terms q.terms && is_target q.target
+
+-- ---- spelling
+
+-- bit 0 explicit policy, 1 inhibit mapping, 2 inhibit anyPolicy, 3 hard, 4 k present, 5 purpose present, 6 use deltas
+abbrev pub flags_octet : Flags → Bool → Bool → ℕ
+flags_octet f k purpose = bits (f.explicit_policy ∷ f.inhibit_policy_mapping ∷ f.inhibit_any_policy ∷ f.hard ∷ k ∷ purpose ∷ f.use_deltas ∷ [])
+
+-- an octet of their number, and the contents octets of each
+abbrev pub policies_spelling : List (List ℕ) → List ℕ
+policies_spelling oids = length oids ∷ flat_map blob8 oids
+
+-- two octets of their number, and the octets of each
+abbrev pub subtrees_spelling : List (List ℕ) → List ℕ
+subtrees_spelling subtrees = to_be_bytes w16 (length subtrees) ++ flat_map blob16 subtrees
+
+abbrev pub certificates_spelling : List (List ℕ) → List ℕ
+certificates_spelling certificates = length certificates ∷ flat_map blob32 certificates
+
+abbrev pub terms_spelling : Terms → List ℕ
+terms_spelling t = to_be_bytes w64 (cast_unsigned w64 t.moment)
+    ++ (flags_octet t.flags (is_some t.k) (is_some t.purpose)
+    ∷ (optional (to_be_bytes w32) t.k
+    ++ (optional blob8 t.purpose
+    ++ (policies_spelling t.user_policies
+    ++ (subtrees_spelling t.permitted_subtrees
+    ++ subtrees_spelling t.excluded_subtrees)))))
+
+abbrev pub kind_of : Target → ℕ
+kind_of (Chain anchor certificates) = 1
+kind_of (Search certificates) = 2
+
+abbrev pub target_spelling : Target → List ℕ
+target_spelling (Chain anchor certificates) = anchor ++ certificates_spelling certificates
+target_spelling (Search certificates) = certificates_spelling certificates
+
+-- 1 for a chain and 2 for a search, the terms, and the certificates
+abbrev pub spelling : Asked → List ℕ
+spelling q = kind_of q.target ∷ (terms_spelling q.terms ++ target_spelling q.target)
+
+-- ---- which have a spelling
+
+pub record TermsFit (t : Terms) : Type 0 where
+  pub moment : FitsSigned w64 t.moment
+  pub purpose : IfSome t.purpose (λ p. is_oid p ≡ true)
+  pub policies : list_all is_oid t.user_policies ≡ true
+
+abbrev pub TargetFits : Target → Type 0
+TargetFits (Chain anchor certificates) = length anchor ≡ 32
+TargetFits (Search certificates) = Unit {0}
+
+pub record Fits (q : Asked) : Type 0 where
+  pub terms : TermsFit q.terms
+  pub target : TargetFits q.target
+  pub within : is_within q ≡ true

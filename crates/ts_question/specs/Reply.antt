@@ -1,0 +1,125 @@
+-- What a node answers: its ranges, and its one spelling.
+use Rattle.std.specs.Prelude.{◌≡◌, ◌==◌, ◌&&◌, ◌-◌, ℕ, Bool, true, not, nat_le, nat_lt, List, [], ◌∷◌, ◌++◌, length, slice_index}
+use Rattle.std.specs.List.{flat_map, list_all, list_any}
+use Rattle.std.specs.Int.{to_be_bytes, w32}
+use Rattle.ts_der.specs.ObjectIdentifier.{is_oid}
+use Rattle.ts_question.specs.declared.reason.Reason.{Reason}
+use Rattle.ts_question.specs.declared.reason.Reason.TheVariants.{AnchorPurpose, Signature, TooEarly, Expired, Revoked, Undetermined, IssuerName, UnsupportedConstraint, NotPermitted, Excluded, PolicyRequired, MapsAny, NotCa, PathLength, KeyUsage, CriticalExtension, FinalPolicy, Purpose}
+use Rattle.ts_question.specs.declared.reply.Reply.{Reply}
+use Rattle.ts_question.specs.declared.reply.Reply.TheVariants.{Valid, Invalid, Found, NoPath, SearchLimit, NotYet, Malformed, NoAnchor, Limit}
+use Rattle.ts_question.specs.Parts.{blob8}
+
+-- a reply, and the number of commands after which the store was looked at
+pub record Answered : Type 0 where
+  pub k : ℕ
+  pub reply : Reply
+
+-- ---- ranges
+
+-- no place twice
+abbrev pub is_distinct : List ℕ → Bool
+is_distinct [] = true
+is_distinct (place ∷ places) = not (list_any (λ p. p == place) places) && is_distinct places
+
+-- distinct, and the last is 1, the leaf
+abbrev pub are_places : List ℕ → Bool
+are_places places = nat_le (length places) 255 && slice_index places (length places - 1) == 1 && is_distinct places
+
+-- their number fits four octets
+abbrev pub are_countable : List (List ℕ) → Bool
+are_countable policies = nat_lt (length policies) 4294967296
+
+-- the position of a certificate of a chain
+abbrev pub is_place : ℕ → Bool
+is_place position = nat_le 1 position && nat_le position 16
+
+-- each field is in its range; a prefix that is not yet k is below it
+abbrev pub is_reply : ℕ → Reply → Bool
+is_reply k (Valid anchor policies) = are_countable policies
+is_reply k (Invalid position reason) = is_place position
+is_reply k (Found anchor places policies) = are_places places && are_countable policies
+is_reply k (NotYet prefix) = nat_lt prefix k
+is_reply k other = true
+
+abbrev pub is_answer : Answered → Bool
+is_answer a = nat_le a.k 1000000 && is_reply a.k a.reply
+
+-- ---- spelling
+
+abbrev pub number_of : Reason → ℕ
+number_of AnchorPurpose = 1
+number_of Signature = 2
+number_of TooEarly = 3
+number_of Expired = 4
+number_of (Revoked code) = 5
+number_of Undetermined = 6
+number_of IssuerName = 7
+number_of UnsupportedConstraint = 8
+number_of NotPermitted = 9
+number_of Excluded = 10
+number_of PolicyRequired = 11
+number_of MapsAny = 12
+number_of NotCa = 13
+number_of PathLength = 14
+number_of KeyUsage = 15
+number_of (CriticalExtension oid) = 16
+number_of FinalPolicy = 17
+number_of Purpose = 18
+
+-- the code of a revocation, and the object identifier of an extension
+abbrev pub detail : Reason → List ℕ
+detail (Revoked code) = code ∷ []
+detail (CriticalExtension oid) = blob8 oid
+detail other = []
+
+-- the number, and what it says beside it
+abbrev pub reason_spelling : Reason → List ℕ
+reason_spelling reason = number_of reason ∷ detail reason
+
+-- four octets of their number, and the contents octets of each
+abbrev pub accepted_spelling : List (List ℕ) → List ℕ
+accepted_spelling policies = to_be_bytes w32 (length policies) ++ flat_map blob8 policies
+
+abbrev pub tag_of : Reply → ℕ
+tag_of (Valid anchor policies) = 1
+tag_of (Invalid position reason) = 2
+tag_of (Found anchor places policies) = 3
+tag_of NoPath = 4
+tag_of SearchLimit = 5
+tag_of (NotYet prefix) = 6
+tag_of (Malformed index fault place) = 7
+tag_of NoAnchor = 8
+tag_of Limit = 9
+
+abbrev pub fields : Reply → List ℕ
+fields (Valid anchor policies) = anchor ++ accepted_spelling policies
+fields (Invalid position reason) = position ∷ reason_spelling reason
+fields (Found anchor places policies) = anchor ++ (blob8 places ++ accepted_spelling policies)
+fields NoPath = []
+fields SearchLimit = []
+fields (NotYet prefix) = to_be_bytes w32 prefix
+fields (Malformed index fault place) = index ∷ fault ∷ to_be_bytes w32 place
+fields NoAnchor = []
+fields Limit = 1 ∷ []
+
+-- four octets of k, the tag, and the fields
+abbrev pub spelling : Answered → List ℕ
+spelling a = to_be_bytes w32 a.k ++ (tag_of a.reply ∷ fields a.reply)
+
+-- ---- which have a spelling
+
+abbrev pub DetailFits : Reason → Type 0
+DetailFits (CriticalExtension oid) = is_oid oid ≡ true
+DetailFits other = Unit {0}
+
+abbrev pub FieldsFit : Reply → Type 0
+FieldsFit (Valid anchor policies) = (length anchor ≡ 32) × (list_all is_oid policies ≡ true)
+FieldsFit (Invalid position reason) = DetailFits reason
+FieldsFit (Found anchor places policies) = (length anchor ≡ 32) × (list_all is_oid policies ≡ true)
+FieldsFit (NotYet prefix) = nat_lt prefix 4294967296 ≡ true
+FieldsFit (Malformed index fault place) = nat_lt place 4294967296 ≡ true
+FieldsFit other = Unit {0}
+
+pub record Fits (a : Answered) : Type 0 where
+  pub fields : FieldsFit a.reply
+  pub within : is_answer a ≡ true

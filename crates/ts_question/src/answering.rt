@@ -1,0 +1,100 @@
+//! Answers are made, read and written.
+
+ghost use Rattle.std.specs.Prelude.{◌≡◌, ◌++◌, true, false, Some, IfOk, IfSome, OnOk, MatchResult};
+ghost use Rattle.ts_question.specs.Reply.{Answered, is_answer, spelling, Fits};
+
+use crate::fault::ReadFault;
+use crate::question::OutOfLimits;
+use crate::ranges::{fields_fit, is_reply};
+use crate::reading::MAX_POSITION;
+use crate::reply::{Answer, Reply};
+use crate::reply_reading;
+use crate::reply_writing::{push_fields, tag_of};
+use std::alloc::{AllocError, Global};
+
+impl Answer {
+    /// This reply, after so many commands.
+    ///
+    /// # Errors
+    ///
+    /// `OutOfLimits` exactly where k is above 1,000,000, the position of `Invalid` is not 1 to 16, the places of `Found` are
+    /// more than 255, not distinct or don't end in 1, the prefix of `NotYet` is not below k, or there are 2^32 policies.
+    pub fn new(k: u32, reply: Reply) -> Result<Answer, OutOfLimits>
+        ensures { let answered : Answered = record { k = k; reply = reply } in
+            MatchResult result (λ a. (a ≡ answered) × Fits a) (λ _. is_answer answered ≡ false) }
+    {
+        if !(k <= MAX_POSITION && is_reply(k, &reply)) {
+            return Err(OutOfLimits);
+        }
+        fields_fit(&reply);
+        Ok(Answer { k, reply })
+    }
+
+    /// The number of commands after which the store was looked at; for `NotYet` the number that was asked for.
+    pub fn k(&self) -> u32
+        ensures { result ≡ self.now.k }
+    {
+        self.k
+    }
+
+    /// The reply.
+    pub fn reply(&self) -> &Reply
+        ensures reply { result.now ≡ self.now.reply }
+        ensures fits { Fits self.now }
+    {
+        &self.reply
+    }
+
+    /// The reply, given back.
+    pub fn into_reply(self) -> Reply
+        ensures { result ≡ self.reply }
+    {
+        self.reply
+    }
+
+    /// The answer that octets are. `None` exactly where they are not one whole answer.
+    ///
+    /// # Errors
+    ///
+    /// Memory that is refused.
+    pub fn read(alloc: Global, octets: &[u8]) -> Result<Option<Answer>, AllocError>
+        // What is read is spelled so.
+        ensures found { IfOk result (λ read. IfSome read (λ a. Fits a × (octets.now ≡ spelling a))) }
+        // What is spelled so is read.
+        ensures only { (a : Answered) → Fits a → octets.now ≡ spelling a → IfOk result (λ read. read ≡ Some a) }
+    {
+        match reply_reading::answer(alloc, octets) {
+            Ok((k, reply)) => Ok(Some(Answer { k, reply })),
+            Err(ReadFault::Form) => Ok(None),
+            Err(ReadFault::Memory) => Err(AllocError),
+        }
+    }
+
+    /// Writes the octets of the answer, which are its one spelling, behind others.
+    ///
+    /// # Errors
+    ///
+    /// Memory that is refused.
+    pub fn write(&self, out: &mut Vec<u8>) -> Result<(), AllocError>
+        ensures spelled { OnOk result (out.new.items ≡ out.old.items ++ spelling self.now) }
+        ensures fits { Fits self.now }
+    {
+        out.extend_from_slice(&self.k.to_be_bytes())?;
+        out.push(tag_of(&self.reply))?;
+        push_fields(out, self.k, &self.reply)?;
+        Ok(())
+    }
+
+    /// The octets of the answer, which are its one spelling.
+    ///
+    /// # Errors
+    ///
+    /// Memory that is refused.
+    pub fn octets(&self, alloc: Global) -> Result<Vec<u8>, AllocError>
+        ensures { IfOk result (λ octets. octets.items ≡ spelling self.now) }
+    {
+        let mut octets = Vec::new(alloc);
+        self.write(&mut octets)?;
+        Ok(octets)
+    }
+}

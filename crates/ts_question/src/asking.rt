@@ -1,0 +1,126 @@
+//! Questions are made, read and written.
+
+ghost use Rattle.std.specs.Prelude.{◌≡◌, ◌++◌, ◌∷◌, true, false, map, Some, Ok, IfOk, IfSome, OnOk, MatchResult};
+ghost use Rattle.ts_question.specs.Question.{Asked, is_within, spelling, Fits};
+ghost use Rattle.ts_question.specs.declared.question.Target.TheVariants.{Chain, Search};
+
+use crate::fault::ReadFault;
+use crate::limits::{are_terms, is_target, target_fits, terms_fit};
+use crate::lists::OctetStrings;
+use crate::question::{OutOfLimits, Question, Target};
+use crate::reading;
+use crate::terms::Terms;
+use crate::writing::{kind_of, push_target, push_terms};
+use std::alloc::{AllocError, Global};
+
+/// The question, if it is within its limits.
+fn checked(terms: Terms, target: Target) -> Result<Question, OutOfLimits>
+    ensures { MatchResult result
+        (λ q. (q ≡ record { terms = terms; target = target }) × Fits q)
+        (λ _. is_within (record { terms = terms; target = target }) ≡ false) }
+{
+    if !(are_terms(&terms) && is_target(&target)) {
+        return Err(OutOfLimits);
+    }
+    terms_fit(&terms);
+    target_fits(&target);
+    Ok(Question { terms, target })
+}
+
+impl Question {
+    /// Whether a chain is valid under the anchor whose certificate has this SHA-256 digest. The certificates stand from the one
+    /// that the anchor issued to the last.
+    ///
+    /// # Errors
+    ///
+    /// `OutOfLimits` exactly where the question is outside its limits.
+    pub fn chain(
+        terms: Terms,
+        anchor: [u8; 32],
+        certificates: Vec<Vec<u8>>,
+    ) -> Result<Question, OutOfLimits>
+        ensures { let asked : Asked = record { terms = terms; target = Chain anchor (map (λ c. c.items) certificates.items) } in
+            MatchResult result (λ q. (q ≡ asked) × Fits q) (λ _. is_within asked ≡ false) }
+    {
+        let certificates = OctetStrings::new(certificates);
+        let target = Target::Chain {
+            anchor,
+            certificates,
+        };
+        checked(terms, target)
+    }
+
+    /// Whether there is a valid chain to the first certificate, the leaf, through others, the pool.
+    ///
+    /// # Errors
+    ///
+    /// `OutOfLimits` exactly where the question is outside its limits.
+    pub fn search(terms: Terms, certificates: Vec<Vec<u8>>) -> Result<Question, OutOfLimits>
+        ensures { let asked : Asked = record { terms = terms; target = Search (map (λ c. c.items) certificates.items) } in
+            MatchResult result (λ q. (q ≡ asked) × Fits q) (λ _. is_within asked ≡ false) }
+    {
+        let certificates = OctetStrings::new(certificates);
+        checked(terms, Target::Search { certificates })
+    }
+
+    /// What is asked beside the certificates.
+    pub fn terms(&self) -> &Terms
+        ensures { result.now ≡ self.now.terms }
+    {
+        &self.terms
+    }
+
+    /// The certificates.
+    pub fn target(&self) -> &Target
+        ensures target { result.now ≡ self.now.target }
+        ensures fits { Fits self.now }
+    {
+        &self.target
+    }
+
+    /// The question that octets are. `None` exactly where they are not one whole question.
+    ///
+    /// # Errors
+    ///
+    /// Memory that is refused.
+    pub fn read(alloc: Global, octets: &[u8]) -> Result<Option<Question>, AllocError>
+        // What is read is spelled so.
+        ensures found { IfOk result (λ read. IfSome read (λ q. Fits q × (octets.now ≡ spelling q))) }
+        // What is spelled so is read.
+        ensures only { (q : Asked) → Fits q → octets.now ≡ spelling q → IfOk result (λ read. read ≡ Some q) }
+    {
+        match reading::question(alloc, octets) {
+            Ok((terms, target)) => Ok(Some(Question { terms, target })),
+            Err(ReadFault::Form) => Ok(None),
+            Err(ReadFault::Memory) => Err(AllocError),
+        }
+    }
+
+    /// Writes the octets of the question, which are its one spelling, behind others.
+    ///
+    /// # Errors
+    ///
+    /// Memory that is refused.
+    pub fn write(&self, out: &mut Vec<u8>) -> Result<(), AllocError>
+        ensures spelled { OnOk result (out.new.items ≡ out.old.items ++ spelling self.now) }
+        ensures fits { Fits self.now }
+    {
+        out.push(kind_of(&self.target))?;
+        push_terms(out, &self.terms)?;
+        push_target(out, &self.target)?;
+        Ok(())
+    }
+
+    /// The octets of the question, which are its one spelling.
+    ///
+    /// # Errors
+    ///
+    /// Memory that is refused.
+    pub fn octets(&self, alloc: Global) -> Result<Vec<u8>, AllocError>
+        ensures { IfOk result (λ octets. octets.items ≡ spelling self.now) }
+    {
+        let mut octets = Vec::new(alloc);
+        self.write(&mut octets)?;
+        Ok(octets)
+    }
+}

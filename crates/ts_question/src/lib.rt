@@ -1,0 +1,60 @@
+//! What is asked of a node about a chain of certificates, and what it answers: plain values, each with one spelling.
+//!
+//! ```text
+//! let question = Question::chain(terms, anchor, certificates)?;   // OutOfLimits exactly outside the limits
+//! let octets = question.octets(alloc)?;                            // its one spelling
+//! let again = Question::read(alloc, &octets)?;                     // Some, exactly where the octets are one whole question
+//! let answer = Answer::new(k, Reply::NoPath)?;
+//! let octets = answer.octets(alloc)?;
+//! ```
+//!
+//! Numbers are big endian. A question is 01 for a chain or 02 for a search; eight octets of the moment; an octet of flags (bit 0
+//! explicit policy, 1 inhibit mapping, 2 inhibit anyPolicy, 3 hard, 4 k is present, 5 a purpose is present, 6 use deltas); four
+//! octets of k; the purpose behind an octet of its length; an octet of the number of user policies, and each like the purpose; two
+//! octets of the number of permitted subtrees, and each behind two octets of its length; the excluded ones like them; of a chain the
+//! 32 octets of the anchor's id; and an octet of the number of certificates, and each behind four octets of its length.
+//!
+//! An answer is four octets of k, an octet of the reply's tag, and its fields (`specs/Reply`).
+//!
+//! | Call | Clauses |
+//! |---|---|
+//! | [`Question::chain`], [`Question::search`] | `OutOfLimits` exactly where `is_within` (`specs/Question`) is false |
+//! | [`Answer::new`] | `OutOfLimits` exactly where `is_answer` (`specs/Reply`) is false |
+//! | [`Question::read`], [`Answer::read`] | `found`, `only`: what is read is spelled so, and what is spelled so is read |
+//! | [`Question::octets`], [`Question::write`], [`Answer::octets`], [`Answer::write`] | the spelling; `fits`: each value has one |
+//! | [`laws::one_question`], [`laws::one_answer`] | no two values have one spelling, and no two lists of octets are one value's |
+//! | [`parts`] | numbers and octets at the front of others, lent; each gives what its reading (`specs/Reading`) gives |
+//!
+//! DER is not looked into, except that policies, purposes and extensions are object identifiers. Memory that is refused is answered
+//! as `AllocError`.
+#![tactic(auto)]
+
+mod answering;
+mod asking;
+mod fault;
+pub mod laws;
+mod limits;
+mod lists;
+pub mod parts;
+mod question;
+mod ranges;
+mod reading;
+mod reason;
+mod reply;
+mod reply_reading;
+mod reply_writing;
+mod terms;
+#[cfg(test)]
+mod tests;
+mod writing;
+
+pub use fault::ReadFault;
+pub use lists::{OctetStrings, Oids, Places};
+pub use question::{OutOfLimits, Question, Target};
+pub use reading::{
+    MAX_CERTIFICATE, MAX_CHAIN, MAX_POLICIES, MAX_POSITION, MAX_SEARCH, MAX_SUBTREES,
+};
+pub use reason::Reason;
+pub use reply::{Answer, Reply};
+pub use terms::{Flags, Terms};
+pub use writing::push_blob32;

@@ -1,0 +1,94 @@
+//! The limits of a question.
+
+ghost use Rattle.std.specs.Prelude.{◌≡◌, nat_le, length};
+ghost use Rattle.std.specs.List.{list_all};
+ghost use Rattle.ts_question.specs.Question.{is_position, are_subtrees, are_terms, are_certificates, is_target, TermsFit, TargetFits};
+
+use crate::lists::OctetStrings;
+use crate::question::Target;
+use crate::reading::{
+    MAX_CERTIFICATE, MAX_CHAIN, MAX_POLICIES, MAX_POSITION, MAX_SEARCH, MAX_SUBTREES,
+};
+use crate::terms::Terms;
+
+/// The most octets of an initial subtree.
+const MAX_SUBTREE: usize = 65_535;
+
+fn all_short(strings: &[Vec<u8>], most: usize) -> bool
+    ensures { result ≡ list_all (λ s. nat_le (length s.items) most) strings.now }
+{
+    strings.iter().all(|s| s.len() <= most)
+}
+
+fn are_short(strings: &OctetStrings, most: usize) -> bool
+    ensures { result ≡ list_all (λ s. nat_le (length s) most) strings.now }
+{
+    all_short(strings.as_slice(), most)
+}
+
+fn is_position(k: Option<u32>) -> bool
+    ensures { result ≡ is_position k }
+{
+    match k {
+        Some(k) => k <= MAX_POSITION,
+        None => true,
+    }
+}
+
+fn are_subtrees(subtrees: &OctetStrings) -> bool
+    ensures { result ≡ are_subtrees subtrees.now }
+{
+    subtrees.len() <= MAX_SUBTREES && are_short(subtrees, MAX_SUBTREE)
+}
+
+pub(crate) fn are_terms(terms: &Terms) -> bool
+    ensures { result ≡ are_terms terms.now }
+{
+    is_position(terms.k)
+        && terms.user_policies.as_slice().len() <= MAX_POLICIES
+        && are_subtrees(&terms.permitted_subtrees)
+        && are_subtrees(&terms.excluded_subtrees)
+}
+
+fn are_certificates(most: usize, certificates: &OctetStrings) -> bool
+    ensures { result ≡ are_certificates most certificates.now }
+{
+    1 <= certificates.len()
+        && certificates.len() <= most
+        && are_short(certificates, MAX_CERTIFICATE)
+}
+
+pub(crate) fn is_target(target: &Target) -> bool
+    ensures { result ≡ is_target target.now }
+{
+    match target {
+        Target::Chain { certificates, .. } => are_certificates(MAX_CHAIN, certificates),
+        Target::Search { certificates } => are_certificates(MAX_SEARCH, certificates),
+    }
+}
+
+/// Terms have a spelling, where they are within their limits.
+pub(crate) fn terms_fit(terms: &Terms)
+    ensures { TermsFit terms.now }
+{
+    let _moment = terms.moment;
+    if let Some(purpose) = &terms.purpose {
+        let _ = purpose.as_ref();
+    }
+    let _ = terms.user_policies.as_slice();
+}
+
+/// An id has 32 octets.
+fn is_digest(digest: [u8; 32])
+    ensures { length digest ≡ 32 }
+{}
+
+/// The certificates have a spelling, where they are within their limits.
+pub(crate) fn target_fits(target: &Target)
+    ensures { TargetFits target.now }
+{
+    match target {
+        Target::Chain { anchor, .. } => is_digest(*anchor),
+        Target::Search { .. } => {}
+    }
+}

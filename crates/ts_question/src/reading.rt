@@ -1,0 +1,307 @@
+//! Questions are read.
+
+ghost use Rattle.std.specs.Prelude.{◌≡◌, ◌<◌, true, false, MatchOption};
+ghost use Rattle.ts_der.specs.ObjectIdentifier.{is_oid};
+ghost use Rattle.ts_question.specs.Reading.{Gives, whole, octets_at, many_at, optional_at, blob16_at};
+ghost use Rattle.ts_question.specs.Question.{Asked};
+ghost use Rattle.ts_question.specs.QuestionReading.{bit, position_at, oid_at, certificate_at, presence_at, policies_at, subtrees_at, certificates_at, terms_at, target_at, question_at};
+
+use crate::fault::ReadFault;
+use crate::lists::{OctetStrings, Oids};
+use crate::parts::{blob8, blob16, blob32, number16, number32, number64, octet};
+use crate::question::Target;
+use crate::terms::{Flags, Presence, Terms};
+use std::alloc::Global;
+use ts_der::{Element, Oid, OidRef};
+
+/// The most commands that a store has taken.
+pub const MAX_POSITION: u32 = 1_000_000;
+/// The most octets of a certificate.
+pub const MAX_CERTIFICATE: usize = 65_536;
+/// The most certificates of a chain.
+pub const MAX_CHAIN: usize = 16;
+/// The most certificates of a search: a leaf, and a pool of 32.
+pub const MAX_SEARCH: usize = 33;
+/// The most policies that a user names.
+pub const MAX_POLICIES: usize = 32;
+/// The most initial subtrees of a kind.
+pub const MAX_SUBTREES: usize = 64;
+
+/// The tag of an OBJECT IDENTIFIER (X.690 8.19).
+const OBJECT_IDENTIFIER: u8 = 0x06;
+
+/// A number of commands.
+#[tactic(auto, unfolding(crate::specs::QuestionReading::position_at))]
+pub(crate) fn position(octets: &[u8]) -> Result<(u32, &[u8]), ReadFault>
+    ensures { Gives (λ x. (x.0, x.1.now)) result (position_at octets.now) }
+{
+    let (k, rest) = number32(octets)?;
+    if k > MAX_POSITION {
+        return Err(ReadFault::Form);
+    }
+    Ok((k, rest))
+}
+
+/// The object identifier that these contents octets are.
+fn identifier(content: &[u8]) -> Option<OidRef<'_>>
+    ensures { MatchOption result (is_oid content.now ≡ false) (λ oid. (oid.content.now ≡ content.now) × (is_oid content.now ≡ true)) }
+{
+    let element = Element {
+        tag: OBJECT_IDENTIFIER,
+        content,
+        whole: content,
+        at: 0,
+        start: 0,
+    };
+    match element.oid() {
+        Ok(oid) => Some(oid),
+        Err(_) => None,
+    }
+}
+
+/// The contents octets of an object identifier, behind an octet of their length.
+#[tactic(auto, unfolding(crate::specs::QuestionReading::oid_at))]
+pub(crate) fn oid(alloc: Global, octets: &[u8]) -> Result<(Oid, &[u8]), ReadFault>
+    ensures { Gives (λ x. (x.0, x.1.now)) result (oid_at octets.now) }
+{
+    let (content, rest) = blob8(octets)?;
+    let Some(oid) = identifier(content) else {
+        return Err(ReadFault::Form);
+    };
+    Ok((Oid::from_oid(alloc, oid)?, rest))
+}
+
+fn is_set(octet: u8, weight: u8) -> bool
+    requires { 0 < weight }
+    ensures { result ≡ bit octet weight }
+{
+    octet / weight % 2 == 1
+}
+
+#[tactic(auto, unfolding(crate::specs::QuestionReading::presence_at))]
+fn presence(octets: &[u8]) -> Result<(Presence, &[u8]), ReadFault>
+    ensures { Gives (λ x. (x.0, x.1.now)) result (presence_at octets.now) }
+{
+    let (bits, rest) = octet(octets)?;
+    if bits >= 128 {
+        return Err(ReadFault::Form);
+    }
+    let flags = Flags {
+        explicit_policy: is_set(bits, 1),
+        inhibit_policy_mapping: is_set(bits, 2),
+        inhibit_any_policy: is_set(bits, 4),
+        hard: is_set(bits, 8),
+        use_deltas: is_set(bits, 64),
+    };
+    let presence = Presence {
+        flags,
+        k: is_set(bits, 16),
+        purpose: is_set(bits, 32),
+    };
+    Ok((presence, rest))
+}
+
+#[tactic(auto, unfolding(crate::specs::Reading::optional_at))]
+fn optional_position(there: bool, octets: &[u8]) -> Result<(Option<u32>, &[u8]), ReadFault>
+    ensures { Gives (λ x. (x.0, x.1.now)) result (optional_at position_at there octets.now) }
+{
+    if !there {
+        return Ok((None, octets));
+    }
+    let (k, rest) = position(octets)?;
+    Ok((Some(k), rest))
+}
+
+#[tactic(auto, unfolding(crate::specs::Reading::optional_at))]
+fn optional_oid(
+    alloc: Global,
+    there: bool,
+    octets: &[u8],
+) -> Result<(Option<Oid>, &[u8]), ReadFault>
+    ensures { Gives (λ x. (x.0, x.1.now)) result (optional_at oid_at there octets.now) }
+{
+    if !there {
+        return Ok((None, octets));
+    }
+    let (oid, rest) = oid(alloc, octets)?;
+    Ok((Some(oid), rest))
+}
+
+/// So many object identifiers.
+pub(crate) fn oids(
+    alloc: Global,
+    count: usize,
+    octets: &[u8],
+) -> Result<(Vec<Oid>, &[u8]), ReadFault>
+    ensures { Gives (λ x. (x.0.items, x.1.now)) result (many_at oid_at count octets.now) }
+{
+    let mut oids = Vec::new(alloc);
+    let mut rest = octets;
+    for _ in 0..count {
+        let (oid, after) = oid(alloc, rest)?;
+        oids.push(oid)?;
+        rest = after;
+    }
+    Ok((oids, rest))
+}
+
+#[tactic(auto, unfolding(crate::specs::QuestionReading::policies_at))]
+fn policies(alloc: Global, octets: &[u8]) -> Result<(Oids, &[u8]), ReadFault>
+    ensures { Gives (λ x. (x.0, x.1.now)) result (policies_at octets.now) }
+{
+    let (count, rest) = octet(octets)?;
+    let count = usize::from(count);
+    if count > MAX_POLICIES {
+        return Err(ReadFault::Form);
+    }
+    let (oids, rest) = oids(alloc, count, rest)?;
+    Ok((Oids::new(oids), rest))
+}
+
+/// So many subtrees.
+fn subtrees_of(
+    alloc: Global,
+    count: usize,
+    octets: &[u8],
+) -> Result<(OctetStrings, &[u8]), ReadFault>
+    ensures { Gives (λ x. (x.0, x.1.now)) result (many_at blob16_at count octets.now) }
+{
+    let mut strings = OctetStrings::empty(alloc);
+    let mut rest = octets;
+    for _ in 0..count {
+        let (content, after) = blob16(rest)?;
+        strings.push_copy(alloc, content)?;
+        rest = after;
+    }
+    Ok((strings, rest))
+}
+
+#[tactic(auto, unfolding(crate::specs::QuestionReading::subtrees_at))]
+fn subtrees(alloc: Global, octets: &[u8]) -> Result<(OctetStrings, &[u8]), ReadFault>
+    ensures { Gives (λ x. (x.0, x.1.now)) result (subtrees_at octets.now) }
+{
+    let (count, rest) = number16(octets)?;
+    let count = usize::from(count);
+    if count > MAX_SUBTREES {
+        return Err(ReadFault::Form);
+    }
+    subtrees_of(alloc, count, rest)
+}
+
+#[tactic(auto, unfolding(crate::specs::QuestionReading::certificate_at))]
+fn certificate(octets: &[u8]) -> Result<(&[u8], &[u8]), ReadFault>
+    ensures { Gives (λ x. (x.0.now, x.1.now)) result (certificate_at octets.now) }
+{
+    let (content, rest) = blob32(octets)?;
+    if content.len() > MAX_CERTIFICATE {
+        return Err(ReadFault::Form);
+    }
+    Ok((content, rest))
+}
+
+/// So many certificates.
+fn certificates_of(
+    alloc: Global,
+    count: usize,
+    octets: &[u8],
+) -> Result<(OctetStrings, &[u8]), ReadFault>
+    ensures { Gives (λ x. (x.0, x.1.now)) result (many_at certificate_at count octets.now) }
+{
+    let mut strings = OctetStrings::empty(alloc);
+    let mut rest = octets;
+    for _ in 0..count {
+        let (content, after) = certificate(rest)?;
+        strings.push_copy(alloc, content)?;
+        rest = after;
+    }
+    Ok((strings, rest))
+}
+
+#[tactic(auto, unfolding(crate::specs::QuestionReading::certificates_at))]
+fn certificates(
+    alloc: Global,
+    most: usize,
+    octets: &[u8],
+) -> Result<(OctetStrings, &[u8]), ReadFault>
+    ensures { Gives (λ x. (x.0, x.1.now)) result (certificates_at most octets.now) }
+{
+    let (count, rest) = octet(octets)?;
+    let count = usize::from(count);
+    if count < 1 || count > most {
+        return Err(ReadFault::Form);
+    }
+    certificates_of(alloc, count, rest)
+}
+
+#[tactic(auto, unfolding(crate::specs::QuestionReading::terms_at))]
+fn terms(alloc: Global, octets: &[u8]) -> Result<(Terms, &[u8]), ReadFault>
+    ensures { Gives (λ x. (x.0, x.1.now)) result (terms_at octets.now) }
+{
+    let (moment, rest) = number64(octets)?;
+    let (presence, rest) = presence(rest)?;
+    let (k, rest) = optional_position(presence.k, rest)?;
+    let (purpose, rest) = optional_oid(alloc, presence.purpose, rest)?;
+    let (user_policies, rest) = policies(alloc, rest)?;
+    let (permitted_subtrees, rest) = subtrees(alloc, rest)?;
+    let (excluded_subtrees, rest) = subtrees(alloc, rest)?;
+    let terms = Terms {
+        moment: moment.cast_signed(),
+        flags: presence.flags,
+        k,
+        purpose,
+        user_policies,
+        permitted_subtrees,
+        excluded_subtrees,
+    };
+    Ok((terms, rest))
+}
+
+/// The 32 octets of an anchor's id.
+pub(crate) fn digest(octets: &[u8]) -> Result<([u8; 32], &[u8]), ReadFault>
+    ensures { Gives (λ x. (x.0, x.1.now)) result (octets_at 32 octets.now) }
+{
+    if octets.len() < 32 {
+        return Err(ReadFault::Form);
+    }
+    let (front, rest) = octets.split_at(32);
+    match <[u8; 32]>::try_from(front) {
+        Ok(digest) => Ok((digest, rest)),
+        Err(_) => Err(ReadFault::Form),
+    }
+}
+
+#[tactic(auto, unfolding(crate::specs::QuestionReading::target_at))]
+fn target(alloc: Global, kind: u8, octets: &[u8]) -> Result<(Target, &[u8]), ReadFault>
+    ensures { Gives (λ x. (x.0, x.1.now)) result (target_at kind octets.now) }
+{
+    match kind {
+        1 => {
+            let (anchor, rest) = digest(octets)?;
+            let (certificates, rest) = certificates(alloc, MAX_CHAIN, rest)?;
+            let target = Target::Chain {
+                anchor,
+                certificates,
+            };
+            Ok((target, rest))
+        }
+        2 => {
+            let (certificates, rest) = certificates(alloc, MAX_SEARCH, octets)?;
+            Ok((Target::Search { certificates }, rest))
+        }
+        _ => Err(ReadFault::Form),
+    }
+}
+
+/// The terms and the certificates of the question that the octets are.
+#[tactic(auto, unfolding(crate::specs::QuestionReading::question_at))]
+pub(crate) fn question(alloc: Global, octets: &[u8]) -> Result<(Terms, Target), ReadFault>
+    ensures { Gives (λ (x : Terms × Target). record { terms = x.0; target = x.1 }) result (whole (question_at octets.now)) }
+{
+    let (kind, rest) = octet(octets)?;
+    let (terms, rest) = terms(alloc, rest)?;
+    let (target, rest) = target(alloc, kind, rest)?;
+    if !rest.is_empty() {
+        return Err(ReadFault::Form);
+    }
+    Ok((terms, target))
+}

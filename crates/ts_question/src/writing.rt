@@ -1,0 +1,202 @@
+//! Questions are written.
+
+ghost use Rattle.std.specs.Prelude.{◌≡◌, ◌≤◌, ◌<◌, ◌^◌, ◌++◌, ◌∷◌, ◌+◌, ◌*◌, cond, length, map, nat_le, is_some, true, OnOk};
+ghost use Rattle.std.specs.List.{flat_map, list_all};
+ghost use Rattle.ts_question.specs.Parts.{blob8, blob16, blob32, optional};
+ghost use Rattle.std.specs.Int.{to_be_bytes, cast_unsigned, w32, w64};
+ghost use Rattle.ts_question.specs.Question.{flags_octet, is_position, are_subtrees, are_terms, are_certificates, is_target, policies_spelling, subtrees_spelling, certificates_spelling, terms_spelling, kind_of, target_spelling};
+
+use crate::lists::{OctetStrings, Oids};
+use crate::question::Target;
+use crate::terms::{Flags, Terms};
+use std::alloc::AllocError;
+use ts_der::Oid;
+
+/// Writes an object identifier behind an octet of its length.
+pub(crate) fn push_oid(out: &mut Vec<u8>, oid: &Oid) -> Result<(), AllocError>
+    ensures { OnOk result (out.new.items ≡ out.old.items ++ blob8 oid.now) }
+{
+    let content = oid.as_ref().content;
+    out.push(content.len() as u8)?;
+    out.extend_from_slice(content)?;
+    Ok(())
+}
+
+/// Writes object identifiers, one behind another.
+pub(crate) fn push_oids(out: &mut Vec<u8>, oids: &[Oid]) -> Result<(), AllocError>
+    ensures { OnOk result (out.new.items ≡ out.old.items ++ flat_map blob8 oids.now) }
+{
+    for oid in oids {
+        push_oid(out, oid)?;
+    }
+    Ok(())
+}
+
+fn push_policies(out: &mut Vec<u8>, policies: &Oids) -> Result<(), AllocError>
+    requires { length policies.now ≤ 32 }
+    ensures { OnOk result (out.new.items ≡ out.old.items ++ policies_spelling policies.now) }
+{
+    let policies = policies.as_slice();
+    out.push(policies.len() as u8)?;
+    push_oids(out, policies)
+}
+
+/// Writes octets behind two octets of their length.
+fn push_blob16(out: &mut Vec<u8>, octets: &[u8]) -> Result<(), AllocError>
+    requires { length octets.now < 2 ^ 16 }
+    ensures { OnOk result (out.new.items ≡ out.old.items ++ blob16 octets.now) }
+{
+    out.extend_from_slice(&(octets.len() as u16).to_be_bytes())?;
+    out.extend_from_slice(octets)?;
+    Ok(())
+}
+
+fn push_subtrees_of(out: &mut Vec<u8>, subtrees: &[Vec<u8>]) -> Result<(), AllocError>
+    requires { list_all (λ s. nat_le (length s) 65535) (map (λ s. s.items) subtrees.now) ≡ true }
+    ensures { OnOk result (out.new.items ≡ out.old.items ++ flat_map blob16 (map (λ s. s.items) subtrees.now)) }
+{
+    for subtree in subtrees {
+        push_blob16(out, subtree.as_slice())?;
+    }
+    Ok(())
+}
+
+fn push_subtrees(out: &mut Vec<u8>, subtrees: &OctetStrings) -> Result<(), AllocError>
+    requires { are_subtrees subtrees.now ≡ true }
+    ensures { OnOk result (out.new.items ≡ out.old.items ++ subtrees_spelling subtrees.now) }
+{
+    out.extend_from_slice(&(subtrees.len() as u16).to_be_bytes())?;
+    push_subtrees_of(out, subtrees.as_slice())
+}
+
+/// Writes octets behind four octets of their length.
+pub fn push_blob32(out: &mut Vec<u8>, octets: &[u8]) -> Result<(), AllocError>
+    requires { length octets.now < 2 ^ 32 }
+    ensures { OnOk result (out.new.items ≡ out.old.items ++ blob32 octets.now) }
+{
+    out.extend_from_slice(&(octets.len() as u32).to_be_bytes())?;
+    out.extend_from_slice(octets)?;
+    Ok(())
+}
+
+fn push_certificates_of(out: &mut Vec<u8>, certificates: &[Vec<u8>]) -> Result<(), AllocError>
+    requires { list_all (λ c. nat_le (length c) 65536) (map (λ c. c.items) certificates.now) ≡ true }
+    ensures { OnOk result (out.new.items ≡ out.old.items ++ flat_map blob32 (map (λ c. c.items) certificates.now)) }
+{
+    for certificate in certificates {
+        push_blob32(out, certificate.as_slice())?;
+    }
+    Ok(())
+}
+
+fn push_certificates(out: &mut Vec<u8>, certificates: &OctetStrings) -> Result<(), AllocError>
+    requires { are_certificates 33 certificates.now ≡ true }
+    ensures { OnOk result (out.new.items ≡ out.old.items ++ certificates_spelling certificates.now) }
+{
+    out.push(certificates.len() as u8)?;
+    push_certificates_of(out, certificates.as_slice())
+}
+
+/// A bit, and the number of the bits above it.
+fn above(bit: bool, others: u8) -> u8
+    requires { others < 128 }
+    ensures { result ≡ cond bit 1 0 + 2 * others }
+{
+    u8::from(bit) + 2 * others
+}
+
+fn octet_of(flags: Flags, k: bool, purpose: bool) -> u8
+    ensures { result ≡ flags_octet flags k purpose }
+{
+    let deltas = above(flags.use_deltas, 0);
+    let hard = above(flags.hard, above(k, above(purpose, deltas)));
+    above(
+        flags.explicit_policy,
+        above(
+            flags.inhibit_policy_mapping,
+            above(flags.inhibit_any_policy, hard),
+        ),
+    )
+}
+
+fn push_position(out: &mut Vec<u8>, k: Option<u32>) -> Result<(), AllocError>
+    ensures { OnOk result (out.new.items ≡ out.old.items ++ optional (to_be_bytes w32) k) }
+{
+    if let Some(k) = k {
+        out.extend_from_slice(&k.to_be_bytes())?;
+    }
+    Ok(())
+}
+
+fn push_purpose(out: &mut Vec<u8>, purpose: &Option<Oid>) -> Result<(), AllocError>
+    ensures { OnOk result (out.new.items ≡ out.old.items ++ optional blob8 purpose.now) }
+{
+    if let Some(oid) = purpose {
+        push_oid(out, oid)?;
+    }
+    Ok(())
+}
+
+/// Writes the moment, the flags, k and the purpose.
+fn push_inputs(out: &mut Vec<u8>, terms: &Terms) -> Result<(), AllocError>
+    ensures { OnOk result (out.new.items ≡ out.old.items ++ (to_be_bytes w64 (cast_unsigned w64 terms.now.moment)
+        ++ (flags_octet terms.now.flags (is_some terms.now.k) (is_some terms.now.purpose)
+        ∷ (optional (to_be_bytes w32) terms.now.k ++ optional blob8 terms.now.purpose)))) }
+{
+    out.extend_from_slice(&terms.moment.to_be_bytes())?;
+    let flags = octet_of(terms.flags, terms.k.is_some(), terms.purpose.is_some());
+    out.push(flags)?;
+    push_position(out, terms.k)?;
+    push_purpose(out, &terms.purpose)?;
+    Ok(())
+}
+
+/// Writes the policies and the subtrees.
+fn push_lists(out: &mut Vec<u8>, terms: &Terms) -> Result<(), AllocError>
+    requires { are_terms terms.now ≡ true }
+    ensures { OnOk result (out.new.items ≡ out.old.items ++ (policies_spelling terms.now.user_policies
+        ++ (subtrees_spelling terms.now.permitted_subtrees ++ subtrees_spelling terms.now.excluded_subtrees))) }
+{
+    push_policies(out, &terms.user_policies)?;
+    push_subtrees(out, &terms.permitted_subtrees)?;
+    push_subtrees(out, &terms.excluded_subtrees)?;
+    Ok(())
+}
+
+/// Writes the terms of a question.
+pub(crate) fn push_terms(out: &mut Vec<u8>, terms: &Terms) -> Result<(), AllocError>
+    requires { are_terms terms.now ≡ true }
+    ensures { OnOk result (out.new.items ≡ out.old.items ++ terms_spelling terms.now) }
+{
+    push_inputs(out, terms)?;
+    push_lists(out, terms)?;
+    Ok(())
+}
+
+/// The kind of a question.
+pub(crate) fn kind_of(target: &Target) -> u8
+    ensures { result ≡ kind_of target.now }
+{
+    match target {
+        Target::Chain { .. } => 1,
+        Target::Search { .. } => 2,
+    }
+}
+
+/// Writes the certificates of a question.
+pub(crate) fn push_target(out: &mut Vec<u8>, target: &Target) -> Result<(), AllocError>
+    requires { is_target target.now ≡ true }
+    ensures { OnOk result (out.new.items ≡ out.old.items ++ target_spelling target.now) }
+{
+    match target {
+        Target::Chain {
+            anchor,
+            certificates,
+        } => {
+            out.extend_from_slice(anchor)?;
+            push_certificates(out, certificates)?;
+        }
+        Target::Search { certificates } => push_certificates(out, certificates)?,
+    }
+    Ok(())
+}
