@@ -52,7 +52,7 @@ pub use fault::ReadFault;
 pub use lists::{OctetStrings, Oids, Places};
 pub use question::{OutOfLimits, Question, Target};
 pub use reading::{
-    MAX_CERTIFICATE, MAX_CHAIN, MAX_POLICIES, MAX_POSITION, MAX_SEARCH, MAX_SUBTREES,
+    MAX_CERTIFICATE, MAX_CHAIN, MAX_POLICIES, MAX_POSITION, MAX_SEARCH, MAX_SUBTREES, identifier,
 };
 pub use reason::Reason;
 pub use reply::{Answer, Reply};

@@ -42,8 +42,8 @@ pub(crate) fn position(octets: &[u8]) -> Result<(u32, &[u8]), ReadFault>
     Ok((k, rest))
 }
 
-/// The object identifier that these contents octets are.
-fn identifier(content: &[u8]) -> Option<OidRef<'_>>
+/// The object identifier that these contents octets are. `None` exactly where they are those of none (X.690 8.19).
+pub fn identifier(content: &[u8]) -> Option<OidRef<'_>>
     ensures { MatchOption result (is_oid content.now ≡ false) (λ oid. (oid.content.now ≡ content.now) × (is_oid content.now ≡ true)) }
 {
     let element = Element {

@@ -84,6 +84,41 @@ impl Command {
         }
     }
 
+    /// A copy.
+    ///
+    /// # Errors
+    ///
+    /// Memory that is refused.
+    pub fn try_copy(&self, alloc: Global) -> Result<Command, AllocError>
+        ensures { IfOk result (λ copy. copy ≡ self.now) }
+    {
+        Ok(match self {
+            Command::AddAnchor { id, certificate } => Command::AddAnchor {
+                id: *id,
+                certificate: certificate.try_copy(alloc)?,
+            },
+            Command::WithdrawAnchor { id, anchor } => Command::WithdrawAnchor {
+                id: *id,
+                anchor: *anchor,
+            },
+            Command::LoadCrl { id, crl } => Command::LoadCrl {
+                id: *id,
+                crl: crl.try_copy(alloc)?,
+            },
+            Command::DropCrl { id, crl } => Command::DropCrl { id: *id, crl: *crl },
+            Command::SetPurposes {
+                id,
+                anchor,
+                purposes,
+            } => Command::SetPurposes {
+                id: *id,
+                anchor: *anchor,
+                purposes: purposes.try_copy(alloc)?,
+            },
+            Command::Noop { id } => Command::Noop { id: *id },
+        })
+    }
+
     /// The command that octets are: 16 octets of id, an octet of the kind, and its fields. `None` exactly where they are
     /// not one whole command.
     ///

@@ -2,6 +2,7 @@
 
 ghost use Rattle.std.specs.Prelude.{◌≡◌, ◌≤◌, ◌<◌, ◌↔◌, ℕ, List, length, IfOk, IsErr, MatchResult};
 
+use std::alloc::{AllocError, Global};
 use std::marker::Model;
 use ts_cert::MAX_CERTIFICATE;
 use ts_crl::MAX_CRL;
@@ -25,6 +26,18 @@ impl Model for CertificateOctets {
 }
 
 impl CertificateOctets {
+    /// A copy.
+    ///
+    /// # Errors
+    ///
+    /// Memory that is refused.
+    pub fn try_copy(&self, alloc: Global) -> Result<CertificateOctets, AllocError>
+        ensures { IfOk result (λ copy. copy ≡ self.now) }
+    {
+        let octets = Vec::from_slice(alloc, &self.octets)?;
+        Ok(CertificateOctets { octets })
+    }
+
     /// These octets.
     ///
     /// # Errors
@@ -63,6 +76,18 @@ impl Model for CrlOctets {
 }
 
 impl CrlOctets {
+    /// A copy.
+    ///
+    /// # Errors
+    ///
+    /// Memory that is refused.
+    pub fn try_copy(&self, alloc: Global) -> Result<CrlOctets, AllocError>
+        ensures { IfOk result (λ copy. copy ≡ self.now) }
+    {
+        let octets = Vec::from_slice(alloc, &self.octets)?;
+        Ok(CrlOctets { octets })
+    }
+
     /// These octets.
     ///
     /// # Errors
