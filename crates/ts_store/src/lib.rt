@@ -1,9 +1,12 @@
-//! Commands of a trust store: what a client asks for, under an id that it chose; and the store's table of trust anchors.
+//! A trust store: a fold over commands, each of which a client asks for under an id that it chose.
 //!
 //! ```text
 //! let command = Command::add_anchor(id, certificate)?;        // TooLong above the limits
 //! let octets = command.octets(alloc)?;                         // its one spelling
 //! let again = Command::read(alloc, &octets)?;                  // Some, exactly where the octets are one whole command
+//!
+//! let mut store = Store::new(alloc);
+//! let outcome = store.apply(1, &command)?;                     // Applied, Repeated(position) or Refused(why)
 //! ```
 //!
 //! A command is 16 octets of id, an octet of the kind and its fields, numbers being big endian: 01 a certificate behind
@@ -19,10 +22,20 @@
 //! | [`Command::octets`] | `spelled`: the spelling; `fits`: each command has one |
 //! | [`laws::one_spelling`] | no two commands have one spelling, and no two lists of octets are one command's |
 //! | [`Anchors::add`], [`Anchors::withdraw`], [`Anchors::set_purposes`] | the table after the command, or its refusal, by the definition (`specs/Anchors`); at an `Err` nothing changes |
-//! | [`laws::one_step`] | of the store's definition (`specs/Store`): a command that is not applied leaves the tables; each takes one position; the fold over two lists |
+//! | [`Crls::put`], [`Crls::remove`], [`Tables::change`] | the same of a table of lists, and of all tables (`specs/Lists`, `specs/Tables`) |
+//! | [`Store::new`], [`Store::apply`] | the definition's empty store, and its step with the step's outcome (`specs/Store`); at an `Err` nothing changes |
+//! | [`Store::first`], [`Store::taken`], [`Store::tables`], [`Store::anchors`], [`Store::crls`], [`Store::deltas`] | what the store's value says |
+//! | [`laws::one_step`] | of the store's definition: a command that is not applied leaves the tables; each takes one position; a new id is held with its position and outcome, and keeps them; the fold over two lists |
 //!
-//! Memory that is refused is answered as `AllocError`. The store itself, with its tables of lists and its ids, is defined in
-//! `specs/`, and not written yet.
+//! A list of revoked certificates is kept in the slot of its issuer, its issuing distribution point and its authority key
+//! identifier; complete lists and deltas have slots of their own. [`StoredCrl::crl`] lends the list and
+//! [`TrustAnchor::certificate`] the certificate, which are read once, when they come.
+//!
+//! Clients choose the ids. They are kept in an ordered map, so that a look-up takes a number of steps that grows with the
+//! logarithm of their number whatever ids are chosen; no ids collide, as they would in a table whose hash is known. A load
+//! is compared with the lists that are kept, at most 1,024.
+//!
+//! Memory that is refused is answered as `AllocError`.
 #![tactic(auto)]
 
 mod anchor;
@@ -37,6 +50,8 @@ mod outcome;
 mod purposes;
 mod reading;
 mod store;
+#[cfg(test)]
+mod store_tests;
 mod stored;
 mod tables;
 #[cfg(test)]

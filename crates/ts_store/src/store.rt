@@ -1,8 +1,8 @@
 //! The trust store.
 
-ghost use Rattle.std.specs.Prelude.{◌≡◌, suc, IfOk, OnErr};
+ghost use Rattle.std.specs.Prelude.{◌≡◌, suc, IfOk, OnOk, OnErr};
 ghost use Rattle.ts_store.specs.Ids.{first_of};
-ghost use Rattle.ts_store.specs.Store.{Step, step, empty};
+ghost use Rattle.ts_store.specs.Store.{step, empty};
 
 use crate::anchor::TrustAnchor;
 use crate::command::Command;
@@ -53,6 +53,7 @@ impl Store {
     pub fn apply(&mut self, position: u32, command: &Command) -> Result<Outcome, AllocError>
         requires { position ≡ suc self.now.taken }
         ensures done { IfOk result (λ outcome. step position command.now self.old ≡ (record { state = self.new; outcome = outcome })) }
+        ensures taken { OnOk result (self.new.taken ≡ position) }
         ensures memory { OnErr result (self.new ≡ self.old) }
     {
         let id = command.id();
