@@ -160,6 +160,13 @@ impl<D: Disk, C: Codec> Record<D, C> {
         &self.ledger.facts
     }
 
+    /// A device failed in an earlier call.
+    pub fn is_broken(&self) -> bool
+        ensures { result ≡ self.now.broken }
+    {
+        self.broken
+    }
+
     /// The number of the node whose record it is.
     pub fn node(&self) -> u8
         ensures { result ≡ self.now.node }
