@@ -1,3 +1,6 @@
 pub mod Idle
 pub mod Same
 pub mod Used
+pub mod Prefix
+pub mod Settlings
+pub mod Grown

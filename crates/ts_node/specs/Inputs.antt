@@ -1,5 +1,5 @@
 -- What reaches a node and what it answers, as the world's inputs and replies.
-use Rattle.std.proofs.Common.{◌≡◌, ◌≤◌, ◌<◌, ◌+◌, ◌^◌, ◌%◌, ℕ, List, Option, Some, None, length, slice_get}
+use Rattle.std.proofs.Common.{◌≡◌, ◌≤◌, ℕ, List, Some, Result, Ok, Err, length, slice_get}
 use Rattle.ts_synod.specs.declared.message.Message.{Message}
 use Rattle.ts_synod.specs.declared.message.Body.{Body}
 use Rattle.ts_synod.specs.declared.message.Body.TheVariants.{Accept, Accepted, Ask, Busy, Give, Prepare, Promise}
@@ -8,6 +8,11 @@ use Rattle.ts_record.specs.Facts.{IsBallot, IsPosition}
 use Rattle.ts_node.specs.declared.input.Input.{Input}
 use Rattle.ts_node.specs.declared.input.Input.TheVariants as inputs
 use Rattle.ts_node.specs.declared.input.Reply.{Reply}
+use Rattle.ts_node.specs.declared.input.NodeFault.{NodeFault}
+use Rattle.ts_node.specs.declared.input.NodeFault.TheVariants as faults
+use Rattle.ts_node.specs.declared.plan.Plan.{Plan}
+use Rattle.ts_node.specs.declared.roles.Roles.{Roles}
+use Rattle.ts_node.specs.Roles.{Makes}
 use Rattle.ts_node.specs.declared.input.Reply.TheVariants as replies
 
 -- the event's input is this one, where a delivered message is the one of its number among all sent. Compaction is no event of the world.
@@ -53,3 +58,12 @@ InputFits octets (inputs.Outcome id) = Unit {0}
 InputFits octets inputs.CatchUp = Unit {0}
 InputFits octets inputs.Status = Unit {0}
 InputFits octets inputs.Compact = Unit {0}
+
+-- A plan and a reply are those of the world's step. RoundsExhausted and PositionsExhausted are answered exactly where the world's reply
+-- is that.
+abbrev pub Submits : {C O Q A : Type 0} → (List C → Q → A → Type 0) → Roles C → Result (Plan C × Reply O A) NodeFault → world.Step C O Q (List C) → Type 0
+Submits is_answer roles (Ok made) step = Makes roles made.0 step.effect × IsReply is_answer made.1 step.reply
+Submits is_answer roles (Err faults.RoundsExhausted) step = step.reply ≡ world.RoundsExhausted
+Submits is_answer roles (Err faults.PositionsExhausted) step = step.reply ≡ world.PositionsExhausted
+Submits is_answer roles (Err faults.Memory) step = Unit {0}
+Submits is_answer roles (Err other) step = ⊥
