@@ -4,3 +4,6 @@ pub mod Used
 pub mod Prefix
 pub mod Settlings
 pub mod Grown
+pub mod Questions
+pub mod Deliveries
+pub mod Fits

@@ -1,5 +1,5 @@
 -- The proposer keeps no facts but rounds.
-use Rattle.std.proofs.Common.{ℕ, List, [], ◌∷◌, Option, Some, None, Bool, is_some, nat_le, ◌==◌, ◌&&◌}
+use Rattle.std.proofs.Common.{refl, ◌≡◌, ℕ, List, [], ◌∷◌, Option, Some, None, Bool, is_some, nat_le, ◌==◌, ◌&&◌}
 use Rattle.ts_synod.specs.declared.message.Vote.{Vote}
 use Rattle.ts_synod.specs.Lists.{put}
 use Rattle.ts_synod.specs.Majority.{is_majority}
@@ -43,3 +43,29 @@ growth config used state (Some c) next = again config used state c next
 
 pub growth_rounds : {C : Type 0} (config : Config) (used : ℕ) (state : ProposerState C) (next : Option ℕ) → Rounds (on_growth config used state next)
 growth_rounds config used state next = growth config used state state.wanted next
+
+-- nothing is kept
+abbrev pub KeepsNone : {C : Type 0} → ProposerStep C → Type 0
+KeepsNone step = step.facts ≡ []
+
+phase_2_none : {C : Type 0} (config : Config) (state : ProposerState C) (round : Round C) (o : Option C) → KeepsNone (begin_phase_none_2_none config state round o)
+phase_2_none config state round None = refl
+phase_2_none config state round (Some c) = refl
+
+counted_none : {C : Type 0} (config : Config) (state : ProposerState C) (round : Round C) (promises : ℕ → Option (Option (Vote C))) → KeepsNone (count_promises config state round promises)
+counted_none config state round promises =
+    by_test KeepsNone (is_majority config.nodes (λ a. is_some (promises a))) (begin_phase_none_2_none config state round (command_to_propose (greatest_reported promises config.nodes) state.wanted)) (only_state (with_round state (Some (record { number = round.number; position = round.position; phase = Preparing promises }))))
+    (λ _. phase_2_none config state round (command_to_propose (greatest_reported promises config.nodes) state.wanted)) (λ _. refl)
+
+in_phase_none : {C : Type 0} (config : Config) (state : ProposerState C) (from : ℕ) (taken : Option (Vote C)) (round : Round C) (phase : Phase C) → KeepsNone (promise_in_phase config state from taken round phase)
+in_phase_none config state from taken round Accepting = refl
+in_phase_none config state from taken round (Preparing promises) =
+    by_test KeepsNone (is_some (promises from)) (only_state state) (count_promises config state round (put promises from (Some taken))) (λ _. refl) (λ _. counted_none config state round (put promises from (Some taken)))
+
+in_round_none : {C : Type 0} (config : Config) (state : ProposerState C) (from p b : ℕ) (taken : Option (Vote C)) (o : Option (Round C)) → KeepsNone (promise_in_round config state from p b taken o)
+in_round_none config state from p b taken None = refl
+in_round_none config state from p b taken (Some round) =
+    by_test KeepsNone (is_current config round p b) (promise_in_phase config state from taken round round.phase) (only_state state) (λ _. in_phase_none config state from taken round round.phase) (λ _. refl)
+
+pub promise_none : {C : Type 0} (config : Config) (state : ProposerState C) (from p b : ℕ) (taken : Option (Vote C)) → KeepsNone (on_promise config state from p b taken)
+promise_none config state from p b taken = in_round_none config state from p b taken state.round

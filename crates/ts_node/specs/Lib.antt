@@ -2,4 +2,3 @@ pub mod Machine
 pub mod Growing
 pub mod Roles
 pub mod Inputs
-pub mod Node
