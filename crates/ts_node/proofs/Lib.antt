@@ -7,3 +7,4 @@ pub mod Grown
 pub mod Questions
 pub mod Deliveries
 pub mod Fits
+pub mod Images

@@ -48,13 +48,13 @@ growth_rounds config used state next = growth config used state state.wanted nex
 abbrev pub KeepsNone : {C : Type 0} → ProposerStep C → Type 0
 KeepsNone step = step.facts ≡ []
 
-phase_2_none : {C : Type 0} (config : Config) (state : ProposerState C) (round : Round C) (o : Option C) → KeepsNone (begin_phase_none_2_none config state round o)
+phase_2_none : {C : Type 0} (config : Config) (state : ProposerState C) (round : Round C) (o : Option C) → KeepsNone (begin_phase_2 config state round o)
 phase_2_none config state round None = refl
 phase_2_none config state round (Some c) = refl
 
 counted_none : {C : Type 0} (config : Config) (state : ProposerState C) (round : Round C) (promises : ℕ → Option (Option (Vote C))) → KeepsNone (count_promises config state round promises)
 counted_none config state round promises =
-    by_test KeepsNone (is_majority config.nodes (λ a. is_some (promises a))) (begin_phase_none_2_none config state round (command_to_propose (greatest_reported promises config.nodes) state.wanted)) (only_state (with_round state (Some (record { number = round.number; position = round.position; phase = Preparing promises }))))
+    by_test KeepsNone (is_majority config.nodes (λ a. is_some (promises a))) (begin_phase_2 config state round (command_to_propose (greatest_reported promises config.nodes) state.wanted)) (only_state (with_round state (Some (record { number = round.number; position = round.position; phase = Preparing promises }))))
     (λ _. phase_2_none config state round (command_to_propose (greatest_reported promises config.nodes) state.wanted)) (λ _. refl)
 
 in_phase_none : {C : Type 0} (config : Config) (state : ProposerState C) (from : ℕ) (taken : Option (Vote C)) (round : Round C) (phase : Phase C) → KeepsNone (promise_in_phase config state from taken round phase)

@@ -2,3 +2,4 @@ pub mod Machine
 pub mod Growing
 pub mod Roles
 pub mod Inputs
+pub mod Node

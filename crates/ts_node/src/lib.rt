@@ -6,6 +6,7 @@ mod growth;
 mod input;
 mod machine;
 mod messages;
+mod node;
 
 mod plan;
 mod planning;
@@ -14,3 +15,4 @@ mod submit;
 
 pub use input::{Input, NodeFault, Output, Reply};
 pub use machine::Machine;
+pub use node::{Node, Refused};

@@ -1,5 +1,7 @@
 //! What a node is going to do: facts to keep, messages to send after that, and the change of its roles.
 
+ghost use Rattle.std.specs.Prelude.{◌≡◌};
+
 use ts_acceptor::Step as AcceptorStep;
 use ts_log::Step as LogStep;
 use ts_proposer::Step as ProposerStep;
@@ -21,4 +23,21 @@ pub(crate) enum Move<C> {
 pub(crate) struct Plan<C> {
     pub messages: Vec<Message<C>>,
     pub change: Move<C>,
+}
+
+impl<C> Move<C> {
+    ghost use Rattle.ts_node.specs.Roles.{facts_in};
+
+    /// The facts that the change keeps.
+    pub fn facts(&self) -> &[Fact<C>]
+        ensures { result.now ≡ facts_in self.now }
+    {
+        match self {
+            Move::Nothing => &[],
+            Move::Accept(step) => &step.facts,
+            Move::Propose(step) => &step.facts,
+            Move::Learn(step) => &step.facts,
+            Move::Grow(_, _, facts) => facts,
+        }
+    }
 }
