@@ -4,11 +4,13 @@ use Rattle.std.proofs.lemmas.List.{length-take}
 use Rattle.ts_disk.specs.Disk.{State, IsDisk}
 use Rattle.ts_journal.specs.Images.{AnyPair, EveryPair, Opens, OpensFrom}
 use Rattle.ts_synod.specs.declared.message.Fact.{Fact}
-use Rattle.ts_synod.specs.Force.{command_at, first_some, learned_command, log_of}
+use Rattle.ts_synod.specs.Force.{SameForce, command_at, first_some, learned_command, log_of}
 use Rattle.ts_synod.specs.Log.{prefix}
-use Rattle.ts_synod.proofs.Same.{learned_push}
+use Rattle.ts_synod.proofs.Same.{learned_push, same_log}
+use Rattle.ts_node.specs.declared.roles.Roles.{Roles}
+use Rattle.ts_node.specs.Roles.{StandFor}
 use Rattle.ts_record.specs.declared.fault.Fault.{Fault}
-use Rattle.ts_record.specs.declared.fault.Fault.TheVariants.{Broken, DiskFailed, Memory}
+use Rattle.ts_record.specs.declared.fault.Fault.TheVariants.{Broken, DiskFailed, GenerationsExhausted, Memory}
 use Rattle.ts_record.specs.Facts.{OpensTo}
 use Rattle.ts_record.specs.Record.{OpensToFrom, ToBeforeOrAfter}
 use Rattle.ts_node.specs.Growing.{IsPart}
@@ -59,3 +61,18 @@ part_extends f g cs more is =
 -- the fault of a call that answers one
 pub cause : {T : Type 0} (r : Result T Fault) (fault : Fault) → r ≡ Err fault → IfErr r (λ f. (f ≡ Memory) ⊎ (f ≡ DiskFailed) ⊎ (f ≡ Broken)) → (fault ≡ Memory) ⊎ (fault ≡ DiskFailed) ⊎ (fault ≡ Broken)
 cause r fault is h = subst (λ x. IfErr x (λ f. (f ≡ Memory) ⊎ (f ≡ DiskFailed) ⊎ (f ≡ Broken))) is h
+
+-- roles stand for facts of the same force
+pub stand_force : {C : Type 0} (roles : Roles C) (fs gs : List (Fact C)) → SameForce gs fs → StandFor roles fs → StandFor roles gs
+stand_force roles fs gs force h = record {
+  acceptor = record { promised = λ p. h.acceptor.promised p ∙ sym (force.promised p); taken = λ p. h.acceptor.taken p ∙ sym (force.taken p) };
+  proposer = h.proposer ∙ sym force.used;
+  log = h.log ∙ sym (same_log gs fs force);
+  acceptor_config = h.acceptor_config;
+  proposer_config = h.proposer_config;
+  log_config = h.log_config;
+  few = h.few;
+}
+
+pub rewrite_cause : {T : Type 0} (r : Result T Fault) (fault : Fault) → r ≡ Err fault → IfErr r (λ f. (f ≡ Memory) ⊎ (f ≡ DiskFailed) ⊎ (f ≡ Broken) ⊎ (f ≡ GenerationsExhausted)) → (fault ≡ Memory) ⊎ (fault ≡ DiskFailed) ⊎ (fault ≡ Broken) ⊎ (fault ≡ GenerationsExhausted)
+rewrite_cause r fault is h = subst (λ x. IfErr x (λ f. (f ≡ Memory) ⊎ (f ≡ DiskFailed) ⊎ (f ≡ Broken) ⊎ (f ≡ GenerationsExhausted))) is h

@@ -1,5 +1,5 @@
 -- A node on two disks: its facts, which its disks hold, and the world's node that it is.
-use Rattle.std.proofs.Common.{◌≡◌, ◌≤◌, ◌⊎◌, ◌++◌, ℕ, List, [], false, true, Result, Ok, Err}
+use Rattle.std.proofs.Common.{◌≡◌, ◌≤◌, ◌⊎◌, ◌++◌, ◌+◌, ◌^◌, ℕ, List, [], false, true, Result, Ok, Err}
 use Rattle.ts_disk.specs.Disk.{State}
 use Rattle.ts_journal.specs.Images.{AnyPair, EveryPair}
 use Rattle.ts_synod.specs.declared.message.Fact.{Fact}
@@ -16,6 +16,10 @@ use Rattle.ts_record.specs.declared.fault.Fault.TheVariants as record_faults
 use Rattle.ts_node.specs.declared.input.NodeFault.{NodeFault}
 use Rattle.ts_node.specs.declared.input.NodeFault.TheVariants as faults
 use Rattle.ts_node.specs.declared.input.Output.{Output}
+use Rattle.ts_node.specs.declared.input.Reply.TheVariants as replies
+use Rattle.ts_record.specs.Kept.{course}
+use Rattle.ts_record.specs.Rewrite.{Steps}
+use Rattle.ts_record.specs.declared.progress.Progress.{Progress}
 use Rattle.ts_node.specs.Inputs.{IsReply}
 use Rattle.ts_node.specs.Growing.{IsPart}
 use Rattle.ts_node.specs.Roles.{StandFor, config_of, volatile_of}
@@ -87,3 +91,22 @@ Handles is_answer old (Err faults.Memory) new step = IsSame old new
 Handles is_answer old (Err faults.DiskFailed) new step = new.kept.broken ≡ true
 Handles is_answer old (Err faults.Broken) new step = ⊥
 Handles is_answer old (Err faults.GenerationsExhausted) new step = ⊥
+
+-- One step of a rewrite: the facts are of the same force, the volatile part is the same, nothing is sent, and the reply is how far the
+-- rewrite is.
+pub record Rewrites {D C M O A : Type 0} (old : Node D C M) (output : Output C O A) (new : Node D C M) : Type 0 where
+  pub progress : Progress
+  pub steps : Steps (course old.kept) progress (course new.kept)
+  pub force : SameForce (facts new) (facts old)
+  pub volatile : volatile new ≡ volatile old
+  pub messages : output.messages.items ≡ []
+  pub reply : output.reply ≡ replies.Compacted progress
+
+abbrev pub Compacts : {D C M O A : Type 0} → Node D C M → Result (Output C O A) NodeFault → Node D C M → Type 0
+Compacts old (Ok output) new = Rewrites old output new
+Compacts old (Err faults.Memory) new = IsSame old new
+Compacts old (Err faults.GenerationsExhausted) new = (old.kept.generation + 1 ≡ 2 ^ 64) × IsSame old new
+Compacts old (Err faults.DiskFailed) new = new.kept.broken ≡ true
+Compacts old (Err faults.Broken) new = ⊥
+Compacts old (Err faults.RoundsExhausted) new = ⊥
+Compacts old (Err faults.PositionsExhausted) new = ⊥

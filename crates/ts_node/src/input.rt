@@ -28,26 +28,14 @@ pub enum Input<C, Q> {
 pub enum Reply<O, A> {
     Done,
     /// A round began for the command.
-    Started {
-        position: u32,
-        ballot: Ballot,
-    },
+    Started { position: u32, ballot: Ballot },
     /// The first command with the id is learned at this position.
-    Settled {
-        position: u32,
-        outcome: O,
-    },
+    Settled { position: u32, outcome: O },
     /// No command with the id is learned without a gap before it.
     Unknown,
     /// Only so many commands are learned without a gap, and k is more.
-    NotYet {
-        k: u32,
-        prefix: u32,
-    },
-    Answered {
-        k: u32,
-        answer: A,
-    },
+    NotYet { k: u32, prefix: u32 },
+    Answered { k: u32, answer: A },
     Prefix(u32),
     Compacted(Progress),
 }

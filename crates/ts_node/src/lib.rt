@@ -7,7 +7,6 @@ mod input;
 mod machine;
 mod messages;
 mod node;
-
 mod plan;
 mod planning;
 mod roles;

@@ -2,7 +2,7 @@
 
 ghost use Rattle.std.specs.Prelude.{◌≡◌, ◌≤◌, ◌⊎◌, [], ℕ, List, false, true, IfOk, IfErr, OnOk, OnErr, MatchResult, IsErrOf, ◌++◌, length};
 ghost use Rattle.ts_disk.specs.Disk.{State};
-ghost use Rattle.ts_journal.specs.Images.{AnyPair};
+ghost use Rattle.ts_journal.specs.Images.{AnyPair, EveryPair};
 ghost use Rattle.ts_journal.specs.Choice.{IsChosen};
 ghost use Rattle.ts_journal.specs.declared.choice.Choice.{Choice};
 ghost use Rattle.ts_synod.specs.declared.message.Fact.{Fact};
@@ -15,11 +15,12 @@ ghost use Rattle.ts_node.specs.Inputs.{InputFits, IsInput};
 ghost use Rattle.ts_record.specs.declared.fault.Fault.TheVariants.{Memory, DiskFailed};
 ghost use Rattle.ts_record.specs.Facts.{AllFit, OpensTo, spellings};
 ghost use Rattle.ts_node.specs.Roles.{IsLatest, facts_in, volatile_after};
-ghost use Rattle.ts_record.specs.Record.{OpensToFrom};
+ghost use Rattle.ts_record.specs.Record.{OpensToForce};
+ghost use Rattle.ts_synod.specs.Force.{SameForce};
 ghost use Rattle.ts_record.specs.Opening.{IsFault};
-ghost use Rattle.ts_node.specs.Node.{Failed, Handles, IsSound, Moments, config, fault_as, facts, volatile};
+ghost use Rattle.ts_node.specs.Node.{Compacts, Failed, Handles, IsSound, Moments, config, fault_as, facts, volatile};
 
-use crate::input::{Input, NodeFault, Output};
+use crate::input::{Input, NodeFault, Output, Reply};
 use crate::machine::Machine;
 use crate::plan::Plan;
 use crate::roles::Roles;
@@ -141,6 +142,61 @@ impl<D: Disk, C: Command + Codec, M: Machine<C>> Node<D, C, M> {
                 Ok(messages)
             }
             Err(fault) => Err(fault_of(fault)),
+        }
+    }
+
+    /// Makes one step of a rewrite of the record.
+    fn compact(&mut self) -> Result<Output<C, M::Outcome, M::Answer>, NodeFault>
+        requires whole { self.old.kept.broken ≡ false }
+        requires sound { IsSound D.state C.octets M.commands self.old }
+        ensures step { Compacts self.old result self.new }
+        ensures moments { EveryPair (OpensToForce C.octets (facts self.old)) (D.state self.old.kept.a) (D.state self.old.kept.b) (D.state self.new.kept.a) (D.state self.new.kept.b) }
+        ensures sound { IsSound D.state C.octets M.commands self.new }
+        ensures config { config self.new ≡ config self.old }
+        ensures basis { M.basis self.new.machine ≡ M.basis self.old.machine }
+        ensures whole { OnOk result (self.new.kept.broken ≡ false) }
+        ensures failed { IsErrOf result NodeFault.DiskFailed → (self.new.kept.broken ≡ true) × Failed D.state self.old self.new }
+    {
+        match self.kept.compact(self.alloc) {
+            Ok(progress) => Ok(Output {
+                messages: Vec::new(self.alloc),
+                reply: Reply::Compacted(progress),
+            }),
+            Err(fault) => Err(fault_of(fault)),
+        }
+    }
+
+    /// Takes an input. What it keeps is on disk before it answers, and so before a message can be sent.
+    pub fn handle(
+        &mut self,
+        input: &Input<C, M::Question>,
+    ) -> Result<Output<C, M::Outcome, M::Answer>, NodeFault>
+        requires sound { IsSound D.state C.octets M.commands self.old }
+        requires fits { InputFits C.octets input.now }
+        // One event of the world: the call keeps, sends and answers what the step of the world's node does, whose facts are of the force
+        // of this node's.
+        ensures step { self.old.kept.broken ≡ false → (kept : List (Fact C)) (sent : List (Message C)) (event : world.Input C M.Question) → SameForce kept (facts self.old) → IsInput sent input.now event
+            → Handles (M.is_answer (M.basis self.old.machine)) self.old result self.new (world.step (store_of M.Question M.client_id M.outcome) (config self.old) (node_with kept (volatile self.old)) sent event) }
+        // A crash at any moment within the call leaves the facts before it, or those after it.
+        ensures moments { self.old.kept.broken ≡ false → (kept : List (Fact C)) (sent : List (Message C)) (event : world.Input C M.Question) → SameForce kept (facts self.old) → IsInput sent input.now event
+            → Moments D.state C.octets self.old (world.step (store_of M.Question M.client_id M.outcome) (config self.old) (node_with kept (volatile self.old)) sent event).effect.facts self.new }
+        // Compaction is no event of the world: it leaves the force of the facts, also where a crash comes within it.
+        ensures compacts { self.old.kept.broken ≡ false → input.now ≡ Input.Compact → Compacts self.old result self.new
+            × EveryPair (OpensToForce C.octets (facts self.old)) (D.state self.old.kept.a) (D.state self.old.kept.b) (D.state self.new.kept.a) (D.state self.new.kept.b) }
+        ensures sound { IsSound D.state C.octets M.commands self.new }
+        ensures config { config self.new ≡ config self.old }
+        ensures basis { M.basis self.new.machine ≡ M.basis self.old.machine }
+        ensures whole { OnOk result (self.new.kept.broken ≡ false) }
+        // After a device failed the node is broken, and does nothing more.
+        ensures failed { IsErrOf result NodeFault.DiskFailed → (self.new.kept.broken ≡ true) × Failed D.state self.old self.new }
+        ensures broken { self.old.kept.broken ≡ true → IsErrOf result NodeFault.Broken × (self.new ≡ self.old) }
+    {
+        if self.kept.is_broken() {
+            return Err(NodeFault::Broken);
+        }
+        match input {
+            Input::Compact => self.compact(),
+            _ => self.take(input),
         }
     }
 

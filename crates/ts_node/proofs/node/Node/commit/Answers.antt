@@ -35,7 +35,7 @@ returns-in-Err-clause-sound g c = λ whole.
     let old = c.args.self.now in
     let e = c.append.ensures in
     let same : c.append.new.self ≡ old.kept = elim (cause c.append.result c.in-Err.fault c.in-Err.is e.fault) [
-      inl m ↦ e.memory (c.in-Err.is ∙ ap Err m)
+      | inl m ↦ e.memory (c.in-Err.is ∙ ap Err m)
       | inr (inl d) ↦ absurd (let f = (e.failed (c.in-Err.is ∙ ap Err d)).0 in true≢false (sym f ∙ whole))
       | inr (inr b) ↦ absurd (let f = (e.broken (c.in-Err.is ∙ ap Err b)).0 in true≢false (sym f ∙ c.requires.whole))
     ] in
@@ -45,7 +45,7 @@ pub returns-in-Err-clause-fault : goal.returns-in-Err-clause-fault
 returns-in-Err-clause-fault g c =
     let e = c.append.ensures in
     elim (cause c.append.result c.in-Err.fault c.in-Err.is e.fault) [
-      inl m ↦ inl (c.fault_of.ensures ∙ ap fault_as m)
+      | inl m ↦ inl (c.fault_of.ensures ∙ ap fault_as m)
       | inr (inl d) ↦ inr (c.fault_of.ensures ∙ ap fault_as d)
       | inr (inr b) ↦ absurd (let f = (e.broken (c.in-Err.is ∙ ap Err b)).0 in true≢false (sym f ∙ c.requires.whole))
     ]
@@ -54,7 +54,7 @@ pub returns-in-Err-clause-memory : goal.returns-in-Err-clause-memory
 returns-in-Err-clause-memory g c = λ is.
     let e = c.append.ensures in
     elim (cause c.append.result c.in-Err.fault c.in-Err.is e.fault) [
-      inl m ↦ (e.memory (c.in-Err.is ∙ ap Err m), refl)
+      | inl m ↦ (e.memory (c.in-Err.is ∙ ap Err m), refl)
       | inr (inl d) ↦ absurd (let f = c.fault_of.ensures ∙ ap fault_as d in cc)
       | inr (inr b) ↦ absurd (let f = (e.broken (c.in-Err.is ∙ ap Err b)).0 in true≢false (sym f ∙ c.requires.whole))
     ]
@@ -63,7 +63,7 @@ pub returns-in-Err-clause-failed : goal.returns-in-Err-clause-failed
 returns-in-Err-clause-failed g c = λ is.
     let e = c.append.ensures in
     elim (cause c.append.result c.in-Err.fault c.in-Err.is e.fault) [
-      inl m ↦ absurd (let f = c.fault_of.ensures ∙ ap fault_as m in cc)
+      | inl m ↦ absurd (let f = c.fault_of.ensures ∙ ap fault_as m in cc)
       | inr (inl d) ↦ (let f = e.failed (c.in-Err.is ∙ ap Err d) in (f.0, f.2))
       | inr (inr b) ↦ absurd (let f = (e.broken (c.in-Err.is ∙ ap Err b)).0 in true≢false (sym f ∙ c.requires.whole))
     ]

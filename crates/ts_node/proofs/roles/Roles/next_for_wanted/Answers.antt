@@ -24,10 +24,10 @@ returns-then-is_some-clause-next g c =
     let more = step_extends log c.args.step.now.change c.args.step.now.facts.items c.requires.latest in
     let same : is_some (settling store (prefix f) id) ≡ is_some c.settled.result = ap (λ cs. is_some (settling store cs id)) (sym c.in_ok-feed.ensures.whole) ∙ ap (λ i. is_some (settling store (m.commands c.feed.new.machine) i)) (sym c.id_of-id.ensures) ∙ ap is_some (sym c.settled.ensures) ∙ some_as c.settled.result in
     let here : is_some (settling store (prefix after) id) ≡ true =
-        elim c.then-is_some.branch [
-          then-is_some-via-then-is_some w ↦ settled_first store id f after more (same ∙ sym c.is_some.ensures ∙ w.if-is_some.true)
-          | then-is_some-via-else-is_some+then-joins w ↦ settled_second store id f after more (same ∙ sym c.is_some.ensures ∙ w.if-is_some.false) ∙ ap (λ k. has_id m.client_id id (drop k (prefix after))) (sym c.requires.before) ∙ ap (λ i. has_id m.client_id i (drop c.args.before (prefix after))) (sym c.id_of-id.ensures) ∙ sym w.joins.ensures ∙ w.if-joins.true
-        ] in
+    elim c.then-is_some.branch [
+      | then-is_some-via-then-is_some w ↦ settled_first store id f after more (same ∙ sym c.is_some.ensures ∙ w.if-is_some.true)
+      | then-is_some-via-else-is_some+then-joins w ↦ settled_second store id f after more (same ∙ sym c.is_some.ensures ∙ w.if-is_some.false) ∙ ap (λ k. has_id m.client_id id (drop k (prefix after))) (sym c.requires.before) ∙ ap (λ i. has_id m.client_id i (drop c.args.before (prefix after))) (sym c.id_of-id.ensures) ∙ sym w.joins.ensures ∙ w.if-joins.true
+    ] in
     sym (ap (position_for_wanted store (config_of c.args.self.now) after) (sym c.in-Some.ensures) ∙ no_position store (config_of c.args.self.now) after command here)
 
 pub returns-clause-next : goal.returns-clause-next

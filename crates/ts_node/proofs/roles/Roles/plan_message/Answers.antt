@@ -21,7 +21,7 @@ returns-clause-plan g c = λ facts h.
     let m = g.M.Machine in
     let message = c.args.message.now in
     let here : ((message.to == roles.me) && is_node roles.nodes message.from) ≡ false = elim c.else-message-self.branch [
-      else-message-self-via-then-message-self+then-message-ge1+else-message-self-2 w ↦ misses_high message.to roles.me message.from roles.nodes w.if-message-self-2.false
+      | else-message-self-via-then-message-self+then-message-ge1+else-message-self-2 w ↦ misses_high message.to roles.me message.from roles.nodes w.if-message-self-2.false
       | else-message-self-via-then-message-self+else-message-ge1 w ↦ misses_low message.to roles.me message.from roles.nodes w.if-message-ge1.false
       | else-message-self-via-else-message-self w ↦ misses_me message.to roles.me message.from roles.nodes w.if-message-self.false
     ] in

@@ -40,9 +40,11 @@ returns-in-Some-Used-clause-step g c = λ facts h.
     let round : c.in-Some-Used.round ≡ suc (greatest_round (proposers.used_of p) state) = let f = c.in-Some-Used.field-0-is in cc in
     let b = c.ballot_of-ballot.ensures ∙ ap (λ r. 16 * r + roles.me) (round ∙ ap (λ u. suc (greatest_round u state)) h.proposer) in
     let plan : Plan g.row.C.Denot = record { messages = c.replace-messages.result; change = Propose (record { facts = c.in-Ok-propose.step.facts; messages = c.replace-messages.new.dest; change = c.in-Ok-propose.step.change }) } in
-    subst (λ (s : Step _ _ _ _). Makes roles plan s.effect × IsReply (m.is_answer (m.basis c.args.machine.now)) (replies.Started position c.ballot_of-ballot.result) s.reply) (submits store (config_of roles) facts (volatile_of roles) command position rule new next begun)
-    (record {
-      facts = made.1.facts;
-      messages = ap (λ v. v.items) c.replace-messages.ensures.value ∙ made.1.messages;
-      volatile = ap (λ s. let v : Volatile _ = record { proposer = s; received = received_of roles.log } in v) made.1.state;
-    }, (refl, b))
+    subst (λ (s : Step _ _ _ _). Makes roles plan s.effect × IsReply (m.is_answer (m.basis c.args.machine.now)) (replies.Started position c.ballot_of-ballot.result) s.reply) (submits store (config_of roles) facts (volatile_of roles) command position rule new next begun) (
+      record {
+        facts = made.1.facts;
+        messages = ap (λ v. v.items) c.replace-messages.ensures.value ∙ made.1.messages;
+        volatile = ap (λ s. let v : Volatile _ = record { proposer = s; received = received_of roles.log } in v) made.1.state;
+      },
+      (refl, b),
+    )
