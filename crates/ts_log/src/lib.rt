@@ -17,6 +17,7 @@
 //! | `prefix`, `command`, `next_position` | the result is the definition's; `PositionsExhausted` is exactly its `None` |
 //! | `on_accepted`, `on_give` | `step`: the rule for Accepted or Give; `latest`: the step can be kept; `same`: nothing is changed |
 //! | `on_ask`, `catch_up` | `step`: the messages are the rule's, and nothing is kept or changed |
+//! | `prefix_after`, `command_after` | the prefix, and the command at a position, once a step is kept |
 //! | `keep` | `learned`, `received`: what the step says; `state`: the log stands for the step's facts too; `config`: it is the same node |
 #![tactic(auto)]
 

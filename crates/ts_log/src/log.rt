@@ -380,6 +380,31 @@ impl<C: Command> Log<C> {
         }
     }
 
+    /// How many commands are learned from position 1 on without a gap once the step is kept.
+    pub fn prefix_after(&self, step: &Step<C>) -> u32
+        requires { IsLatest self.now step.now }
+        ensures { result ≡ length (prefix (learned_after self.now step.now.change)) }
+    {
+        match &step.change {
+            Change::Learn { count, .. } => *count,
+            _ => self.learned.count(),
+        }
+    }
+
+    /// The command learned at a position once the step is kept.
+    pub fn command_after<'a>(&'a self, step: &'a Step<C>, position: u32) -> Option<&'a C>
+        ensures { option_copied result ≡ learned_after self.now step.now.change position }
+    {
+        match &step.change {
+            Change::Learn {
+                position: learned,
+                command,
+                ..
+            } if position == *learned => Some(command),
+            _ => self.learned.command(position),
+        }
+    }
+
     /// Puts a step in force, which takes no memory.
     pub fn keep(&mut self, step: Step<C>)
         requires { IsLatest self.old step }

@@ -11,6 +11,7 @@
 //! | Call | Clauses |
 //! |---|---|
 //! | `new`, `open` | `config`, `state`: the proposer is idle; `used`: it stands for no facts, or for those given |
+//! | `wanted` | the state's wanted command |
 //! | `propose` | `step`: the rule for a new round, with `RoundsExhausted` exactly where the rule has none; `latest`: the step can be kept |
 //! | `on_promise` | `step`: the rule for Promise; `latest`: the step can be kept; `same`: nothing is changed |
 //! | `on_busy`, `on_growth` | `step`: the rule for Busy, or for a prefix that grew; `latest`: the step can be kept |

@@ -1,6 +1,7 @@
 //! The proposer and its steps.
 
 ghost use Rattle.std.specs.Prelude.{◌≡◌, ◌<◌, ◌≤◌, ◌++◌, ◌∷◌, [], List, IfOk, OnOk, is_some, true, false, Some, None, max};
+ghost use Rattle.std.specs.Option.{option_copied};
 ghost use Rattle.std.specs.Ordering.{nat_cmp};
 ghost use Rattle.std.specs.BTreeMap.{get};
 ghost use Rattle.ts_synod.specs.declared.message.Fact.{Fact};
@@ -105,6 +106,13 @@ impl<C: Command> Proposer<C> {
         let mut proposer = Proposer::new(alloc, me, nodes);
         proposer.state.used = used;
         proposer
+    }
+
+    /// The command that a client wants.
+    pub fn wanted(&self) -> Option<&C>
+        ensures { option_copied result ≡ (state_of self.now).wanted }
+    {
+        self.state.wanted.as_ref()
     }
 
     /// A copy of the wanted command.

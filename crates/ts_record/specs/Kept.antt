@@ -1,5 +1,5 @@
--- What a record keeps: its disks, in the order in which they were given, and its facts; which disk is in use, and its generation;
--- and how far a rewrite is.
+-- What a record keeps: its disks, in the order in which they were given, and its facts; whose it is; which disk is in use, and its
+-- generation; and how far a rewrite is.
 use Rattle.std.specs.Prelude.{ℕ, List, Bool}
 use Rattle.ts_disk.specs.Disk.{State}
 use Rattle.ts_journal.specs.Settled.{Holds, disk_a, disk_b}
@@ -12,6 +12,8 @@ pub record Kept (D C : Type 0) : Type 0 where
   pub a : D
   pub b : D
   pub facts : List (Fact C)
+  pub node : ℕ
+  pub nodes : ℕ
   pub swapped : Bool
   pub generation : ℕ
   pub rewrite : Rewrite C
@@ -32,6 +34,8 @@ kept_of c broken = record {
   a = disk_a c.journal;
   b = disk_b c.journal;
   facts = c.facts.items;
+  node = c.journal.node;
+  nodes = c.journal.nodes;
   swapped = c.journal.swapped;
   generation = c.journal.generation;
   rewrite = rewrite_of c;

@@ -67,6 +67,8 @@ fn record_of<D: Disk, C: Codec>(
     ensures facts { result.facts ≡ found.contents.facts.items }
     ensures broken { result.broken ≡ false }
     ensures swapped { result.swapped ≡ found.choice.swapped }
+    ensures node { result.node ≡ found.choice.owner.node }
+    ensures nodes { result.nodes ≡ found.choice.owner.nodes }
     ensures generation { result.generation ≡ found.choice.owner.generation }
     ensures rewrite { result.rewrite ≡ idle }
     ensures opens { AnyPair (OpensToFrom C.octets result.swapped result.facts) (D.state result.a) (D.state result.b) }
@@ -121,6 +123,10 @@ impl<D: Disk, C: Codec> Record<D, C> {
         // The disk in use is the one of the greatest generation among those that are live.
         ensures chosen { IfOk result (λ opened. (choice : Choice) × IsChosen choice (D.state a).read (D.state b).read
             × (opened.swapped ≡ choice.swapped) × (opened.generation ≡ choice.owner.generation)) }
+        // The record is that of the node in its header, one of 1 to 9 nodes.
+        ensures owner { IfOk result (λ opened. (choice : Choice) × IsChosen choice (D.state a).read (D.state b).read
+            × (opened.node ≡ choice.owner.node) × (opened.nodes ≡ choice.owner.nodes)) }
+        ensures member { IfOk result (λ opened. (1 ≤ opened.node) × (opened.node ≤ opened.nodes) × (opened.nodes ≤ 9)) }
         // No rewrite is begun: one that was not switched is forgotten.
         ensures idle { IfOk result (λ opened. opened.rewrite ≡ idle) }
         ensures whole { IfOk result (λ opened. opened.broken ≡ false) }
@@ -152,6 +158,27 @@ impl<D: Disk, C: Codec> Record<D, C> {
         ensures { result.now ≡ self.now.facts }
     {
         &self.ledger.facts
+    }
+
+    /// A device failed in an earlier call.
+    pub fn is_broken(&self) -> bool
+        ensures { result ≡ self.now.broken }
+    {
+        self.broken
+    }
+
+    /// The number of the node whose record it is.
+    pub fn node(&self) -> u8
+        ensures { result ≡ self.now.node }
+    {
+        self.ledger.journal.node
+    }
+
+    /// The number of nodes.
+    pub fn nodes(&self) -> u8
+        ensures { result ≡ self.now.nodes }
+    {
+        self.ledger.journal.nodes
     }
 
     /// Gives the two disks back, in the order in which they were given.

@@ -1,0 +1,10 @@
+pub mod Idle
+pub mod Same
+pub mod Used
+pub mod Prefix
+pub mod Settlings
+pub mod Grown
+pub mod Questions
+pub mod Deliveries
+pub mod Fits
+pub mod Images

@@ -1,0 +1,5 @@
+pub mod Machine
+pub mod Growing
+pub mod Roles
+pub mod Inputs
+pub mod Node

@@ -1,0 +1,36 @@
+//! One node of the synod: acceptor, proposer and log over a record on two disks, and a state machine that takes the learned commands.
+//!
+//! Each call of `Node::handle` is one event of the world of `ts_synod`, and what it keeps is on disk before it answers.
+//!
+//! ```text
+//! let mut node = Node::open(alloc, a, b, machine)?;               // refused, it gives the disks and the machine back
+//! let output = node.handle(&Input::Submit(command))?;              // Started, or Settled
+//! for message in output.messages { .. }                            // to itself too
+//! let (a, b, machine) = node.close();
+//! ```
+//!
+//! | Item | Clauses |
+//! |---|---|
+//! | `Machine` | what the world's store is: an id of each command, an outcome of each after others, and which answers are right after the first k commands |
+//! | `Node::open` | `opens`, `only`: the facts are those that the disks open to; `restarted`: the world's node after a restart; `owner`: which node; `fault`: the record's faults and no others, but for the want of memory; `same`, `machine` |
+//! | `Node::handle` | `step`: facts, volatile part, messages and reply are those of the world's step, for each world's node whose facts are of the force of this one's; `moments`: at every moment each pair of images opens to the facts before, or to those and the step's; `compacts`: a compaction leaves the force of the facts, and the rest; `failed`, `broken`: broken after a device's failure; `sound`, `config`, `basis` |
+//! | `Node::close` | the two disks and the machine |
+//!
+//! `IsSound` says that a node is one that `open` gave: the roles stand for its facts, the disks open to them, and the machine took the
+//! first of the learned commands. Each call keeps it. A command's octets have to fit a record (`InputFits`).
+#![tactic(auto)]
+
+mod feeding;
+mod growth;
+mod input;
+mod machine;
+mod messages;
+mod node;
+mod plan;
+mod planning;
+mod roles;
+mod submit;
+
+pub use input::{Input, NodeFault, Output, Reply};
+pub use machine::Machine;
+pub use node::{Node, Refused};
