@@ -14,6 +14,9 @@ pub record Answered : Type 0 where
   pub k : ℕ
   pub reply : Reply
 
+abbrev pub answered : ℕ → Reply → Answered
+answered k reply = record { k = k; reply = reply }
+
 -- ---- ranges
 
 -- no place twice

@@ -7,7 +7,7 @@ use Rattle.ts_question.specs.declared.reply.Reply.{Reply}
 use Rattle.ts_question.specs.declared.reply.Reply.TheVariants.{Valid, Invalid, Found, NoPath, SearchLimit, NotYet, Malformed, NoAnchor, Limit}
 use Rattle.ts_question.specs.Reading.{◌>>=◌, provided, octet_at, number_at, octets_at, blob8_at, many_at, lookup}
 use Rattle.ts_question.specs.QuestionReading.{position_at, oid_at}
-use Rattle.ts_question.specs.Reply.{Answered, are_places, is_place}
+use Rattle.ts_question.specs.Reply.{Answered, answered, are_places, is_place}
 
 unfoldable pub accepted_at : List ℕ → Option (List (List ℕ) × List ℕ)
 accepted_at octets = do
@@ -88,4 +88,4 @@ answer_at octets = do
   k ← position_at octets
   tag ← octet_at k.1
   reply ← reply_at k.0 tag.0 tag.1
-  Some (record { k = k.0; reply = reply.0 }, reply.1)
+  Some (answered k.0 reply.0, reply.1)

@@ -1,6 +1,8 @@
 //! Answers are made, read and written.
 
 ghost use Rattle.std.specs.Prelude.{◌≡◌, ◌++◌, true, false, Some, IfOk, IfSome, OnOk, MatchResult};
+ghost use Rattle.ts_question.specs.Reading.{Gives};
+ghost use Rattle.ts_question.specs.ReplyReading.{answer_at};
 ghost use Rattle.ts_question.specs.Reply.{Answered, is_answer, spelling, Fits};
 
 use crate::fault::ReadFault;
@@ -63,11 +65,23 @@ impl Answer {
         // What is spelled so is read.
         ensures only { (a : Answered) → Fits a → octets.now ≡ spelling a → IfOk result (λ read. read ≡ Some a) }
     {
-        match reply_reading::answer(alloc, octets) {
+        match reply_reading::whole_answer(alloc, octets) {
             Ok((k, reply)) => Ok(Some(Answer { k, reply })),
             Err(ReadFault::Form) => Ok(None),
             Err(ReadFault::Memory) => Err(AllocError),
         }
+    }
+
+    /// The answer that octets begin with, and the octets after it.
+    ///
+    /// # Errors
+    ///
+    /// Memory that is refused; `Form` exactly where octets begin with no answer.
+    pub fn read_front(alloc: Global, octets: &[u8]) -> Result<(Answer, &[u8]), ReadFault>
+        ensures { Gives (λ x. (x.0, x.1.now)) result (answer_at octets.now) }
+    {
+        let (k, reply, rest) = reply_reading::answer(alloc, octets)?;
+        Ok((Answer { k, reply }, rest))
     }
 
     /// Writes the octets of the answer, which are its one spelling, behind others.

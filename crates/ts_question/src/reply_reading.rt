@@ -2,7 +2,7 @@
 
 ghost use Rattle.std.specs.Prelude.{◌≡◌};
 ghost use Rattle.ts_question.specs.Reading.{Gives, whole, lookup};
-ghost use Rattle.ts_question.specs.Reply.{Answered};
+ghost use Rattle.ts_question.specs.Reply.{answered};
 ghost use Rattle.ts_question.specs.ReplyReading.{plain_reasons, accepted_at, detail_at, reason_at, valid_at, invalid_at, found_at, not_yet_at, malformed_at, limit_at, reply_at, answer_at};
 
 use crate::fault::ReadFault;
@@ -170,14 +170,22 @@ fn reply(alloc: Global, k: u32, tag: u8, octets: &[u8]) -> Result<(Reply, &[u8])
     }
 }
 
-/// The answer that the octets are.
+/// The answer at the front of octets.
 #[tactic(auto, unfolding(crate::specs::ReplyReading::answer_at))]
-pub(crate) fn answer(alloc: Global, octets: &[u8]) -> Result<(u32, Reply), ReadFault>
-    ensures { Gives (λ x. record { k = x.0; reply = x.1 }) result (whole (answer_at octets.now)) }
+pub(crate) fn answer(alloc: Global, octets: &[u8]) -> Result<(u32, Reply, &[u8]), ReadFault>
+    ensures { Gives (λ x. (answered x.0 x.1, x.2.now)) result (answer_at octets.now) }
 {
     let (k, rest) = position(octets)?;
     let (tag, rest) = octet(rest)?;
     let (reply, rest) = reply(alloc, k, tag, rest)?;
+    Ok((k, reply, rest))
+}
+
+/// The answer that the octets are.
+pub(crate) fn whole_answer(alloc: Global, octets: &[u8]) -> Result<(u32, Reply), ReadFault>
+    ensures { Gives (λ x. answered x.0 x.1) result (whole (answer_at octets.now)) }
+{
+    let (k, reply, rest) = answer(alloc, octets)?;
     if !rest.is_empty() {
         return Err(ReadFault::Form);
     }

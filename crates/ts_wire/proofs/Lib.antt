@@ -1,0 +1,4 @@
+pub mod CommandLaws
+pub mod FrameLaws
+pub mod Lengths
+pub mod Joins

@@ -1,0 +1,115 @@
+-- Frames, how each is spelled, and which have a spelling.
+use Rattle.std.specs.Prelude.{◌≡◌, ◌≤◌, ◌+◌, ◌||◌, ◌&&◌, ℕ, Bool, true, nat_le, nat_lt, List, [], ◌∷◌, ◌++◌, length, Option, Some, None}
+use Rattle.std.specs.Int.{to_be_bytes, w32, w64}
+use Rattle.ts_synod.specs.declared.message.Body.{Body}
+use Rattle.ts_synod.specs.declared.message.Body.TheVariants.{Prepare, Promise, Busy, Accept, Accepted, Ask, Give}
+use Rattle.ts_synod.specs.declared.message.Vote.{Vote}
+use Rattle.ts_store.specs.declared.command.Command.{Command}
+use Rattle.ts_store.specs.Commands.{spelling as command_octets, Fits as CommandFits}
+use Rattle.ts_question.specs.Parts.{blob32}
+use Rattle.ts_question.specs.Question.{spelling as question_octets, Fits as QuestionFits}
+use Rattle.ts_question.specs.Reply.{spelling as answer_octets, Fits as AnswerFits}
+use Rattle.ts_wire.specs.Outcomes.{is_node, is_position, is_ballot, outcome_spelling, OutcomeFits, node_fault_code, frame_fault_code}
+use Rattle.ts_wire.specs.declared.frame.Frame.{Frame}
+use Rattle.ts_wire.specs.declared.frame.Frame.TheVariants.{Peer, Submit, Question, Take, Outcome, CatchUp, Status, Compact, Done, Started, Settled, Answer, Unknown, NodeFault, FrameFault, Prefix}
+
+abbrev pub body_kind : Body Command → ℕ
+body_kind (Prepare position ballot) = 1
+body_kind (Promise position ballot taken) = 2
+body_kind (Busy position ballot promised) = 3
+body_kind (Accept position ballot command) = 4
+body_kind (Accepted position ballot command) = 5
+body_kind (Ask position) = 6
+body_kind (Give position command) = 7
+
+-- the octet that names a frame's kind, 10 to 27 being hexadecimal
+abbrev pub kind_of : Frame → ℕ
+kind_of (Peer message) = body_kind message.body
+kind_of (Submit command) = 16
+kind_of (Question question) = 17
+kind_of Take = 18
+kind_of (Outcome id) = 19
+kind_of CatchUp = 20
+kind_of Status = 21
+kind_of Compact = 22
+kind_of (Done count) = 32
+kind_of (Started position ballot) = 33
+kind_of (Settled position outcome) = 34
+kind_of (Answer answer) = 35
+kind_of Unknown = 36
+kind_of (NodeFault fault) = 37
+kind_of (FrameFault fault) = 38
+kind_of (Prefix prefix) = 39
+
+-- 01 to 07, 10 to 16 and 20 to 27, hexadecimal
+abbrev pub is_kind : ℕ → Bool
+is_kind kind = (nat_le 1 kind && nat_le kind 7) || (nat_le 16 kind && nat_le kind 22) || (nat_le 32 kind && nat_le kind 39)
+
+-- 00, or 01, the ballot and the command
+abbrev pub taken_spelling : Option (Vote Command) → List ℕ
+taken_spelling None = 0 ∷ []
+taken_spelling (Some vote) = 1 ∷ (to_be_bytes w64 vote.ballot ++ blob32 (command_octets vote.command))
+
+abbrev pub body_spelling : Body Command → List ℕ
+body_spelling (Prepare position ballot) = to_be_bytes w32 position ++ to_be_bytes w64 ballot
+body_spelling (Promise position ballot taken) = to_be_bytes w32 position ++ (to_be_bytes w64 ballot ++ taken_spelling taken)
+body_spelling (Busy position ballot promised) = to_be_bytes w32 position ++ (to_be_bytes w64 ballot ++ to_be_bytes w64 promised)
+body_spelling (Accept position ballot command) = to_be_bytes w32 position ++ (to_be_bytes w64 ballot ++ blob32 (command_octets command))
+body_spelling (Accepted position ballot command) = to_be_bytes w32 position ++ (to_be_bytes w64 ballot ++ blob32 (command_octets command))
+body_spelling (Ask position) = to_be_bytes w32 position
+body_spelling (Give position command) = to_be_bytes w32 position ++ blob32 (command_octets command)
+
+abbrev pub fields : Frame → List ℕ
+fields (Peer message) = message.from ∷ message.to ∷ body_spelling message.body
+fields (Submit command) = blob32 (command_octets command)
+fields (Question question) = blob32 (question_octets question)
+fields Take = []
+fields (Outcome id) = id
+fields CatchUp = []
+fields Status = []
+fields Compact = []
+fields (Done count) = to_be_bytes w32 count
+fields (Started position ballot) = to_be_bytes w32 position ++ to_be_bytes w64 ballot
+fields (Settled position outcome) = to_be_bytes w32 position ++ outcome_spelling outcome
+fields (Answer answer) = answer_octets answer
+fields Unknown = []
+fields (NodeFault fault) = node_fault_code fault ∷ []
+fields (FrameFault fault) = frame_fault_code fault ∷ []
+fields (Prefix prefix) = to_be_bytes w32 prefix
+
+-- four octets of the length of what follows; the version, 02; the kind; the fields
+abbrev pub spelling : Frame → List ℕ
+spelling frame = to_be_bytes w32 (2 + length (fields frame)) ++ (2 ∷ kind_of frame ∷ fields frame)
+
+-- ---- which have a spelling
+
+abbrev pub TakenFits : Option (Vote Command) → Type 0
+TakenFits None = Unit {0}
+TakenFits (Some vote) = (is_ballot vote.ballot ≡ true) × CommandFits vote.command
+
+abbrev pub BodyFits : Body Command → Type 0
+BodyFits (Prepare position ballot) = (is_position position ≡ true) × (is_ballot ballot ≡ true)
+BodyFits (Promise position ballot taken) = (is_position position ≡ true) × (is_ballot ballot ≡ true) × TakenFits taken
+BodyFits (Busy position ballot promised) = (is_position position ≡ true) × (is_ballot ballot ≡ true) × (is_ballot promised ≡ true)
+BodyFits (Accept position ballot command) = (is_position position ≡ true) × (is_ballot ballot ≡ true) × CommandFits command
+BodyFits (Accepted position ballot command) = (is_position position ≡ true) × (is_ballot ballot ≡ true) × CommandFits command
+BodyFits (Ask position) = is_position position ≡ true
+BodyFits (Give position command) = (is_position position ≡ true) × CommandFits command
+
+-- each field is in its range
+abbrev pub FieldsFit : Frame → Type 0
+FieldsFit (Peer message) = (is_node message.from ≡ true) × (is_node message.to ≡ true) × BodyFits message.body
+FieldsFit (Submit command) = CommandFits command
+FieldsFit (Question question) = QuestionFits question
+FieldsFit (Outcome id) = length id ≡ 16
+FieldsFit (Done count) = nat_lt count 4294967296 ≡ true
+FieldsFit (Started position ballot) = (is_position position ≡ true) × (is_ballot ballot ≡ true)
+FieldsFit (Settled position outcome) = (is_position position ≡ true) × OutcomeFits outcome
+FieldsFit (Answer answer) = AnswerFits answer
+FieldsFit (Prefix prefix) = nat_le prefix 1000000 ≡ true
+FieldsFit other = Unit {0}
+
+-- the fields fit, and the length is at most 8,388,608
+pub record Fits (frame : Frame) : Type 0 where
+  pub ranges : FieldsFit frame
+  pub short : 2 + length (fields frame) ≤ 8388608

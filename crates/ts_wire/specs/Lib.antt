@@ -1,0 +1,5 @@
+pub mod Commands
+pub mod Outcomes
+pub mod Frames
+pub mod FrameReading
+pub mod Stream

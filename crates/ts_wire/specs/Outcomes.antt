@@ -1,0 +1,60 @@
+-- Outcomes of commands and codes of faults in frames.
+use Rattle.std.specs.Prelude.{◌≡◌, ◌&&◌, ◌%◌, ℕ, Bool, true, nat_le, nat_lt, List, [], ◌∷◌}
+use Rattle.std.specs.Int.{to_be_bytes, w32}
+use Rattle.ts_store.specs.declared.outcome.Outcome.{Outcome}
+use Rattle.ts_store.specs.declared.outcome.Outcome.TheVariants.{Applied, Repeated, Refused}
+use Rattle.ts_store.specs.declared.outcome.Refusal.{Refusal}
+use Rattle.ts_store.specs.declared.outcome.Refusal.TheVariants.{AnchorThere, NoAnchor, Malformed, OlderCrl, CriticalCrlExtension, StoreFull, DeltaCrl, NoCrl, RelativeName, Indirect}
+use Rattle.ts_wire.specs.declared.fault.NodeFault.{NodeFault}
+use Rattle.ts_wire.specs.declared.fault.NodeFault.TheVariants.{Memory, DiskFailed, Broken, RoundsExhausted, PositionsExhausted, GenerationsExhausted}
+use Rattle.ts_wire.specs.declared.fault.FrameFault.{FrameFault}
+use Rattle.ts_wire.specs.declared.fault.FrameFault.TheVariants.{Length, Version, Kind, Field, Trailing}
+
+-- a node's number is 1 to 9
+abbrev pub is_node : ℕ → Bool
+is_node n = nat_le 1 n && nat_le n 9
+
+-- a position is 1 to 1,000,000
+abbrev pub is_position : ℕ → Bool
+is_position n = nat_le 1 n && nat_le n 1000000
+
+-- 16 times a round of at least 1, and a node in the low four bits; below 2^36
+abbrev pub is_ballot : ℕ → Bool
+is_ballot b = nat_le 16 b && nat_lt b 68719476736 && is_node (b % 16)
+
+abbrev pub refusal_code : Refusal → ℕ
+refusal_code AnchorThere = 1
+refusal_code NoAnchor = 2
+refusal_code Malformed = 3
+refusal_code OlderCrl = 4
+refusal_code CriticalCrlExtension = 5
+refusal_code StoreFull = 6
+refusal_code DeltaCrl = 7
+refusal_code NoCrl = 8
+refusal_code RelativeName = 9
+refusal_code Indirect = 10
+
+-- 00 applied, 01 and the position of the first, or 02 and why it was refused
+abbrev pub outcome_spelling : Outcome → List ℕ
+outcome_spelling Applied = 0 ∷ []
+outcome_spelling (Repeated position) = 1 ∷ to_be_bytes w32 position
+outcome_spelling (Refused refusal) = 2 ∷ refusal_code refusal ∷ []
+
+abbrev pub OutcomeFits : Outcome → Type 0
+OutcomeFits (Repeated position) = is_position position ≡ true
+OutcomeFits other = Unit {0}
+
+abbrev pub node_fault_code : NodeFault → ℕ
+node_fault_code Memory = 1
+node_fault_code DiskFailed = 2
+node_fault_code Broken = 3
+node_fault_code RoundsExhausted = 4
+node_fault_code PositionsExhausted = 5
+node_fault_code GenerationsExhausted = 6
+
+abbrev pub frame_fault_code : FrameFault → ℕ
+frame_fault_code Length = 1
+frame_fault_code Version = 2
+frame_fault_code Kind = 3
+frame_fault_code Field = 4
+frame_fault_code Trailing = 5

@@ -1,0 +1,271 @@
+//! Frames are written.
+
+ghost use Rattle.std.specs.Prelude.{◌≡◌, ◌≤◌, ◌<◌, ◌+◌, ◌++◌, ◌∷◌, length, IfOk, OnOk, OnErr, Err};
+ghost use Rattle.std.specs.Int.{to_be_bytes, w32, w64};
+ghost use Rattle.ts_question.specs.Parts.{blob32};
+ghost use Rattle.ts_store.specs.Commands.{spelling as command_octets};
+ghost use Rattle.ts_question.specs.Question.{spelling as question_octets};
+ghost use Rattle.ts_wire.specs.Outcomes.{refusal_code, outcome_spelling};
+ghost use Rattle.ts_wire.specs.Frames.{body_kind, kind_of, taken_spelling, body_spelling, fields, spelling};
+ghost use Rattle.ts_wire.specs.declared.wire_error.WriteError.TheVariants.{Length};
+
+use crate::frame::Frame;
+use crate::wire_error::WriteError;
+use std::alloc::{AllocError, Global};
+use ts_question::{Question, push_blob32};
+use ts_store::{Command, Outcome, Refusal};
+use ts_synod::{Ballot, Body, Vote};
+
+/// The most octets behind a frame's length.
+pub const MAX_LENGTH: usize = 8_388_608;
+
+fn push_number(out: &mut Vec<u8>, number: u32) -> Result<(), AllocError>
+    ensures { OnOk result (out.new.items ≡ out.old.items ++ to_be_bytes w32 number) }
+{
+    out.extend_from_slice(&number.to_be_bytes())?;
+    Ok(())
+}
+
+fn push_ballot(out: &mut Vec<u8>, ballot: Ballot) -> Result<(), AllocError>
+    ensures { OnOk result (out.new.items ≡ out.old.items ++ to_be_bytes w64 ballot) }
+{
+    out.extend_from_slice(&ballot.to_be_bytes())?;
+    Ok(())
+}
+
+fn push_command(alloc: Global, out: &mut Vec<u8>, command: &Command) -> Result<(), AllocError>
+    ensures { OnOk result (out.new.items ≡ out.old.items ++ blob32 (command_octets command.now)) }
+{
+    let octets = command.octets(alloc)?;
+    push_blob32(out, octets.as_slice())
+}
+
+fn push_question(alloc: Global, out: &mut Vec<u8>, question: &Question) -> Result<(), AllocError>
+    ensures { OnOk result (out.new.items ≡ out.old.items ++ blob32 (question_octets question.now)) }
+{
+    let _ = question.target();
+    let octets = question.octets(alloc)?;
+    push_blob32(out, octets.as_slice())
+}
+
+#[tactic(auto, using(crate::proofs::Joins::two, crate::proofs::Joins::behind))]
+fn push_taken(
+    alloc: Global,
+    out: &mut Vec<u8>,
+    taken: &Option<Vote<Command>>,
+) -> Result<(), AllocError>
+    ensures { OnOk result (out.new.items ≡ out.old.items ++ taken_spelling taken.now) }
+{
+    match taken {
+        None => out.push(0)?,
+        Some(vote) => {
+            out.push(1)?;
+            push_ballot(out, vote.ballot)?;
+            push_command(alloc, out, &vote.command)?;
+        }
+    }
+    Ok(())
+}
+
+fn body_kind(body: &Body<Command>) -> u8
+    ensures { result ≡ body_kind body.now }
+{
+    match body {
+        Body::Prepare { .. } => 0x01,
+        Body::Promise { .. } => 0x02,
+        Body::Busy { .. } => 0x03,
+        Body::Accept { .. } => 0x04,
+        Body::Accepted { .. } => 0x05,
+        Body::Ask { .. } => 0x06,
+        Body::Give { .. } => 0x07,
+    }
+}
+
+#[tactic(auto, using(crate::proofs::Joins::two, crate::proofs::Joins::three))]
+fn push_body(alloc: Global, out: &mut Vec<u8>, body: &Body<Command>) -> Result<(), AllocError>
+    ensures { OnOk result (out.new.items ≡ out.old.items ++ body_spelling body.now) }
+{
+    match body {
+        Body::Prepare { position, ballot } => {
+            push_number(out, *position)?;
+            push_ballot(out, *ballot)?;
+        }
+        Body::Promise {
+            position,
+            ballot,
+            taken,
+        } => {
+            push_number(out, *position)?;
+            push_ballot(out, *ballot)?;
+            push_taken(alloc, out, taken)?;
+        }
+        Body::Busy {
+            position,
+            ballot,
+            promised,
+        } => {
+            push_number(out, *position)?;
+            push_ballot(out, *ballot)?;
+            push_ballot(out, *promised)?;
+        }
+        Body::Accept {
+            position,
+            ballot,
+            command,
+        } => {
+            push_number(out, *position)?;
+            push_ballot(out, *ballot)?;
+            push_command(alloc, out, command)?;
+        }
+        Body::Accepted {
+            position,
+            ballot,
+            command,
+        } => {
+            push_number(out, *position)?;
+            push_ballot(out, *ballot)?;
+            push_command(alloc, out, command)?;
+        }
+        Body::Ask { position } => push_number(out, *position)?,
+        Body::Give { position, command } => {
+            push_number(out, *position)?;
+            push_command(alloc, out, command)?;
+        }
+    }
+    Ok(())
+}
+
+fn refusal_code(refusal: Refusal) -> u8
+    ensures { result ≡ refusal_code refusal }
+{
+    match refusal {
+        Refusal::AnchorThere => 1,
+        Refusal::NoAnchor => 2,
+        Refusal::Malformed => 3,
+        Refusal::OlderCrl => 4,
+        Refusal::CriticalCrlExtension => 5,
+        Refusal::StoreFull => 6,
+        Refusal::DeltaCrl => 7,
+        Refusal::NoCrl => 8,
+        Refusal::RelativeName => 9,
+        Refusal::Indirect => 10,
+    }
+}
+
+fn push_outcome(out: &mut Vec<u8>, outcome: Outcome) -> Result<(), AllocError>
+    ensures { OnOk result (out.new.items ≡ out.old.items ++ outcome_spelling outcome) }
+{
+    match outcome {
+        Outcome::Applied => out.push(0)?,
+        Outcome::Repeated(position) => {
+            out.push(1)?;
+            push_number(out, position)?;
+        }
+        Outcome::Refused(refusal) => {
+            out.push(2)?;
+            out.push(refusal_code(refusal))?;
+        }
+    }
+    Ok(())
+}
+
+fn kind_of(frame: &Frame) -> u8
+    ensures { result ≡ kind_of frame.now }
+{
+    match frame {
+        Frame::Peer(message) => body_kind(&message.body),
+        Frame::Submit { .. } => 0x10,
+        Frame::Question { .. } => 0x11,
+        Frame::Take => 0x12,
+        Frame::Outcome { .. } => 0x13,
+        Frame::CatchUp => 0x14,
+        Frame::Status => 0x15,
+        Frame::Compact => 0x16,
+        Frame::Done { .. } => 0x20,
+        Frame::Started { .. } => 0x21,
+        Frame::Settled { .. } => 0x22,
+        Frame::Answer { .. } => 0x23,
+        Frame::Unknown => 0x24,
+        Frame::NodeFault { .. } => 0x25,
+        Frame::FrameFault { .. } => 0x26,
+        Frame::Prefix { .. } => 0x27,
+    }
+}
+
+#[tactic(auto, using(crate::proofs::Joins::two))]
+fn push_fields(alloc: Global, out: &mut Vec<u8>, frame: &Frame) -> Result<(), AllocError>
+    ensures { OnOk result (out.new.items ≡ out.old.items ++ fields frame.now) }
+{
+    match frame {
+        Frame::Peer(message) => {
+            out.push(message.from)?;
+            out.push(message.to)?;
+            push_body(alloc, out, &message.body)?;
+        }
+        Frame::Submit { command } => push_command(alloc, out, command)?,
+        Frame::Question { question } => push_question(alloc, out, question)?,
+        Frame::Outcome { id } => out.extend_from_slice(id)?,
+        Frame::Done { count } => push_number(out, *count)?,
+        Frame::Started { position, ballot } => {
+            push_number(out, *position)?;
+            push_ballot(out, *ballot)?;
+        }
+        Frame::Settled { position, outcome } => {
+            push_number(out, *position)?;
+            push_outcome(out, *outcome)?;
+        }
+        Frame::Answer { answer } => answer.write(out)?,
+        Frame::NodeFault { fault } => out.push(fault.code())?,
+        Frame::FrameFault { fault } => out.push(fault.code())?,
+        Frame::Prefix { prefix } => push_number(out, *prefix)?,
+        Frame::Take | Frame::CatchUp | Frame::Status | Frame::Compact | Frame::Unknown => {}
+    }
+    Ok(())
+}
+
+/// What stands behind a frame's length: the version, the kind and the fields.
+fn body_of(alloc: Global, frame: &Frame) -> Result<Vec<u8>, AllocError>
+    ensures { IfOk result (λ body. body.items ≡ 2 ∷ kind_of frame.now ∷ fields frame.now) }
+{
+    let mut body = Vec::new(alloc);
+    body.push(2)?;
+    body.push(kind_of(frame))?;
+    push_fields(alloc, &mut body, frame)?;
+    Ok(body)
+}
+
+/// Writes a length and what it is of, or nothing.
+fn append(alloc: Global, out: &mut Vec<u8>, size: [u8; 4], body: &[u8]) -> Result<(), AllocError>
+    ensures ok { OnOk result (out.new.items ≡ out.old.items ++ (size ++ body.now)) }
+    ensures unchanged { OnErr result (out.new.items ≡ out.old.items) }
+{
+    let mut whole = Vec::from_slice(alloc, &size)?;
+    whole.extend_from_slice(body)?;
+    out.extend_from_slice(whole.as_slice())?;
+    Ok(())
+}
+
+/// Writes the octets of the frame, which are its one spelling, behind others.
+///
+/// # Errors
+///
+/// `Length` exactly where the frame's length would be above 8,388,608, and else only memory that is refused. Nothing is written
+/// then.
+pub fn write_frame(alloc: Global, out: &mut Vec<u8>, frame: &Frame) -> Result<(), WriteError>
+    ensures spelled { OnOk result (out.new.items ≡ out.old.items ++ spelling frame.now) }
+    ensures short { OnOk result (2 + length (fields frame.now) ≤ 8388608) }
+    ensures length { result ≡ Err Length → 8388608 < 2 + length (fields frame.now) }
+    ensures unchanged { OnErr result (out.new.items ≡ out.old.items) }
+{
+    let body = body_of(alloc, frame)?;
+    if body.len() > MAX_LENGTH {
+        return Err(WriteError::Length);
+    }
+    append(
+        alloc,
+        out,
+        (body.len() as u32).to_be_bytes(),
+        body.as_slice(),
+    )?;
+    Ok(())
+}
