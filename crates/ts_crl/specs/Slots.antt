@@ -28,10 +28,12 @@ is_same_value None None = true
 is_same_value (Some a) (Some b) = bytes_eq a b
 is_same_value a b = false
 
--- one slot: the issuers are the same, and so are the issuing distribution points and the authority key identifiers, or both have
--- none (6.3.3 (c))
+-- the issuing distribution points are the same, or both lists have none, and so are the authority key identifiers
+abbrev pub have_same_values : CertificateList → CertificateList → Bool
+have_same_values l other =
+    is_same_value (octets_of IssuingDistributionPoint l) (octets_of IssuingDistributionPoint other)
+    && is_same_value (octets_of AuthorityKeyIdentifier l) (octets_of AuthorityKeyIdentifier other)
+
+-- one slot: the issuers are the same, and so are these (6.3.3 (c))
 unfoldable pub is_same_slot : CertificateList → CertificateList → Bool
-is_same_slot l other =
-    is_same_name l.tbsCertList.issuer other.tbsCertList.issuer
-    && (is_same_value (octets_of IssuingDistributionPoint l) (octets_of IssuingDistributionPoint other)
-    && is_same_value (octets_of AuthorityKeyIdentifier l) (octets_of AuthorityKeyIdentifier other))
+is_same_slot l other = is_same_name l.tbsCertList.issuer other.tbsCertList.issuer && have_same_values l other

@@ -1,17 +1,18 @@
 //! Slots: lists of one issuer, one scope and one authority key.
 
 ghost use Rattle.std.specs.List.{find};
-ghost use Rattle.std.specs.Prelude.{◌≡◌, option_map};
+ghost use Rattle.std.specs.Prelude.{◌≡◌, option_map, IfOk};
 ghost use Rattle.ts_name.specs.NameView.{rdns_in};
 ghost use Rattle.ts_ext.specs.ExtensionView.{extensions_in};
 ghost use Rattle.ts_crl.specs.EntryView.{extension_as};
 ghost use Rattle.ts_crl.specs.ListView.{crl_in};
 ghost use Rattle.ts_crl.specs.Profile.{is_delta as is_delta_list};
-ghost use Rattle.ts_crl.specs.Slots.{is_same_name, octets_of, is_same_value as are_same_value, is_same_slot as are_one_slot};
+ghost use Rattle.ts_crl.specs.Slots.{is_same_name, octets_of, is_same_value as are_same_value, have_same_values as have_same_values_of, is_same_slot as are_one_slot};
 ghost use Rattle.ts_crl.specs.Values.{is_known};
 
 use crate::crl::Crl;
 use crate::profile::is_delta;
+use std::alloc::{AllocError, Global};
 use ts_ext::{Extension, Extensions, Known};
 use ts_name::Name;
 
@@ -20,6 +21,23 @@ fn is_same(name: Name<'_>, other: Name<'_>) -> bool
     ensures { result ≡ is_same_name (rdns_in name.entry) (rdns_in other.entry) }
 {
     name.same(other)
+}
+
+/// The octets of a name that are few enough to be compared as they lie: no relative distinguished name in them has more
+/// attributes than `Rdn::same` has room for.
+const FEW: usize = 65_536;
+
+/// Whether two names are the same. Two long ones are put in canonical form first, since the attributes of each may come in
+/// an order of its own, and would be looked up in those of the other one by one.
+fn is_same_in(alloc: Global, name: Name<'_>, other: Name<'_>) -> Result<bool, AllocError>
+    ensures { IfOk result (λ same. same ≡ is_same_name (rdns_in name.entry) (rdns_in other.entry)) }
+{
+    if name.element.content.len() <= FEW || other.element.content.len() <= FEW {
+        return Ok(is_same(name, other));
+    }
+    let canon = name.canon(alloc)?;
+    let other = other.canon(alloc)?;
+    Ok(canon.same(&other))
 }
 
 /// The first of the extensions that is this one.
@@ -60,19 +78,32 @@ fn is_same_value(value: Option<&[u8]>, other: Option<&[u8]>) -> bool
     }
 }
 
+/// Whether two lists have the same issuing distribution point, and the same authority key identifier.
+fn have_same_values(crl: &Crl<'_>, other: &Crl<'_>) -> bool
+    ensures { result ≡ have_same_values_of (crl_in crl.now) (crl_in other.now) }
+{
+    is_same_value(
+        value_octets(Known::IssuingDistributionPoint, crl),
+        value_octets(Known::IssuingDistributionPoint, other),
+    ) && is_same_value(
+        value_octets(Known::AuthorityKeyIdentifier, crl),
+        value_octets(Known::AuthorityKeyIdentifier, other),
+    )
+}
+
 #[tactic(auto, unfolding(crate::specs::Slots::is_same_slot))]
 fn are_of_one_slot(crl: &Crl<'_>, other: &Crl<'_>) -> bool
     ensures { result ≡ are_one_slot (crl_in crl.now) (crl_in other.now) }
 {
-    is_same(crl.issuer(), other.issuer())
-        && is_same_value(
-            value_octets(Known::IssuingDistributionPoint, crl),
-            value_octets(Known::IssuingDistributionPoint, other),
-        )
-        && is_same_value(
-            value_octets(Known::AuthorityKeyIdentifier, crl),
-            value_octets(Known::AuthorityKeyIdentifier, other),
-        )
+    is_same(crl.issuer(), other.issuer()) && have_same_values(crl, other)
+}
+
+#[tactic(auto, unfolding(crate::specs::Slots::is_same_slot))]
+fn are_of_one_slot_in(alloc: Global, crl: &Crl<'_>, other: &Crl<'_>) -> Result<bool, AllocError>
+    ensures { IfOk result (λ same. same ≡ are_one_slot (crl_in crl.now) (crl_in other.now)) }
+{
+    let is_same_issuer = is_same_in(alloc, crl.issuer(), other.issuer())?;
+    Ok(is_same_issuer && have_same_values(crl, other))
 }
 
 impl<'a> Crl<'a> {
@@ -82,6 +113,17 @@ impl<'a> Crl<'a> {
         ensures { result ≡ are_one_slot (crl_in self.entry) (crl_in other.entry) }
     {
         are_of_one_slot(&self, &other)
+    }
+
+    /// The same, in time that grows with the lists' octets and not with the product of their numbers of attributes.
+    ///
+    /// # Errors
+    ///
+    /// Memory that is refused, where both issuers have more than 65,536 octets.
+    pub fn is_same_slot_in(self, alloc: Global, other: Crl<'_>) -> Result<bool, AllocError>
+        ensures { IfOk result (λ same. same ≡ are_one_slot (crl_in self.entry) (crl_in other.entry)) }
+    {
+        are_of_one_slot_in(alloc, &self, &other)
     }
 
     /// Whether the list states what has changed since another one (RFC 5280 5.2.4).

@@ -54,11 +54,11 @@ impl Crls {
     /// # Errors
     ///
     /// Memory that is refused. Nothing is changed then.
-    pub fn put(&mut self, new: StoredCrl) -> Result<Option<Refusal>, AllocError>
+    pub fn put(&mut self, alloc: Global, new: StoredCrl) -> Result<Option<Refusal>, AllocError>
         ensures done { IfOk result (λ refusal. Becomes refusal self.old self.new (put_list new self.old)) }
         ensures memory { OnErr result (self.new ≡ self.old) }
     {
-        put_in(&mut self.lists, new)
+        put_in(&mut self.lists, alloc, new)
     }
 
     /// Removes the list of this id, or answers why not. The rest keeps its order.
@@ -80,23 +80,27 @@ fn is_newer(new: Crl<'_>, held: Crl<'_>) -> bool
 }
 
 /// Whether a list that is kept has the slot of another one.
-fn has_slot(held: &StoredCrl, new: Crl<'_>) -> bool
-    ensures { result ≡ has_slot_of (crl_in new.entry) held.now }
+fn has_slot(alloc: Global, held: &StoredCrl, new: Crl<'_>) -> Result<bool, AllocError>
+    ensures { IfOk result (λ has. has ≡ has_slot_of (crl_in new.entry) held.now) }
 {
-    held.crl.view().is_same_slot(new)
+    held.crl.view().is_same_slot_in(alloc, new)
 }
 
 /// The place of the first list that has the slot of another one.
-fn place_of_slot(lists: &[StoredCrl], new: Crl<'_>) -> Option<usize>
-    ensures place { result ≡ place_by (has_slot_of (crl_in new.entry)) lists.now }
-    ensures within { IfSome result (λ i. i < length lists.now) }
+fn place_of_slot(
+    alloc: Global,
+    lists: &[StoredCrl],
+    new: Crl<'_>,
+) -> Result<Option<usize>, AllocError>
+    ensures place { IfOk result (λ place. place ≡ place_by (has_slot_of (crl_in new.entry)) lists.now) }
+    ensures within { IfOk result (λ place. IfSome place (λ i. i < length lists.now)) }
 {
     for i in 0..lists.len() {
-        if has_slot(&lists[i], new) {
-            return Some(i);
+        if has_slot(alloc, &lists[i], new)? {
+            return Ok(Some(i));
         }
     }
-    None
+    Ok(None)
 }
 
 /// The place of the first list of this id.
@@ -138,11 +142,15 @@ fn add_last(lists: &mut Vec<StoredCrl>, new: StoredCrl) -> Result<Option<Refusal
     Ok(None)
 }
 
-fn put_in(lists: &mut Vec<StoredCrl>, new: StoredCrl) -> Result<Option<Refusal>, AllocError>
+fn put_in(
+    lists: &mut Vec<StoredCrl>,
+    alloc: Global,
+    new: StoredCrl,
+) -> Result<Option<Refusal>, AllocError>
     ensures done { IfOk result (λ refusal. Becomes refusal lists.old.items lists.new.items (put_list new lists.old.items)) }
     ensures memory { OnErr result (lists.new.items ≡ lists.old.items) }
 {
-    match place_of_slot(lists, new.crl.view()) {
+    match place_of_slot(alloc, lists, new.crl.view())? {
         Some(i) => Ok(replace_at(lists, i, new)),
         None => add_last(lists, new),
     }

@@ -115,10 +115,10 @@ impl Tables {
             crl,
         };
         if is_delta {
-            let refusal = self.deltas.put(stored)?;
+            let refusal = self.deltas.put(alloc, stored)?;
             Ok(refusal)
         } else {
-            let refusal = self.complete.put(stored)?;
+            let refusal = self.complete.put(alloc, stored)?;
             Ok(refusal)
         }
     }
