@@ -8,3 +8,4 @@ pub mod Questions
 pub mod Deliveries
 pub mod Fits
 pub mod Images
+pub mod Simulation

@@ -3,3 +3,4 @@ pub mod Growing
 pub mod Roles
 pub mod Inputs
 pub mod Node
+pub mod Run

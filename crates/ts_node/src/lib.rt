@@ -23,6 +23,7 @@
 mod feeding;
 mod growth;
 mod input;
+mod laws;
 mod machine;
 mod messages;
 mod node;
@@ -32,5 +33,6 @@ mod roles;
 mod submit;
 
 pub use input::{Input, NodeFault, Output, Reply};
+pub use laws::headline;
 pub use machine::Machine;
 pub use node::{Node, Refused};

@@ -1,0 +1,114 @@
+-- A run of n nodes: calls, rewrites, crashes and openings, each as the contracts of `Node::handle` and `Node::open` describe it.
+use Rattle.std.proofs.Common.{◌≡◌, ◌≤◌, ℕ, List, [], ◌∷◌, ◌++◌, Option, Some, Ok, true}
+use Rattle.ts_synod.specs.declared.message.Fact.{Fact}
+use Rattle.ts_synod.specs.declared.message.Message.{Message}
+use Rattle.ts_synod.specs.Config.{is_node}
+use Rattle.ts_synod.specs.Force.{SameForce, learned_command}
+use Rattle.ts_synod.specs.Laws.{FirstChosen, IsChosen, RightOutcome, node_with}
+use Rattle.ts_synod.specs.Lists.{Has, put}
+use Rattle.ts_synod.specs.Store.{Store}
+use Rattle.ts_synod.specs.World.{Event, after_run, config_of}
+use Rattle.ts_synod.specs.Node as world
+use Rattle.ts_record.specs.Facts.{OpensTo}
+use Rattle.ts_record.specs.Record.{OpensToForce}
+use Rattle.ts_node.specs.declared.node.Node.{Node}
+use Rattle.ts_node.specs.declared.input.Input.{Input}
+use Rattle.ts_node.specs.declared.input.Input.TheVariants as inputs
+use Rattle.ts_node.specs.declared.input.Output.{Output}
+use Rattle.ts_node.specs.declared.input.Reply.{Reply}
+use Rattle.ts_node.specs.declared.input.Reply.TheVariants as replies
+use Rattle.ts_node.specs.Inputs.{IsInput}
+use Rattle.ts_node.specs.Node.{Handles, IsSame, Rewrites, ToEither, config, facts, volatile}
+
+-- an input, and the reply that was given to it
+pub record Exchange (C O Q A : Type 0) : Type 0 where
+  pub input : Input C Q
+  pub reply : Reply O A
+
+-- the nodes by number, every message that a call answered, and every reply
+pub record Group (D C M O Q A : Type 0) : Type 0 where
+  pub nodes : ℕ → Node D C M
+  pub sent : List (Message C)
+  pub given : List (Exchange C O Q A)
+
+-- What happens at node i, and the node then.
+pub data Happening (D C M O Q A : Type 0) : Type 0 where
+  called : (i : ℕ) → (input : Input C Q) → (output : Output C O A) → (new : Node D C M) → Happening D C M O Q A  -- a call answers
+  refused : (i : ℕ) → (new : Node D C M) → Happening D C M O Q A  -- a call answers a fault other than that of a device
+  rewritten : (i : ℕ) → (output : Output C O A) → (new : Node D C M) → Happening D C M O Q A  -- a compaction makes a step
+  reopened : (i : ℕ) → (a b : List ℕ) → (new : Node D C M) → Happening D C M O Q A  -- it stops between two calls or within a compaction, and is opened on these images
+  stopped : (i : ℕ) → (input : Input C Q) → (a b : List ℕ) → (new : Node D C M) → Happening D C M O Q A  -- it stops within a call, or a device fails, and is opened on these images
+
+abbrev pub after : {D C M O Q A : Type 0} → Group D C M O Q A → Happening D C M O Q A → Group D C M O Q A
+after s (called i input output new) = record { nodes = put s.nodes i new; sent = s.sent ++ output.messages.items; given = s.given ++ record { input = input; reply = output.reply } ∷ [] }
+after s (refused i new) = record { nodes = put s.nodes i new; sent = s.sent; given = s.given }
+after s (rewritten i output new) = record { nodes = put s.nodes i new; sent = s.sent; given = s.given }
+after s (reopened i a b new) = record { nodes = put s.nodes i new; sent = s.sent; given = s.given }
+after s (stopped i input a b new) = record { nodes = put s.nodes i new; sent = s.sent; given = s.given }
+
+abbrev pub after_all : {D C M O Q A : Type 0} → Group D C M O Q A → List (Happening D C M O Q A) → Group D C M O Q A
+after_all s [] = s
+after_all s (h ∷ hs) = after_all (after s h) hs
+
+-- the commands that were handed in
+abbrev pub handed_in_by : {C Q : Type 0} → Input C Q → List C
+handed_in_by (inputs.Submit c) = c ∷ []
+handed_in_by other = []
+
+abbrev pub handed_in : {D C M O Q A : Type 0} → List (Happening D C M O Q A) → List C
+handed_in [] = []
+handed_in (called i input output new ∷ hs) = handed_in_by input ++ handed_in hs
+handed_in (refused i new ∷ hs) = handed_in hs
+handed_in (rewritten i output new ∷ hs) = handed_in hs
+handed_in (reopened i a b new ∷ hs) = handed_in hs
+handed_in (stopped i input a b new ∷ hs) = handed_in_by input ++ handed_in hs
+
+-- a node that was opened on a pair of images: what they open to are its facts, and it has forgotten the rest
+pub record IsOpened {D C M : Type 0} (octets : C → List ℕ) (a b : List ℕ) (new : Node D C M) : Type 0 where
+  pub only : (kept : List (Fact C)) → OpensTo octets kept a b → facts new ≡ kept
+  pub restarted : volatile new ≡ world.initial
+
+module _ {D C M O Q A : Type 0} (octets : C → List ℕ) (store : Store C O (List C) Q (List C)) (is_answer : List C → Q → A → Type 0) (n : ℕ) where
+  -- the step of the world at node i, of any facts that have the force of its own
+  abbrev pub step_at : Group D C M O Q A → ℕ → List (Fact C) → world.Input C Q → world.Step C O Q (List C)
+  step_at s i kept event = world.step store (config (s.nodes i)) (node_with kept (volatile (s.nodes i))) s.sent event
+
+  -- Which things can happen: a call that meets the contract of `handle` at an input that the messages sent so far allow, and an opening
+  -- that meets that of `open` on images that a crash may leave. A node opens as the node that it was.
+  abbrev pub IsAllowed : Group D C M O Q A → Happening D C M O Q A → Type 0
+  IsAllowed s (called i input output new) = (is_node n i ≡ true) × (config new ≡ config (s.nodes i)) × (event : world.Input C Q) × IsInput s.sent input event
+      × ((kept : List (Fact C)) → SameForce kept (facts (s.nodes i)) → Handles is_answer (s.nodes i) (Ok output) new (step_at s i kept event))
+  IsAllowed s (refused i new) = (is_node n i ≡ true) × (config new ≡ config (s.nodes i)) × IsSame (s.nodes i) new
+  IsAllowed s (rewritten i output new) = (is_node n i ≡ true) × (config new ≡ config (s.nodes i)) × Rewrites (s.nodes i) output new
+  IsAllowed s (reopened i a b new) = (is_node n i ≡ true) × (config new ≡ config (s.nodes i)) × OpensToForce octets (facts (s.nodes i)) a b × IsOpened octets a b new
+  IsAllowed s (stopped i input a b new) = (is_node n i ≡ true) × (config new ≡ config (s.nodes i)) × (event : world.Input C Q) × IsInput s.sent input event
+      × ((kept : List (Fact C)) → SameForce kept (facts (s.nodes i)) → ToEither octets (facts (s.nodes i)) (step_at s i kept event).effect.facts a b) × IsOpened octets a b new
+
+  abbrev pub AreAllowed : Group D C M O Q A → List (Happening D C M O Q A) → Type 0
+  AreAllowed s [] = Unit {0}
+  AreAllowed s (h ∷ hs) = IsAllowed s h × AreAllowed (after s h) hs
+
+-- n nodes that were formatted and opened: none has kept anything, and nothing was sent
+pub record IsStart {D C M O Q A : Type 0} (n : ℕ) (s : Group D C M O Q A) : Type 0 where
+  pub kept : (i : ℕ) → facts (s.nodes i) ≡ []
+  pub restarted : (i : ℕ) → volatile (s.nodes i) ≡ world.initial
+  pub numbered : (i : ℕ) → is_node n i ≡ true → config (s.nodes i) ≡ config_of n i
+  pub sent : s.sent ≡ []
+  pub given : s.given ≡ []
+
+-- What is promised of a group after a run: there is a run of the world in which
+-- - a command that a node has learned at a position is chosen there, no two nodes have learned different ones, and one is chosen;
+-- - each answer at k is one to the question after the first k chosen commands, and there is one list of these;
+-- - each id is settled at the first position that has it among the chosen commands, with the outcome there;
+-- - each chosen command was handed in.
+pub record Promised {D C M O Q A : Type 0} (store : Store C O (List C) Q (List C)) (is_answer : List C → Q → A → Type 0) (n : ℕ) (submitted : List C) (s : Group D C M O Q A) : Type 0 where
+  pub events : List (Event C Q)
+  pub learned : (i p : ℕ) (c : C) → learned_command p (facts (s.nodes i)) ≡ Some c → IsChosen n (after_run n store events).nodes p c
+  pub agreed : (i j p : ℕ) (c d : C) → learned_command p (facts (s.nodes i)) ≡ Some c → learned_command p (facts (s.nodes j)) ≡ Some d → c ≡ d
+  pub chosen : (p : ℕ) (c d : C) → IsChosen n (after_run n store events).nodes p c → IsChosen n (after_run n store events).nodes p d → c ≡ d
+  pub answered : (at' : Option ℕ) (q : Q) (k : ℕ) (a : A) → Has s.given (record { input = inputs.Ask at' q; reply = replies.Answered k a })
+      → (cs : List C) × FirstChosen n (after_run n store events).nodes k cs × is_answer cs q a
+  pub one : (k : ℕ) (cs ds : List C) → FirstChosen n (after_run n store events).nodes k cs → FirstChosen n (after_run n store events).nodes k ds → cs ≡ ds
+  pub settled : (id : List ℕ) (p : ℕ) (o : O) → Has s.given (record { input = inputs.Outcome id; reply = replies.Settled p o }) → RightOutcome n store (after_run n store events).nodes id p o
+  pub submitted_before : (c : C) (p : ℕ) (o : O) → Has s.given (record { input = inputs.Submit c; reply = replies.Settled p o }) → RightOutcome n store (after_run n store events).nodes (store.id_of c) p o
+  pub handed : (p : ℕ) (c : C) → IsChosen n (after_run n store events).nodes p c → Has submitted c
