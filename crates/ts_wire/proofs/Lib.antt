@@ -2,3 +2,4 @@ pub mod CommandLaws
 pub mod FrameLaws
 pub mod Lengths
 pub mod Joins
+pub mod Bodies

@@ -2,6 +2,9 @@
 //!
 //! ```text
 //! write_frame(alloc, &mut out, &Frame::Status)?;   // 00 00 00 02 02 15
+//! let mut feed = Feed::new(alloc);
+//! feed.push(piece)?;
+//! while let Some(frame) = feed.take()? { .. }       // Frame(fault) where a fault stands in a frame's place
 //! ```
 //!
 //! A frame is four octets of the length of what follows (2 to 8,388,608), the version, 02, an octet of the kind, and fields
@@ -11,9 +14,12 @@
 //! | Call | Clauses |
 //! |---|---|
 //! | [`write_frame`] | `spelled`: the one spelling; `length`: `Length` only above the limit; `unchanged`: an error writes nothing |
+//! | [`Feed::push`] | the octets that came, of which no frame was taken yet; at an error they stay |
+//! | [`Feed::take`] | `frame`: they began with the spelling of this frame, and the others stay; `partial`: they are less than a whole frame; `wrong`: this fault stands at their front (`specs/Stream`), and they stay |
 #![tactic(auto)]
 
 mod fault;
+mod feed;
 mod frame;
 mod reading;
 mod route;
@@ -23,6 +29,7 @@ mod wire_error;
 mod writing;
 
 pub use fault::{FrameFault, NodeFault};
+pub use feed::Feed;
 pub use frame::Frame;
 pub use wire_error::{FeedError, WriteError};
 pub use writing::{MAX_LENGTH, write_frame};
