@@ -64,11 +64,11 @@ read_of version kind rest = by_version (eqb version 2) refl
 
 -- ---- a frame
 
-back_bytes : (a b : List ℕ) → IsBytes (a ++ b) → IsBytes b
+pub back_bytes : (a b : List ℕ) → IsBytes (a ++ b) → IsBytes b
 back_bytes [] b h = h
 back_bytes (x ∷ a) b h = back_bytes a b (λ i. h (suc i))
 
-front_bytes : (a b : List ℕ) → IsBytes (a ++ b) → IsBytes a
+pub front_bytes : (a b : List ℕ) → IsBytes (a ++ b) → IsBytes a
 front_bytes [] b h i = omega arith
 front_bytes (x ∷ a) b h zero = h zero
 front_bytes (x ∷ a) b h (suc i) = front_bytes a b (λ j. h (suc j)) i

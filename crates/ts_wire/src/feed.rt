@@ -134,6 +134,16 @@ impl Feed {
         self.start == self.buffer.len()
     }
 
+    /// Begins the room anew where nothing is left in it.
+    fn begin_anew(&mut self)
+        ensures { self.new ≡ self.old }
+    {
+        if self.start == self.buffer.len() {
+            self.buffer.truncate(0);
+            self.start = 0;
+        }
+    }
+
     /// Takes the next piece of the stream.
     ///
     /// # Errors
@@ -143,6 +153,7 @@ impl Feed {
         ensures pushed { OnOk result (self.new ≡ self.old ++ piece.now) }
         ensures unchanged { OnErr result (self.new ≡ self.old) }
     {
+        self.begin_anew();
         if self.start <= self.buffer.len() / 2 {
             self.buffer.extend_from_slice(piece)?;
             return Ok(());
