@@ -1,25 +1,23 @@
 -- The fields of a question, and the question, are read in one way.
-use Rattle.std.proofs.Common.{◌≡◌, ℕ, zero, suc, ◌+◌, ◌*◌, ◌/◌, ◌%◌, ◌^◌, ◌<◌, ◌≤◌, ◌==◌, ◌&&◌, Bool, true, false, cond, ltb, leb, eqb, List, [], ◌∷◌, ◌++◌, length, Option, Some, None, refl, sym, ap, subst, ◌∙◌, append_assoc, arith}
+use Rattle.std.proofs.Common.{◌≡◌, ℕ, zero, suc, ◌+◌, ◌*◌, ◌/◌, ◌%◌, ◌^◌, ◌<◌, ◌≤◌, ◌==◌, ◌&&◌, Bool, true, false, cond, List, [], ◌∷◌, ◌++◌, length, Option, Some, None, refl, sym, ap, subst, ◌∙◌, append_assoc, arith}
 use Rattle.std.specs.Prelude.{IfSome, is_some, nat_le, nat_lt}
 use Rattle.std.specs.List.{flat_map, list_all, AllByRecursion}
-use Rattle.std.specs.Int.{w16, w32, w64, to_be_bytes, cast_signed, cast_unsigned}
-use Rattle.std.specs.Int.RustNames.{FitsSigned}
+use Rattle.std.specs.Int.{w32, w64, to_be_bytes, cast_signed, cast_unsigned}
 use Rattle.std.proofs.lemmas.Int.{to_z-of_z, of_z-to_z}
 use Rattle.std.proofs.Math.Facts.{sfits_to_z, Fits-of_z}
 use mir.Val.{Fits as Fits64}
 use Rattle.ts_question.proofs.Lengths.{first_true, second_true, is_short}
 use Rattle.std.proofs.lemmas.Bool.{ltb-true, lt-ltb, leb-true, le-leb}
 use Rattle.ts_der.specs.ObjectIdentifier.{is_oid}
-use Rattle.ts_question.specs.declared.terms.Flags.{Flags}
 use Rattle.ts_question.specs.declared.terms.Presence.{Presence}
 use Rattle.ts_question.specs.declared.terms.Terms.{Terms}
 use Rattle.ts_question.specs.declared.question.Target.{Target}
 use Rattle.ts_question.specs.declared.question.Target.TheVariants.{Chain, Search}
-use Rattle.ts_question.specs.Parts.{bits, blob8, blob16, blob32, optional}
-use Rattle.ts_question.specs.Reading.{◌>>=◌, provided, octet_at, number_at, octets_at, blob8_at, blob16_at, blob32_at, optional_at, many_at, whole}
-use Rattle.ts_question.specs.Question.{Asked, is_position, are_subtrees, are_terms, are_certificates, is_target, is_within, flags_octet, policies_spelling, subtrees_spelling, certificates_spelling, terms_spelling, kind_of, target_spelling, spelling, TermsFit, TargetFits, Fits}
+use Rattle.ts_question.specs.Parts.{bits, blob8, blob32, optional}
+use Rattle.ts_question.specs.Reading.{◌>>=◌, provided, octet_at, optional_at, many_at, whole}
+use Rattle.ts_question.specs.Question.{Asked, is_position, are_subtrees, are_terms, are_certificates, is_target, flags_octet, policies_spelling, subtrees_spelling, certificates_spelling, terms_spelling, kind_of, target_spelling, spelling, TermsFit, TargetFits, Fits}
 use Rattle.ts_question.specs.QuestionReading.{bit, position_at, oid_at, certificate_at, presence_at, policies_at, subtrees_at, certificates_at, terms_at, target_at, question_at}
-use Rattle.ts_question.proofs.PartLaws.{IsBytes, Takes, Part, answer, step, test, some_is, made, octet_part, number16, number32, number64, octets_part, blob8_part, blob16_part, blob32_part, tested, provided_is, optional_part, many_part, whole_takes, whole_again}
+use Rattle.ts_question.proofs.PartLaws.{IsBytes, Takes, Part, answer, step, test, some_is, made, octet_part, number16, number32, number64, octets_part, blob8_part, blob16_part, blob32_part, tested, provided_is, optional_part, many_part, whole_again}
 
 pub position_part : Part (to_be_bytes w32) (λ k. (k < 2 ^ 32) × (nat_le k 1000000 ≡ true)) position_at
 unfolding position_at

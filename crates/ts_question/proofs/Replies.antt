@@ -1,5 +1,5 @@
 -- The fields of an answer, and the answer, are read in one way.
-use Rattle.std.proofs.Common.{◌≡◌, ℕ, zero, suc, ◌+◌, ◌^◌, ◌<◌, ◌≤◌, ◌==◌, ◌&&◌, Bool, true, false, cond, ltb, eqb, List, [], ◌∷◌, ◌++◌, length, Option, Some, None, refl, sym, ap, subst, ◌∙◌, append_assoc, arith}
+use Rattle.std.proofs.Common.{◌≡◌, ℕ, ◌^◌, ◌<◌, ◌≤◌, ◌==◌, ◌&&◌, Bool, true, false, cond, eqb, List, [], ◌∷◌, ◌++◌, length, Option, Some, None, refl, sym, ap, subst, ◌∙◌, append_assoc, arith}
 use Rattle.std.specs.Prelude.{nat_le, nat_lt, slice_index, ◌-◌}
 use Rattle.std.specs.List.{flat_map, list_all, AllByRecursion}
 use Rattle.std.specs.Int.{w32, to_be_bytes}
@@ -10,12 +10,12 @@ use Rattle.ts_question.specs.declared.reason.Reason.TheVariants.{AnchorPurpose, 
 use Rattle.ts_question.specs.declared.reply.Reply.{Reply}
 use Rattle.ts_question.specs.declared.reply.Reply.TheVariants.{Valid, Invalid, Found, NoPath, SearchLimit, NotYet, Malformed, NoAnchor, Limit}
 use Rattle.ts_question.specs.Parts.{blob8}
-use Rattle.ts_question.specs.Reading.{◌>>=◌, provided, octet_at, number_at, octets_at, blob8_at, many_at, whole, lookup}
-use Rattle.ts_question.specs.QuestionReading.{position_at, oid_at}
-use Rattle.ts_question.specs.Reply.{Answered, is_distinct, are_places, are_countable, is_place, is_reply, is_answer, number_of, detail, reason_spelling, accepted_spelling, tag_of, fields, spelling, DetailFits, FieldsFit, Fits}
+use Rattle.ts_question.specs.Reading.{◌>>=◌, provided, octet_at, number_at, blob8_at, many_at, whole, lookup}
+use Rattle.ts_question.specs.QuestionReading.{oid_at}
+use Rattle.ts_question.specs.Reply.{Answered, is_distinct, are_places, are_countable, is_place, is_reply, number_of, detail, reason_spelling, accepted_spelling, tag_of, fields, spelling, DetailFits, FieldsFit, Fits}
 use Rattle.ts_question.specs.ReplyReading.{accepted_at, plain_reasons, with_rest, detail_at, reason_at, valid_at, invalid_at, found_at, not_yet_at, malformed_at, limit_at, bare, readers, reply_at, answer_at}
 use Rattle.ts_question.proofs.Lengths.{first_true, second_true}
-use Rattle.ts_question.proofs.PartLaws.{IsBytes, Takes, Part, answer, step, test, provided_is, some_is, made, octet_part, number32, octets_part, blob8_part, many_part, whole_takes, whole_again}
+use Rattle.ts_question.proofs.PartLaws.{IsBytes, Takes, Part, answer, step, test, provided_is, some_is, made, octet_part, number32, octets_part, blob8_part, many_part, whole_again}
 use Rattle.ts_question.proofs.Fields.{position_part, oid_part, both_true, all_and, all_from, oid_fits}
 
 -- ---- tables

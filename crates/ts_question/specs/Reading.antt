@@ -1,6 +1,6 @@
 -- Reading from front to back: a value and the octets after it, or none where the octets are cut or out of range.
 use Rattle.std.specs.Prelude.{◌≡◌, ◌==◌, ℕ, zero, suc, Bool, List, [], ◌∷◌, length, take, drop, Option, Some, None, Result, Ok, Err, nat_lt, if◌then◌else◌}
-use Rattle.std.specs.Int.{Width, w8, w16, w32, byte_len, from_be_bytes}
+use Rattle.std.specs.Int.{Width, w16, w32, byte_len, from_be_bytes}
 use Rattle.ts_question.specs.declared.fault.ReadFault.{ReadFault}
 use Rattle.ts_question.specs.declared.fault.ReadFault.TheVariants as faults
 

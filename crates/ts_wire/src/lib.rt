@@ -2,6 +2,9 @@
 //!
 //! ```text
 //! write_frame(alloc, &mut out, &Frame::Status)?;   // 00 00 00 02 02 15
+//! let mut feed = Feed::new(alloc);
+//! feed.push(piece)?;
+//! while let Some(frame) = feed.take()? { .. }       // Frame(fault) where a fault stands in a frame's place
 //! ```
 //!
 //! A frame is four octets of the length of what follows (2 to 8,388,608), the version, 02, an octet of the kind, and fields
@@ -10,19 +13,32 @@
 //!
 //! | Call | Clauses |
 //! |---|---|
-//! | [`write_frame`] | `spelled`: the one spelling; `length`: `Length` only above the limit; `unchanged`: an error writes nothing |
+//! | [`write_frame`] | `spelled`: the one spelling; `length`, `short`: `Length` only above the limit, and success only within it; `unchanged`: an error writes nothing |
+//! | [`Feed::push`] | the octets that came, of which no frame was taken yet; at an error they stay |
+//! | [`Feed::take`] | `frame`: they began with the spelling of this frame, and the others stay; `partial`: they are less than a whole frame; `wrong`: this fault stands at their front (`specs/Stream`), and they stay |
+//! | [`decode`] | a whole stream in whatever pieces it comes. `splits`: it is these frames, up to this fault or to less than a whole frame; `only`: no others are |
+//! | [`laws::no_front`] | no frame's spelling is the beginning of another's |
+//! | [`laws::one_reading`] | a stream is one list of frames, up to one fault or none |
+//! | [`laws::fault_stays`] | a fault stays, whatever comes behind it, so that `take` answers it again |
+//!
+//! Memory that is refused is answered as `Memory` or `AllocError`, and the call can be made again.
 #![tactic(auto)]
 
 mod fault;
+mod feed;
 mod frame;
+pub mod laws;
 mod reading;
 mod route;
+mod stream;
 #[cfg(test)]
 mod tests;
 mod wire_error;
 mod writing;
 
 pub use fault::{FrameFault, NodeFault};
+pub use feed::Feed;
 pub use frame::Frame;
+pub use stream::decode;
 pub use wire_error::{FeedError, WriteError};
 pub use writing::{MAX_LENGTH, write_frame};

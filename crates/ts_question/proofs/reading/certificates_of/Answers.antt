@@ -1,4 +1,3 @@
-use Rattle.std.proofs.Common.{◌≡◌, ◌++◌, ◌∷◌, []}
 use Rattle.std.proofs.lemmas.Result.{err_from_is_err_and}
 use Rattle.ts_question.specs.Reading.{many_at}
 use Rattle.ts_question.specs.QuestionReading.{certificate_at}

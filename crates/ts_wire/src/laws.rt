@@ -1,0 +1,26 @@
+//! Laws about streams of frames. Each stands on a function that does nothing.
+
+ghost use Rattle.std.specs.Prelude.{◌≡◌, ◌++◌, ℕ, List, Option};
+ghost use Rattle.ts_wire.specs.Frames.{spelling, Fits};
+ghost use Rattle.ts_wire.specs.Stream.{IsFault, Splits};
+ghost use Rattle.ts_wire.specs.declared.fault.FrameFault.{FrameFault};
+ghost use Rattle.ts_wire.specs.declared.frame.Frame.{Frame};
+
+/// No frame's spelling is the beginning of another's.
+pub fn no_front()
+    ensures frame { (f g : Frame) (a b : List ℕ) → Fits f → Fits g → spelling f ++ a ≡ spelling g ++ b → f ≡ g }
+    ensures rest { (f g : Frame) (a b : List ℕ) → Fits f → Fits g → spelling f ++ a ≡ spelling g ++ b → a ≡ b }
+{}
+
+/// A stream is one list of frames, up to one fault or none.
+pub fn one_reading()
+    ensures frames { (stream : List ℕ) (frames others : List Frame) (fault other : Option FrameFault)
+        → Splits stream frames fault → Splits stream others other → frames ≡ others }
+    ensures fault { (stream : List ℕ) (frames others : List Frame) (fault other : Option FrameFault)
+        → Splits stream frames fault → Splits stream others other → fault ≡ other }
+{}
+
+/// A fault stays, whatever comes behind it.
+pub fn fault_stays()
+    ensures { (fault : FrameFault) (octets more : List ℕ) → IsFault fault octets → IsFault fault (octets ++ more) }
+{}
