@@ -74,6 +74,9 @@ fn among_copies(alloc: Global, copies: usize, with_anchor: bool) -> Option<Told>
     for _ in 0..copies {
         pool.push(root).ok()?;
     }
+    if pool.len() > MAX_POOL {
+        return None;
+    }
     let anchors = [Anchor::of(&root)];
     let many = if with_anchor { 1 } else { 0 };
     let inputs = Inputs::at(Moment(JUNE));
