@@ -62,10 +62,10 @@ module _ {C : Type 0} (octets : C → List ℕ) where
   promised p b at is = record { fit = ((at, is), tt); short = omega arith }
 
   took : (p b : ℕ) (c : C) → IsPosition p → IsBallot b → IsShort (octets c) → FitIn octets 4194342 (Took p b c ∷ [])
-  took p b c at is low = record { fit = ((at, is, omega arith), tt); short = simp length-append (omega arith) }
+  took p b c at is low = record { fit = ((at, is, record { some = low.some; short = let s = low.short in omega arith }), tt); short = let s = low.short in simp length-append (omega arith) }
 
   chosen : (p : ℕ) (c : C) → IsPosition p → IsShort (octets c) → FitIn octets 4194334 (Chosen p c ∷ [])
-  chosen p c at low = record { fit = ((at, omega arith), tt); short = simp length-append (omega arith) }
+  chosen p c at low = record { fit = ((at, record { some = low.some; short = let s = low.short in omega arith }), tt); short = let s = low.short in simp length-append (omega arith) }
 
   prepare_fits : (config : Config) (promise : ℕ) (taken : Option (Vote C)) (from p b : ℕ) → IsPosition p → IsBallot b → FitIn octets 4194500 (on_prepare config promise taken from p b).facts
   prepare_fits config promise taken from p b at is =

@@ -36,9 +36,10 @@ IsReply is_answer (replies.Answered k a) (world.Answered at' question commands) 
 IsReply is_answer (replies.Prefix m) (world.Prefix prefix) = m ≡ prefix
 IsReply is_answer reply other = ⊥
 
--- a command's spelling leaves room for the other fields in a record's body
-abbrev pub IsShort : List ℕ → Type 0
-IsShort octets = length octets ≤ 4194325
+-- a command has a spelling, which leaves room for the other fields in a record's body
+pub record IsShort (octets : List ℕ) : Type 0 where
+  pub some : 1 ≤ length octets
+  pub short : length octets ≤ 4194325
 
 -- what a node may be sent: positions and ballots in their ranges, and commands that a record can hold
 abbrev pub BodyFits : {C : Type 0} → (C → List ℕ) → Body C → Type 0

@@ -1,9 +1,9 @@
 -- A list of facts has one spelling, and no two lists have the same.
-use Rattle.std.proofs.Common.{◌==◌, false, zero, suc, ◌≡◌, ◌≢◌, ◌<◌, ◌^◌, ℕ, List, [], ◌∷◌, ◌++◌, length, drop, Option, Some, None, get_or, take, refl, sym, ◌∙◌, ap, arith, append_assoc}
+use Rattle.std.proofs.Common.{◌==◌, false, zero, suc, ◌≡◌, ◌≢◌, ◌<◌, ◌≤◌, ◌^◌, ℕ, List, [], ◌∷◌, ◌++◌, length, drop, Option, Some, None, get_or, take, refl, sym, ◌∙◌, ap, arith, append_assoc}
 use Rattle.std.proofs.lemmas.List.{append-nil, drop_at, take_at}
 use Rattle.std.proofs.lemmas.Grind.{flat_map-append}
 use Rattle.std.specs.Int.{to_be_bytes, w64}
-use Rattle.ts_record.specs.Facts.{blob, spelling, spellings, IsPosition, IsBallot, Fits, AllFit, NoFact}
+use Rattle.ts_record.specs.Facts.{blob, spelling, spellings, IsPosition, IsBallot, IsBlob, Fits, AllFit, NoFact}
 use Rattle.ts_synod.specs.declared.message.Fact.{Fact}
 use Rattle.ts_synod.specs.declared.message.Fact.TheVariants.{Used, Promised, Took, Chosen}
 use Rattle.ts_record.proofs.Numbers.{one4, one8}
@@ -33,20 +33,13 @@ one_more octets before facts later body rest after fact so_far fits is kept = re
   kept = kept ∙ ap (λ l. l ++ fact ∷ []) so_far.kept ∙ append_assoc before so_far.more (fact ∷ []);
 }
 
-module _ {C : Type 0} (octets : C → List ℕ) (parsed : List ℕ → Option C) (reads : (c : C) → parsed (octets c) ≡ Some c) where
-  abbrev some_of : C → Option C → C
-  some_of d (Some c) = c
-  some_of d None = d
-
-  one_command : (c d : C) → octets c ≡ octets d → c ≡ d
-  one_command c d is = ap (some_of d) (sym (reads c) ∙ ap parsed is ∙ reads d)
-
+module _ {C : Type 0} (octets : C → List ℕ) (one_spelling : (c d : C) → 1 ≤ length (octets c) → octets c ≡ octets d → c ≡ d) where
   -- a blob and what follows it
-  blobs : (c d : C) (t u : List ℕ) → length (octets c) < 2 ^ 32 → length (octets d) < 2 ^ 32 → blob (octets c) ++ t ≡ blob (octets d) ++ u → (c ≡ d) × (t ≡ u)
+  blobs : (c d : C) (t u : List ℕ) → IsBlob (octets c) → IsBlob (octets d) → blob (octets c) ++ t ≡ blob (octets d) ++ u → (c ≡ d) × (t ≡ u)
   blobs c d t u small less is =
-      let n = one4 (length (octets c)) (length (octets d)) (octets c ++ t) (octets d ++ u) small less is in
+      let n = one4 (length (octets c)) (length (octets d)) (octets c ++ t) (octets d ++ u) small.short less.short is in
       let k = length (octets c) in (
-        one_command c d (sym (take_at (octets c) t k refl) ∙ ap (take k) n.rest ∙ take_at (octets d) u k (sym n.number)),
+        one_spelling c d small.some (sym (take_at (octets c) t k refl) ∙ ap (take k) n.rest ∙ take_at (octets d) u k (sym n.number)),
         sym (drop_at (octets c) t k refl) ∙ ap (drop k) n.rest ∙ drop_at (octets d) u k (sym n.number),
       )
 
@@ -116,7 +109,7 @@ module _ {C : Type 0} (octets : C → List ℕ) (parsed : List ℕ → Option C)
 
   -- the vote of a taken command isn't there
   pub no_took : (fields rest : List ℕ) → rest ≡ drop 4 fields
-      → ((ballot : ℕ) (command : C) (after : List ℕ) → IsBallot ballot → length (octets command) < 2 ^ 32 → rest ≡ to_be_bytes w64 ballot ++ blob (octets command) ++ after → ⊥) → NoFact octets (3 ∷ fields)
+      → ((ballot : ℕ) (command : C) (after : List ℕ) → IsBallot ballot → IsBlob (octets command) → rest ≡ to_be_bytes w64 ballot ++ blob (octets command) ++ after → ⊥) → NoFact octets (3 ∷ fields)
   no_took fields rest is none (Used r) after fits too = kinds 3 1 _ _ (omega arith) too
   no_took fields rest is none (Promised q d) after fits too = kinds 3 2 _ _ (omega arith) too
   no_took fields rest is none (Took q d e) after fits too = none d e after fits.1 fits.2 (is ∙ ap (drop 5) too)

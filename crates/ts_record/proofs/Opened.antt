@@ -1,5 +1,5 @@
 -- A pair of images opens to one list of facts, and what can't be read is in none that opens.
-use Rattle.std.proofs.Common.{◌≡◌, ◌⊎◌, inl, inr, ⊎_elim, ◌+◌, ℕ, Bool, true, false, cond, List, [], ◌∷◌, ◌++◌, length, map, take, drop, get_or, Option, Some, refl, sym, ◌∙◌, ap, subst, arith, append_assoc, length-append}
+use Rattle.std.proofs.Common.{◌≡◌, ◌⊎◌, ◌≤◌, inl, inr, ⊎_elim, ◌+◌, ℕ, Bool, true, false, cond, List, [], ◌∷◌, ◌++◌, length, map, take, drop, get_or, Option, Some, refl, sym, ◌∙◌, ap, subst, arith, append_assoc, length-append}
 use Rattle.std.proofs.lemmas.List.{take_at, drop_at}
 use Rattle.std.specs.List.{flat_map, AllByRecursion}
 use Rattle.ts_journal.specs.Images.{Header, head, Block, block, IsWhole, IsBody, Stands, InUse, Opens}
@@ -86,13 +86,13 @@ pub not_unreadable : {C : Type 0} (octets : C → List ℕ) (image : List ℕ) (
 not_unreadable octets image facts at h live bodies bad s are =
     ⊎_elim (λ e. not_at_gate octets image s.closed.0 bad.1 at bad.3 e.1) (λ g. not_at_block octets image bad.1 at bad.3 g) (met octets image bad.0 facts bad.1 h live bodies bad.2 s are)
 
-module _ {C : Type 0} (octets : C → List ℕ) (parsed : List ℕ → Option C) (reads : (c : C) → parsed (octets c) ≡ Some c) where
+module _ {C : Type 0} (octets : C → List ℕ) (one_spelling : (c d : C) → 1 ≤ length (octets c) → octets c ≡ octets d → c ≡ d) where
   one_grouping : (gs hs : List (List (Fact C))) → AllByRecursion (AllFit octets) gs → AllByRecursion (AllFit octets) hs → bodies_of octets gs ≡ bodies_of octets hs → gs ≡ hs
   one_grouping [] [] x y is = refl
   one_grouping [] (h ∷ hs) x y is = absurd (omega (arith, ap length is))
   one_grouping (g ∷ gs) [] x y is = absurd (omega (arith, ap length is))
   one_grouping (g ∷ gs) (h ∷ hs) x y is =
-      λ i. one_list octets parsed reads g h x.0 y.0 (ap (λ (l : List (List ℕ)). get_or l 0 []) is) i ∷ one_grouping gs hs x.1 y.1 (ap (drop 1) is) i
+      λ i. one_list octets one_spelling g h x.0 y.0 (ap (λ (l : List (List ℕ)). get_or l 0 []) is) i ∷ one_grouping gs hs x.1 y.1 (ap (drop 1) is) i
 
   -- bodies hold one list of facts
   pub one_meaning : (bodies others : List (List ℕ)) (facts more : List (Fact C)) → AreFacts octets bodies facts → AreFacts octets others more → bodies ≡ others → facts ≡ more

@@ -1,5 +1,5 @@
 -- A record after an open.
-use Rattle.std.proofs.Common.{◌≡◌, ◌⊎◌, inl, inr, ◌+◌, ℕ, cond, List, [], ◌∷◌, ◌++◌, map, drop, Option, Some, refl, sym, ◌∙◌, ap, subst, arith, append_assoc, length-append}
+use Rattle.std.proofs.Common.{◌≡◌, ◌⊎◌, ◌≤◌, inl, inr, ◌+◌, ℕ, cond, List, [], ◌∷◌, ◌++◌, length, map, drop, Option, Some, refl, sym, ◌∙◌, ap, subst, arith, append_assoc, length-append}
 use Rattle.std.specs.List.{flat_map}
 use Rattle.ts_disk.specs.Disk.{State, IsDurable, Call, Same}
 use Rattle.ts_journal.specs.Images.{head, Block, block}
@@ -66,12 +66,12 @@ keeps_of state octets j facts live other durable still read =
       read.0.are,
     )
 
-module _ {C : Type 0} (octets : C → List ℕ) (parsed : List ℕ → Option C) (reads : (c : C) → parsed (octets c) ≡ Some c) where
+module _ {C : Type 0} (octets : C → List ℕ) (one_spelling : (c d : C) → 1 ≤ length (octets c) → octets c ≡ octets d → c ≡ d) where
   -- where the pair opens to facts, these are read
   pub read_all : (choice : Choice) (a b : List ℕ) (facts others : List (Fact C)) (end : ℕ) → IsChosen choice a b → IsRead octets (cond choice.swapped b a) facts end → OpensTo octets others a b → facts ≡ others
   read_all choice a b facts others end chosen read opens =
       let s = stands_chosen choice.swapped choice.owner choice.stage opens.0 a b chosen.live chosen.other opens.1 in
-      read_is octets parsed reads (cond choice.swapped b a) facts others end s.0 s.1 opens.0 read s.2 opens.2
+      read_is octets one_spelling (cond choice.swapped b a) facts others end s.0 s.1 opens.0 read s.2 opens.2
 
 -- where the pair opens to facts, no fault but those of memory and device comes
 pub no_fault : {C : Type 0} (octets : C → List ℕ) (old_a old_b new_a new_b : State) (fault : Fault) (facts : List (Fact C)) → IsFault octets old_a old_b new_a new_b fault → OpensTo octets facts old_a.read old_b.read → (fault ≡ Memory) ⊎ (fault ≡ DiskFailed)

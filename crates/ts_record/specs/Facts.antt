@@ -37,9 +37,10 @@ pub record IsBallot (ballot : ℕ) : Type 0 where
   pub node_from : 1 ≤ ballot % 16
   pub node_to : ballot % 16 ≤ 9
 
--- its length can be written
-abbrev pub IsBlob : List ℕ → Type 0
-IsBlob octets = length octets < 2 ^ 32
+-- there are octets, and their length can be written
+pub record IsBlob (octets : List ℕ) : Type 0 where
+  pub some : 1 ≤ length octets
+  pub short : length octets < 2 ^ 32
 
 -- each field is in its range
 abbrev pub Fits : {C : Type 0} → (C → List ℕ) → Fact C → Type 0

@@ -1,15 +1,12 @@
 // How a command is written and read.
-ghost use Rattle.std.specs.Prelude.{◌≡◌, ◌++◌, ℕ, List, Option, Some, IfOk, OnOk};
+ghost use Rattle.std.specs.Prelude.{◌≡◌, ◌≤◌, ◌++◌, ℕ, List, length, IfOk, IfSome, IfNone, OnOk};
 
 use std::alloc::{AllocError, Global};
 
 /// A command that facts hold: it has one spelling, and nothing else is read as it.
 pub trait Codec: Drop {
-    /// The octets of a command.
+    /// The octets of a command, at least one; none where it has no spelling.
     ghost octets: { Self → List ℕ };
-
-    /// The command that octets are read as, if they are one.
-    ghost parsed: { List ℕ → Option Self };
 
     /// A copy, which equals the command.
     fn try_copy(&self, alloc: Global) -> Result<Self, AllocError>
@@ -19,13 +16,12 @@ pub trait Codec: Drop {
     fn write(&self, out: &mut Vec<u8>) -> Result<(), AllocError>
         ensures { OnOk result (out.new.items ≡ out.old.items ++ octets self.now) };
 
-    /// Reads a command from all of the octets. `None` where they are not one.
+    /// Reads a command from all of the octets. `None` exactly where they are not the octets of one.
     fn read(alloc: Global, source: &[u8]) -> Result<Option<Self>, AllocError>
-        ensures { IfOk result (λ command. command ≡ parsed source.now) };
+        ensures found { IfOk result (λ read. IfSome read (λ command. (1 ≤ length (octets command)) × (source.now ≡ octets command))) }
+        ensures none { IfOk result (λ read. IfNone read ((command : Self) → 1 ≤ length (octets command) → source.now ≡ octets command → ⊥)) };
 
-    /// What is written is read.
-    ghost reads_written: { (command : Self) → parsed (octets command) ≡ Some command };
-
-    /// What is read was written so.
-    ghost written_as_read: { (all : List ℕ) (command : Self) → parsed all ≡ Some command → octets command ≡ all };
+    /// No two commands have one spelling. It does nothing.
+    fn one_spelling()
+        ensures { (command other : Self) → 1 ≤ length (octets command) → octets command ≡ octets other → command ≡ other };
 }

@@ -129,6 +129,7 @@ fn vote_at<C: Codec>(alloc: Global, rest: &[u8]) -> Result<Option<(u64, C, usize
 fn took_at<C: Codec>(alloc: Global, fields: &[u8]) -> Result<Option<(Fact<C>, usize)>, AllocError>
     ensures { IfOk result (λ found. FactOrNot C.octets 3 fields.now found) }
 {
+    C::one_spelling();
     let Some(position) = position_at(fields) else {
         return Ok(None);
     };
@@ -184,6 +185,7 @@ pub(crate) fn read_facts<C: Codec>(
         × (body.now ≡ spellings C.octets more) × (facts.new.items ≡ facts.old.items ++ more)) }
     ensures none { IfOk result (λ found. found ≡ false → (more : List (Fact C)) → AllFit C.octets more → body.now ≡ spellings C.octets more → ⊥) }
 {
+    C::one_spelling();
     let mut rest = body;
     while !rest.is_empty() {
         let Some((fact, size)) = fact_at(alloc, rest)? else {

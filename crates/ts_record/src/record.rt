@@ -141,6 +141,7 @@ impl<D: Disk, C: Codec> Record<D, C> {
     {
         let mut a = a;
         let mut b = b;
+        C::one_spelling();
         match opened(alloc, &mut a, &mut b) {
             Ok(found) => {
                 if found.choice.swapped {

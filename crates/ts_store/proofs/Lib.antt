@@ -2,7 +2,8 @@ mod Blobs
 mod Identifiers
 mod Places
 mod Slots
-mod Held
+pub mod Held
 mod Changing
-mod Steps
+pub mod Steps
 mod Fields
+pub mod Spelled

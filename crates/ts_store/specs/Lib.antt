@@ -3,6 +3,7 @@ pub mod Changes
 pub mod Commands
 pub mod Ids
 pub mod Lists
+pub mod Octets
 pub mod Purposes
 pub mod Reading
 pub mod Store

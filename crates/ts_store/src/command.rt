@@ -134,6 +134,13 @@ impl Command {
         read_command(alloc, octets)
     }
 
+    /// Every command has a spelling: its fields are within their limits. Nothing is done.
+    pub fn has_spelling(&self)
+        ensures { Fits self.now }
+    {
+        has_spelling(self);
+    }
+
     /// The octets of the command, which are its one spelling.
     ///
     /// # Errors
@@ -143,7 +150,7 @@ impl Command {
         ensures spelled { IfOk result (λ octets. octets.items ≡ spelling self.now) }
         ensures fits { Fits self.now }
     {
-        has_spelling(self);
+        self.has_spelling();
         let mut octets = Vec::new(alloc);
         push_spelling(&mut octets, self)?;
         Ok(octets)

@@ -20,6 +20,7 @@
 //! | [`Purposes::new`] | `None` exactly where the list is longer than 16 or not strictly ascending |
 //! | [`Command::read`] | `found`, `only`: what is read is spelled so, and what is spelled so is read |
 //! | [`Command::octets`] | `spelled`: the spelling; `fits`: each command has one |
+//! | `impl ts_synod::Command`, `impl ts_record::Codec` for [`Command`] | a command is one of the protocol, and is kept in a record by its one spelling (`specs/Octets`) |
 //! | [`laws::one_spelling`] | no two commands have one spelling, and no two lists of octets are one command's |
 //! | [`Anchors::add`], [`Anchors::withdraw`], [`Anchors::set_purposes`] | the table after the command, or its refusal, by the definition (`specs/Anchors`); at an `Err` nothing changes |
 //! | [`Crls::put`], [`Crls::remove`], [`Tables::change`] | the same of a table of lists, and of all tables (`specs/Lists`, `specs/Tables`) |
@@ -42,6 +43,7 @@ mod anchor;
 #[cfg(test)]
 mod anchor_tests;
 mod anchors;
+mod codec;
 mod command;
 mod ids;
 pub mod laws;

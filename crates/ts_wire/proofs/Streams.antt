@@ -234,7 +234,7 @@ no_frame None f a e = absurd (cc e)
 no_frame (Some x) f a e = absurd (cc e)
 
 -- no frame stands where a stream ends
-frame_or_end : (x : Option FrameFault) (f : Frame) (after octets : List ℕ) → Fits f → octets ≡ spelling f ++ after → Ends x octets → ⊥
+pub frame_or_end : (x : Option FrameFault) (f : Frame) (after octets : List ℕ) → Fits f → octets ≡ spelling f ++ after → Ends x octets → ⊥
 frame_or_end None f after octets fit is e = no_frame None f after (sym (next_partial octets e) ∙ ap next is ∙ next_frame f after fit)
 frame_or_end (Some x) f after octets fit is e = by (next_fault x octets e)
   where

@@ -1,7 +1,0 @@
--- None of the keywords before is written so.
-use Rattle.std.proofs.Common.{◌≡◌, drop}
-use Rattle.trustd.specs.ExtensionWords.{keyword_named}
-use Rattle.trustd.proofs.keyword.keyword_named.Given as goal
-
-abbrev pub invariant-loop-keyword : goal.invariant-loop-keyword
-invariant-loop-keyword l = keyword_named l.keywords l.text ≡ keyword_named (drop l.keyword-index l.keywords) l.text

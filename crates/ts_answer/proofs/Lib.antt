@@ -1,0 +1,5 @@
+pub mod Bases
+pub mod Asking
+pub mod Settled
+pub mod OneReply
+pub mod Purposes

@@ -1,0 +1,167 @@
+-- A question has one reply over a store.
+use Rattle.std.proofs.Common.{◌≡◌, ◌∙◌, ◌≤◌, ◌+◌, ◌==◌, ℕ, zero, suc, List, [], ◌∷◌, Option, Some, None, Bool, true, false, length, map, refl, sym, ap, subst, arith, if◌then◌else◌}
+use Rattle.std.specs.Prelude.{unwrap_or, slice_get, nat_le, ◌&&◌}
+use Rattle.ts_path.specs.Conditions.{number_of}
+use Rattle.ts_path.specs.Chain.{Question}
+use Rattle.ts_path.specs.Verdict as path
+use Rattle.ts_path.specs.declared.verdict.Verdict.{Verdict}
+use Rattle.ts_path.specs.declared.verdict.Verdict.TheVariants as verdict
+use Rattle.ts_path.specs.declared.reason.Reason.{Reason as PathReason}
+use Rattle.ts_path.proofs.OneVerdict as one_verdict
+use Rattle.ts_search.specs.Search as search
+use Rattle.ts_search.specs.View.{Check}
+use Rattle.ts_search.specs.declared.answer.Answer.{Answer as SearchAnswer}
+use Rattle.ts_search.specs.declared.answer.Answer.TheVariants as found
+use Rattle.ts_search.proofs.OneAnswer as one_answer
+use Rattle.ts_question.specs.Reply as reply
+use Rattle.ts_question.specs.declared.reason.Reason.{Reason}
+use Rattle.ts_question.specs.declared.reason.Reason.TheVariants.{AnchorPurpose, Signature, TooEarly, Expired, Revoked, Undetermined, IssuerName, UnsupportedConstraint, NotPermitted, Excluded, PolicyRequired, MapsAny, NotCa, PathLength, KeyUsage, CriticalExtension, FinalPolicy, Purpose}
+use Rattle.ts_question.specs.declared.reply.Reply.{Reply}
+use Rattle.ts_question.specs.declared.reply.Reply.TheVariants.{Valid, Invalid, Found, NoPath, SearchLimit, NotYet, Malformed, NoAnchor, Limit}
+use Rattle.ts_store.specs.declared.anchor.TrustAnchor.{TrustAnchor as StoredAnchor}
+use Rattle.ts_store.specs.declared.command.Command.{Command}
+use Rattle.ts_store.specs.Store.{store_after}
+use Rattle.ts_store.specs.Tables.{Tables}
+use Rattle.ts_cert.specs.CertView.{certificate_in}
+use Rattle.ts_question.specs.declared.terms.Terms.{Terms}
+use Rattle.ts_question.specs.declared.question.Target.{Target}
+use Rattle.ts_question.specs.declared.question.Target.TheVariants as target
+use Rattle.ts_question.specs.Question.{Asked, Fits, are_certificates, are_terms, is_target}
+use Rattle.ts_question.specs.Reply.{Answered}
+use Rattle.ts_question.proofs.Lengths.{first_true, second_true}
+use Rattle.std.proofs.lemmas.Bool.{leb-true}
+use Rattle.ts_search.proofs.Takes.{length_map}
+use Rattle.ts_answer.specs.Asked.{chain_of, question_of, search_of}
+use Rattle.ts_store.specs.declared.outcome.Outcome.{Outcome}
+use Rattle.ts_node.specs.Run.{Group, Promised}
+use Rattle.ts_answer.specs.Laws.{AskTheSame, Headline, trust_store}
+use Rattle.ts_answer.specs.Machine.{IsAnswer}
+use Rattle.ts_answer.specs.Parts.{Unreadable, first_part, first_unreadable}
+use Rattle.ts_answer.specs.Reply.{code_in, oid_in, SaysReason, SaysVerdict, SaysSearch, IsChainReply, IsTargetReply, IsReplyBy, IsReply, with_id}
+
+-- ---- a reason is its number, its code and its object identifier
+
+abbrev reason_at : ℕ → Option ℕ → Option (List ℕ) → Reason
+reason_at n code oid =
+    if n == 5 then Revoked (unwrap_or code 0) else if n == 16 then CriticalExtension (unwrap_or oid [])
+    else if n == 1 then AnchorPurpose else if n == 2 then Signature else if n == 3 then TooEarly else if n == 4 then Expired
+    else if n == 6 then Undetermined else if n == 7 then IssuerName else if n == 8 then UnsupportedConstraint else if n == 9 then NotPermitted
+    else if n == 10 then Excluded else if n == 11 then PolicyRequired else if n == 12 then MapsAny else if n == 13 then NotCa
+    else if n == 14 then PathLength else if n == 15 then KeyUsage else if n == 17 then FinalPolicy else Purpose
+
+is_at : (r : Reason) → reason_at (reply.number_of r) (code_in r) (oid_in r) ≡ r
+is_at AnchorPurpose = refl
+is_at Signature = refl
+is_at TooEarly = refl
+is_at Expired = refl
+is_at (Revoked code) = refl
+is_at Undetermined = refl
+is_at IssuerName = refl
+is_at UnsupportedConstraint = refl
+is_at NotPermitted = refl
+is_at Excluded = refl
+is_at PolicyRequired = refl
+is_at MapsAny = refl
+is_at NotCa = refl
+is_at PathLength = refl
+is_at KeyUsage = refl
+is_at (CriticalExtension oid) = refl
+is_at FinalPolicy = refl
+is_at Purpose = refl
+
+one_reason : (a b : Reason) (r s : PathReason) → SaysReason a r → SaysReason b s → path.IsSameReason r s → a ≡ b
+one_reason a b r s x y same =
+    let n = x.number ∙ ap number_of same.0 ∙ sym y.number in
+    let c = x.code ∙ same.1 ∙ sym y.code in
+    let o = x.oid ∙ same.2 ∙ sym y.oid in
+    sym (is_at a) ∙ (λ i. reason_at (n i) (c i) (o i)) ∙ is_at b
+
+-- ---- a verdict and an answer are said by one reply
+
+one_said : (id other : List ℕ) (v w : Verdict) (a b : Reply) → id ≡ other → path.IsSame v w → SaysVerdict id v a → SaysVerdict other w b → a ≡ b
+one_said id other (verdict.Valid ps) (verdict.Invalid q s) a b is same x y = absurd same
+one_said id other (verdict.Invalid p r) (verdict.Valid qs) a b is same x y = absurd same
+one_said id other (verdict.Valid ps) (verdict.Valid qs) a b is same x y = valid a b x y
+  where
+    valid : (a b : Reply) → SaysVerdict id (verdict.Valid ps) a → SaysVerdict other (verdict.Valid qs) b → a ≡ b
+    valid (Valid anchor said) (Valid too more) x y = let e = x.0 ∙ is ∙ sym y.0 in let f = x.1 ∙ same ∙ sym y.1 in λ i. Valid (e i) (f i)
+    valid (Valid anchor said) b x y = absurd y
+    valid a b x y = absurd x
+one_said id other (verdict.Invalid p r) (verdict.Invalid q s) a b is same x y = invalid a b x y
+  where
+    invalid : (a b : Reply) → SaysVerdict id (verdict.Invalid p r) a → SaysVerdict other (verdict.Invalid q s) b → a ≡ b
+    invalid (Invalid place said) (Invalid too more) x y = let e = x.0 ∙ same.0 ∙ sym y.0 in let f = one_reason said more r s x.1 y.1 same.1 in λ i. Invalid (e i) (f i)
+    invalid (Invalid place said) b x y = absurd y
+    invalid a b x y = absurd x
+
+some_is : {A : Type 0} (d x y : A) (o : Option A) → o ≡ Some x → o ≡ Some y → x ≡ y
+some_is d x y o e f = ap (λ p. unwrap_or p d) (sym e ∙ f)
+
+one_found : (anchors : List StoredAnchor) (f g : SearchAnswer) (a b : Reply) → search.IsSame f g → SaysSearch anchors f a → SaysSearch anchors g b → a ≡ b
+one_found anchors (found.Found n chain ps) (found.Found m other qs) a b same x y = go a b x y
+  where
+    go : (a b : Reply) → SaysSearch anchors (found.Found n chain ps) a → SaysSearch anchors (found.Found m other qs) b → a ≡ b
+    go (Found anchor places said) (Found too there more) x y =
+        let e = some_is [] anchor too (slice_get (map (λ (s : StoredAnchor). s.id) anchors) n) x.0 (ap (slice_get (map (λ (s : StoredAnchor). s.id) anchors)) same.0 ∙ y.0) in
+        let f = x.1 ∙ ap (map suc) same.1 ∙ sym y.1 in
+        let g = x.2 ∙ same.2 ∙ sym y.2 in
+        λ i. Found (e i) (f i) (g i)
+    go (Found anchor places said) b x y = absurd y
+    go a b x y = absurd x
+one_found anchors found.NoPath found.NoPath a b same x y = go a b x y
+  where
+    go : (a b : Reply) → SaysSearch anchors found.NoPath a → SaysSearch anchors found.NoPath b → a ≡ b
+    go NoPath NoPath x y = refl
+    go NoPath b x y = absurd y
+    go a b x y = absurd x
+one_found anchors found.SearchLimit found.SearchLimit a b same x y = go a b x y
+  where
+    go : (a b : Reply) → SaysSearch anchors found.SearchLimit a → SaysSearch anchors found.SearchLimit b → a ≡ b
+    go SearchLimit SearchLimit x y = refl
+    go SearchLimit b x y = absurd y
+    go a b x y = absurd x
+one_found anchors f g a b same x y = absurd same
+
+-- ---- a question has one reply
+
+one_chain : (good : Check) (tables : Tables) (terms : Terms) (octets : List (List ℕ)) (o : Option StoredAnchor) (a b : Reply) → 1 ≤ length octets → IsChainReply good tables terms octets o a → IsChainReply good tables terms octets o b → a ≡ b
+one_chain good tables terms octets None a b some x y = x ∙ sym y
+one_chain good tables terms octets (Some stored) a b some x y =
+    let long : 1 ≤ length (chain_of octets) = omega (arith, some, length_map certificate_in octets) in
+    one_said stored.id stored.id x.0 y.0 a b refl (one_verdict.one_verdict (question_of good tables terms stored octets) x.0 y.0 long x.1 y.1) x.2 y.2
+
+long_chain : (most : ℕ) (octets : List (List ℕ)) → are_certificates most octets ≡ true → 1 ≤ length octets
+long_chain most octets is = leb-true 1 (length octets) (first_true (nat_le 1 (length octets)) (nat_le (length octets) most) (first_true (nat_le 1 (length octets) && nat_le (length octets) most) _ is))
+
+one_target : (good : Check) (tables : Tables) (terms : Terms) (t : Target) (a b : Reply) → is_target t ≡ true → IsTargetReply good tables terms t a → IsTargetReply good tables terms t b → a ≡ b
+one_target good tables terms (target.Chain anchor octets) a b is x y = one_chain good tables terms octets (with_id anchor tables.anchors) a b (long_chain 16 octets is) x y
+one_target good tables terms (target.Search octets) a b is x y =
+    one_found tables.anchors x.0 y.0 a b (one_answer.one_answer (search_of good tables terms octets) x.0 y.0 x.1 y.1) x.2 y.2
+
+one_reply_by : (good : Check) (tables : Tables) (q : Asked) (o : Option Unreadable) (a b : Reply) → is_target q.target ≡ true → IsReplyBy good tables q o a → IsReplyBy good tables q o b → a ≡ b
+one_reply_by good tables q (Some u) a b is x y = x ∙ sym y
+one_reply_by good tables q None a b is x y = one_target good tables q.terms q.target a b is x y
+
+-- k makes no difference
+at_any_k : (good : Check) (tables : Tables) (q p : Asked) (a : Reply) → AskTheSame q p → IsReply good tables p a → IsReply good tables q a
+unfolding first_part
+at_any_k good tables q p a same x = subst (λ (r : Asked). IsReply good tables r a) same x
+
+pub one_answer_of : (good : Check) (commands : List Command) (q p : Asked) (a b : Answered) → Fits q → AskTheSame q p → IsAnswer good commands q a → IsAnswer good commands p b → a ≡ b
+one_answer_of good commands q p a b fits same x y =
+    let tables = (store_after commands).tables in
+    let k = x.k ∙ sym y.k in
+    let r = one_reply_by good tables q (first_unreadable q) a.reply b.reply (second_true (are_terms q.terms) (is_target q.target) fits.within) x.reply (at_any_k good tables q p b.reply same y.reply) in
+    λ i. record { k = k i; reply = r i }
+
+-- ---- the headline
+
+pub the_headline : {D M : Type 0} (good : Check) (n : ℕ) (submitted : List Command) (s : Group D Command M Outcome Asked Answered) → Promised trust_store (IsAnswer good) n submitted s → Headline good n submitted s
+the_headline good n submitted s promised = record {
+  promised = promised;
+  equal = λ x y q p k a b fits same first second.
+      let f = promised.answered x q k a first in
+      let g = promised.answered y p k b second in
+      let e = promised.one k f.0 g.0 f.1 g.1 in
+      one_answer_of good g.0 q p a b fits same (subst (λ (cs : List Command). IsAnswer good cs q a) e f.2) g.2;
+}

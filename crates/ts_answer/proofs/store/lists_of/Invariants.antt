@@ -1,0 +1,7 @@
+use Rattle.std.proofs.Common.{◌≡◌, map, take, drop, suc, List, ℕ}
+use Rattle.ts_crl.specs.ListView.{crl_in}
+use Rattle.ts_answer.specs.Asked.{lists_in}
+use Rattle.ts_answer.proofs.store.lists_of.Given as goal
+
+abbrev pub invariant-loop-kept : goal.invariant-loop-kept
+invariant-loop-kept l = map crl_in l.lists.items ≡ lists_in (take l.kept-index l.stored)

@@ -1,0 +1,5 @@
+use Rattle.std.proofs.Common.{◌≡◌, map, take, drop, suc, List, ℕ}
+use Rattle.ts_answer.proofs.verdicts.policies_of.Given as goal
+
+abbrev pub invariant-loop-policy : goal.invariant-loop-policy
+invariant-loop-policy l = l.oids.items ≡ map (λ p. p.now) (take l.policy-index l.policies)

@@ -1,0 +1,7 @@
+-- What a store under a node holds: the check of signatures, and the commands that it took.
+use Rattle.std.specs.Prelude.{List}
+use Rattle.ts_store.specs.declared.command.Command.{Command}
+
+pub record Held (S : Type 0) : Type 0 where
+  pub check : S
+  pub commands : List Command

@@ -1,0 +1,36 @@
+-- What holds of questions that ask the same, and the headline: what holds of every run of nodes over the trust store.
+use Rattle.std.specs.Prelude.{◌≡◌, ℕ, List, Option}
+use Rattle.ts_synod.specs.Lists.{Has}
+use Rattle.ts_synod.specs.Store.{Store}
+use Rattle.ts_node.specs.Machine.{store_of}
+use Rattle.ts_node.specs.Run.{Exchange, Group, Promised}
+use Rattle.ts_node.specs.declared.input.Input.TheVariants.{Ask}
+use Rattle.ts_node.specs.declared.input.Reply.TheVariants as replies
+use Rattle.ts_search.specs.View.{Check}
+use Rattle.ts_question.specs.Question.{Asked, Fits}
+use Rattle.ts_question.specs.Reply.{Answered}
+use Rattle.ts_store.specs.Commands.{id_of}
+use Rattle.ts_store.specs.declared.command.Command.{Command}
+use Rattle.ts_store.specs.declared.outcome.Outcome.{Outcome}
+use Rattle.ts_answer.specs.Machine.{IsAnswer, outcome_after}
+
+-- two questions ask the same, apart from whether k is written or is the prefix
+abbrev pub AskTheSame : Asked → Asked → Type 0
+AskTheSame q p = p ≡ record { terms = record q.terms { k = p.terms.k }; target = q.target }
+
+-- the trust store as the state machine of the protocol (Paxos Made Simple 3)
+abbrev pub trust_store : Store Command Outcome (List Command) Asked (List Command)
+trust_store = store_of Asked id_of outcome_after
+
+-- the answer that was given to a question, after so many commands
+abbrev pub answered : Option ℕ → Asked → ℕ → Answered → Exchange Command Outcome Asked Answered
+answered at' q k a = record { input = Ask at' q; reply = replies.Answered k a }
+
+-- The headline, of a group of nodes after a run.
+-- `promised`: no two nodes have learned different commands at one position, and what is learned is chosen; every answer given at k is the one
+-- of path validation or of the search (RFC 5280 6.1, 6.3) over the store that the first k chosen commands make; each id is settled at its
+-- first position among the chosen commands, with the outcome there; each chosen command was submitted.
+-- `equal`: questions that ask the same at k got equal answers.
+pub record Headline {D M : Type 0} (good : Check) (n : ℕ) (submitted : List Command) (s : Group D Command M Outcome Asked Answered) : Type 0 where
+  pub promised : Promised trust_store (IsAnswer good) n submitted s
+  pub equal : (x y : Option ℕ) (q p : Asked) (k : ℕ) (a b : Answered) → Fits q → AskTheSame q p → Has s.given (answered x q k a) → Has s.given (answered y p k b) → a ≡ b

@@ -1,0 +1,90 @@
+-- The reply to a question over the tables of a store: why a part of it can't be read, or that its anchor is not in the store, or what
+-- path validation or the search answers.
+use Rattle.std.specs.Prelude.{◌≡◌, ℕ, suc, min, List, map, Option, Some, None, slice_get}
+use Rattle.std.specs.List.{find}
+use Rattle.std.specs.Str.{bytes_eq}
+use Rattle.ts_shape.specs.Fault.{code_of}
+use Rattle.ts_path.specs.Conditions.{number_of}
+use Rattle.ts_path.specs.Verdict as path
+use Rattle.ts_path.specs.declared.verdict.Verdict.{Verdict}
+use Rattle.ts_path.specs.declared.verdict.Verdict.TheVariants as verdict
+use Rattle.ts_path.specs.declared.reason.Reason.{Reason as PathReason}
+use Rattle.ts_search.specs.Search as search
+use Rattle.ts_search.specs.View.{Check}
+use Rattle.ts_search.specs.declared.answer.Answer.{Answer as SearchAnswer}
+use Rattle.ts_search.specs.declared.answer.Answer.TheVariants as found
+use Rattle.ts_question.specs.Question.{Asked}
+use Rattle.ts_question.specs.Reply as reply
+use Rattle.ts_question.specs.declared.terms.Terms.{Terms}
+use Rattle.ts_question.specs.declared.question.Target.{Target}
+use Rattle.ts_question.specs.declared.question.Target.TheVariants as target
+use Rattle.ts_question.specs.declared.reason.Reason.{Reason}
+use Rattle.ts_question.specs.declared.reason.Reason.TheVariants.{Revoked, CriticalExtension}
+use Rattle.ts_question.specs.declared.reply.Reply.{Reply}
+use Rattle.ts_question.specs.declared.reply.Reply.TheVariants.{Valid, Invalid, Found, NoPath, SearchLimit, Malformed, NoAnchor}
+use Rattle.ts_store.specs.Tables.{Tables}
+use Rattle.ts_store.specs.declared.anchor.TrustAnchor.{TrustAnchor as StoredAnchor}
+use Rattle.ts_answer.specs.Asked.{question_of, search_of}
+use Rattle.ts_answer.specs.Parts.{Unreadable, first_unreadable}
+
+-- ---- what a verdict is as a reply
+
+-- the code of a revocation, and the object identifier of an extension, where a reason says one
+abbrev pub code_in : Reason → Option ℕ
+code_in (Revoked code) = Some code
+code_in other = None
+
+abbrev pub oid_in : Reason → Option (List ℕ)
+oid_in (CriticalExtension oid) = Some oid
+oid_in other = None
+
+-- the reasons have one number, and say the same code and object identifier
+pub record SaysReason (said : Reason) (reason : PathReason) : Type 0 where
+  pub number : reply.number_of said ≡ number_of (path.condition_of reason)
+  pub code : code_in said ≡ path.code_of reason
+  pub oid : oid_in said ≡ path.oid_of reason
+
+-- the reply says this verdict on a chain under the anchor of this id
+abbrev pub SaysVerdict : List ℕ → Verdict → Reply → Type 0
+SaysVerdict id (verdict.Valid policies) (Valid anchor said) = (anchor ≡ id) × (said ≡ map (λ p. p.now) policies.items)
+SaysVerdict id (verdict.Invalid position reason) (Invalid place said) = (place ≡ position) × SaysReason said reason
+SaysVerdict id verdict other = ⊥
+
+-- The reply says this answer of a search. The anchor is named by its id; places count from 1, the leaf's.
+abbrev pub SaysSearch : List StoredAnchor → SearchAnswer → Reply → Type 0
+SaysSearch anchors (found.Found number chain policies) (Found anchor places said) =
+    (slice_get (map (λ a. a.id) anchors) number ≡ Some anchor) × (places ≡ map suc chain.items) × (said ≡ map (λ p. p.now) policies.items)
+SaysSearch anchors found.NoPath NoPath = Unit {0}
+SaysSearch anchors found.SearchLimit SearchLimit = Unit {0}
+SaysSearch anchors answer other = ⊥
+
+-- ---- the reply
+
+-- the anchor of this id
+abbrev pub with_id : List ℕ → List StoredAnchor → Option StoredAnchor
+with_id id anchors = find (λ a. bytes_eq a.id id) anchors
+
+-- the verdict of path validation, if the anchor is in the store
+abbrev pub IsChainReply : Check → Tables → Terms → List (List ℕ) → Option StoredAnchor → Reply → Type 0
+IsChainReply good tables terms certificates None reply = reply ≡ NoAnchor
+IsChainReply good tables terms certificates (Some stored) reply =
+    (v : Verdict) × path.IsVerdict (question_of good tables terms stored certificates) v × SaysVerdict stored.id v reply
+
+abbrev pub IsSearchReply : Check → Tables → Terms → List (List ℕ) → Reply → Type 0
+IsSearchReply good tables terms certificates reply =
+    (a : SearchAnswer) × search.IsAnswer (search_of good tables terms certificates) a × SaysSearch tables.anchors a reply
+
+abbrev pub IsTargetReply : Check → Tables → Terms → Target → Reply → Type 0
+IsTargetReply good tables terms (target.Chain anchor certificates) reply = IsChainReply good tables terms certificates (with_id anchor tables.anchors) reply
+IsTargetReply good tables terms (target.Search certificates) reply = IsSearchReply good tables terms certificates reply
+
+-- a place that four octets can't hold is the greatest that they can; no certificate has one
+abbrev pub malformed : Unreadable → Reply
+malformed u = Malformed u.index (code_of u.fault.kind) (min u.fault.at 4294967295)
+
+abbrev pub IsReplyBy : Check → Tables → Asked → Option Unreadable → Reply → Type 0
+IsReplyBy good tables q (Some u) reply = reply ≡ malformed u
+IsReplyBy good tables q None reply = IsTargetReply good tables q.terms q.target reply
+
+abbrev pub IsReply : Check → Tables → Asked → Reply → Type 0
+IsReply good tables q reply = IsReplyBy good tables q (first_unreadable q) reply

@@ -1,0 +1,34 @@
+-- What private clauses see of the parts of a question that were read, and of what path validation is lent.
+use Rattle.std.specs.Prelude.{◌≡◌, ℕ, List, map, Option, Some, None}
+use Rattle.ts_shape.specs.declared.fault.CertFault.{CertFault}
+use Rattle.ts_cert.specs.CertView.{cert_in, certificate_in}
+use Rattle.ts_constraint.specs.View.{bases_in}
+use Rattle.ts_crl.specs.ListView.{crl_in}
+use Rattle.ts_path.specs.Asked.{TrustAnchor}
+use Rattle.ts_path.specs.View.{asked_under}
+use Rattle.ts_path.specs.declared.inputs.Inputs.{Inputs}
+use Rattle.ts_revoke.specs.declared.crls.Crls.{Crls}
+use Rattle.ts_search.specs.View.{Check}
+use Rattle.ts_question.specs.declared.terms.Terms.{Terms}
+use Rattle.ts_answer.specs.declared.parts.Parts.{Parts}
+use Rattle.ts_answer.specs.declared.fault.PartFault.{PartFault}
+use Rattle.ts_answer.specs.declared.fault.PartFault.TheVariants as faults
+use Rattle.ts_answer.specs.Asked.{asked_with}
+use Rattle.ts_answer.specs.Parts.{Unreadable, base_of}
+
+-- the parts are those of the question
+pub record AreParts (terms : Terms) (octets : List (List ℕ)) (parts : Parts) : Type 0 where
+  pub permitted : bases_in parts.permitted.items ≡ map base_of terms.permitted_subtrees
+  pub excluded : bases_in parts.excluded.items ≡ map base_of terms.excluded_subtrees
+  pub certificates : map cert_in parts.certificates.items ≡ map certificate_in octets
+  pub policies : map (λ p. p.now) parts.policies.items ≡ terms.user_policies
+
+-- a part can't be read, unless memory was refused
+abbrev pub Says : PartFault → Option Unreadable → Type 0
+Says faults.Memory found = Unit {0}
+Says (faults.Unreadable index fault) found = found ≡ Some (record { index = index; fault = fault })
+
+-- the inputs ask what the terms do
+abbrev pub AreInputs : Terms → Inputs → Type 0
+AreInputs terms inputs = (good : Check) (crls : Crls) (anchor : TrustAnchor)
+    → asked_under inputs crls good anchor ≡ asked_with good (map crl_in crls.lists.now) (map crl_in crls.deltas.now) terms anchor

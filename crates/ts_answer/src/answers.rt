@@ -1,0 +1,156 @@
+//! The trust store under a node.
+
+ghost use Rattle.std.specs.Prelude.{◌≡◌, ◌<◌, ◌≤◌, ◌++◌, ◌∷◌, [], ℕ, List, length, take, Ok, IfOk, OnOk, OnErr};
+ghost use Rattle.ts_store.specs.Ids.{first_of};
+ghost use Rattle.ts_store.specs.Store.{store_after};
+ghost use Rattle.ts_question.specs.declared.reply.Reply.TheVariants.{NotYet};
+ghost use Rattle.ts_answer.specs.Machine.{IsAnswer, outcome_after};
+ghost use Rattle.ts_answer.specs.Reply.{IsReply};
+
+use crate::judging::reply_over;
+use std::alloc::{AllocError, Global};
+use std::marker::Model;
+use ts_question::{Answer, Question, Reply};
+use ts_sig::SignatureCheck;
+use ts_store::{Command, First, Outcome, Store};
+
+/// A trust store that keeps the commands that it took, and answers questions after any number of them.
+///
+/// A question about all commands is answered from the store as it is; for one about fewer the store is made again from the first of them.
+#[derive(Drop)]
+pub struct Answers<S> {
+    alloc: Global,
+    check: S,
+    commands: Vec<Command>,
+    store: Store,
+}
+
+impl<S> Model for Answers<S> {
+    ghost use Rattle.std.specs.Prelude.{◌≡◌, ◌≤◌, length};
+    ghost use Rattle.ts_store.specs.Store.{store_after};
+    ghost use Rattle.ts_answer.specs.Held.{Held};
+
+    ghost Value = { Held S };
+
+    ghost view = { λ a. record { check = a.check; commands = a.commands.items } };
+
+    ghost invariant = { λ a. (a.store ≡ store_after a.commands.items) × (a.store.taken ≡ length a.commands.items) × (length a.commands.items ≤ 1000000) };
+}
+
+/// The store after these commands.
+fn store_of(alloc: Global, commands: &[Command]) -> Result<Store, AllocError>
+    requires { length commands.now ≤ 1000000 }
+    ensures { IfOk result (λ store. store ≡ store_after commands.now) }
+{
+    let mut store = Store::new(alloc);
+    for command in commands {
+        let position = store.taken() + 1;
+        store.apply(position, command)?;
+    }
+    Ok(store)
+}
+
+/// An answer, each field of which is in its range. That the ranges are kept follows from the definition of a reply, and isn't proved here;
+/// what is out of range is refused as memory is.
+fn answer_of(k: u32, reply: Reply) -> Result<Answer, AllocError>
+    ensures { IfOk result (λ answer. answer ≡ record { k = k; reply = reply }) }
+{
+    match Answer::new(k, reply) {
+        Ok(answer) => Ok(answer),
+        Err(_) => Err(AllocError),
+    }
+}
+
+impl<S: SignatureCheck> Answers<S> {
+    /// A store that took no command. It owns the check of signatures.
+    pub fn new(alloc: Global, check: S) -> Answers<S>
+        ensures { result ≡ record { check = check; commands = [] } }
+    {
+        Answers {
+            alloc,
+            check,
+            commands: Vec::new(alloc),
+            store: Store::new(alloc),
+        }
+    }
+
+    /// Gives the check of signatures back.
+    pub fn close(self) -> S
+        ensures { result ≡ self.check }
+    {
+        let Answers {
+            alloc: _alloc,
+            check,
+            commands: _commands,
+            store: _store,
+        } = self;
+        check
+    }
+
+    /// How many commands were taken.
+    pub fn prefix(&self) -> u32
+        ensures { result ≡ length self.now.commands }
+    {
+        self.store.taken()
+    }
+
+    /// Takes the command of the next position, of which it keeps a copy, and answers what it came to.
+    ///
+    /// # Errors
+    ///
+    /// Memory that is refused. Nothing is changed then.
+    pub fn push(&mut self, command: &Command) -> Result<Outcome, AllocError>
+        requires { length self.old.commands < 1000000 }
+        ensures outcome { IfOk result (λ outcome. outcome ≡ outcome_after self.old.commands command.now) }
+        ensures pushed { OnOk result (self.new.commands ≡ self.old.commands ++ command.now ∷ []) }
+        ensures refused { OnErr result (self.new.commands ≡ self.old.commands) }
+        ensures check { self.new.check ≡ self.old.check }
+    {
+        let copy = command.try_copy(self.alloc)?;
+        self.commands.push(copy)?;
+        let position = self.store.taken() + 1;
+        match self.store.apply(position, command) {
+            Ok(outcome) => Ok(outcome),
+            Err(error) => {
+                let _copy = self.commands.pop();
+                Err(error)
+            }
+        }
+    }
+
+    /// The first command that had an id: its position, and what it came to.
+    pub fn settled(&self, id: &[u8; 16]) -> Option<First>
+        ensures { result ≡ first_of id.now (store_after self.now.commands).ids }
+    {
+        self.store.first(id)
+    }
+
+    /// The reply after the first k commands.
+    fn reply(&self, k: u32, question: &Question) -> Result<Reply, AllocError>
+        requires { k ≤ length self.now.commands }
+        ensures { IfOk result (IsReply (S.accepts self.now.check) (store_after (take k self.now.commands)).tables question.now) }
+    {
+        if k == self.store.taken() {
+            return reply_over(self.alloc, &self.check, self.store.tables(), question);
+        }
+        let store = store_of(self.alloc, &self.commands[..k as usize])?;
+        reply_over(self.alloc, &self.check, store.tables(), question)
+    }
+
+    /// The answer to a question after the first k commands; `NotYet` with their number exactly where fewer were taken.
+    ///
+    /// # Errors
+    ///
+    /// Memory that is refused.
+    pub fn answer(&self, k: u32, question: &Question) -> Result<Answer, AllocError>
+        ensures answer { k ≤ length self.now.commands → IfOk result (IsAnswer (S.accepts self.now.check) (take k self.now.commands) question.now) }
+        ensures not_yet { length self.now.commands < k → IfOk result (λ answer. answer ≡ record { k = k; reply = NotYet (length self.now.commands) }) }
+    {
+        let prefix = self.prefix();
+        if k > prefix {
+            return answer_of(k, Reply::NotYet { prefix });
+        }
+        let reply = self.reply(k, question)?;
+        answer_of(k, reply)
+    }
+}

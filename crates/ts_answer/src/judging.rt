@@ -1,0 +1,208 @@
+//! A question is answered over the tables of a store.
+
+ghost use Rattle.std.specs.Prelude.{◌≡◌, ◌≤◌, true, List, ℕ, length, map, IfOk};
+ghost use Rattle.ts_cert.specs.CertView.{cert_in};
+ghost use Rattle.ts_path.specs.Verdict.{IsVerdict};
+ghost use Rattle.ts_path.specs.View.{anchor_in};
+ghost use Rattle.ts_search.specs.Search.{IsAnswer};
+ghost use Rattle.ts_question.specs.declared.question.Target.TheVariants.{Chain, Search};
+ghost use Rattle.ts_constraint.specs.View.{bases_in};
+ghost use Rattle.ts_question.specs.Question.{is_target};
+ghost use Rattle.ts_answer.specs.Parts.{base_of, certificates_of, first_part};
+ghost use Rattle.ts_answer.specs.Asked.{chain_of, question_of, search_of, trust_anchor};
+ghost use Rattle.ts_answer.specs.Reply.{IsReply, IsReplyBy, IsTargetReply};
+ghost use Rattle.ts_answer.specs.Trusted.{trusted_in};
+ghost use Rattle.ts_answer.specs.View.{AreInputs, AreParts};
+
+use crate::fault::PartFault;
+use crate::parts::{Parts, read_parts};
+use crate::store::{anchor_of, anchors_of, lists_of, trusted_of};
+use crate::trusted::Trusted;
+use crate::verdicts::{malformed, reply_of_search, reply_of_verdict};
+use std::alloc::{AllocError, Global};
+use ts_cert::Cert;
+use ts_name::Subtree;
+use ts_path::{Anchor, Inputs, Verdict, validate};
+use ts_question::{OctetStrings, Question, Reply, Target, Terms};
+use ts_revoke::Crls;
+use ts_search::{Answer as SearchAnswer, search};
+use ts_sig::SignatureCheck;
+use ts_store::Tables;
+use ts_time::Moment;
+
+/// The inputs of path validation that a question's terms say, of which policies and subtrees were read.
+fn inputs_of<'a>(
+    terms: &'a Terms,
+    policies: &'a [&'a [u8]],
+    permitted: &'a [Subtree<'a>],
+    excluded: &'a [Subtree<'a>],
+) -> Inputs<'a>
+    requires policies { map (λ p. p.now) policies.now ≡ terms.now.user_policies }
+    requires permitted { bases_in permitted.now ≡ map base_of terms.now.permitted_subtrees }
+    requires excluded { bases_in excluded.now ≡ map base_of terms.now.excluded_subtrees }
+    ensures { AreInputs terms.now result }
+{
+    let purpose = match &terms.purpose {
+        Some(purpose) => Some(purpose.as_ref().content),
+        None => None,
+    };
+    Inputs {
+        moment: Moment(terms.moment),
+        purpose,
+        user_policies: policies,
+        explicit_policy: terms.flags.explicit_policy,
+        inhibit_policy_mapping: terms.flags.inhibit_policy_mapping,
+        inhibit_any_policy: terms.flags.inhibit_any_policy,
+        permitted_subtrees: permitted,
+        excluded_subtrees: excluded,
+        hard: terms.flags.hard,
+        use_deltas: terms.flags.use_deltas,
+    }
+}
+
+/// The verdict on a chain under an anchor, over the lists of a store.
+fn verdict_under<'a, S: SignatureCheck>(
+    alloc: Global,
+    check: &S,
+    tables: &Tables,
+    anchor: &Anchor<'a>,
+    chain: &[Cert<'a>],
+    inputs: &Inputs<'a>,
+) -> Result<Verdict<'a>, AllocError>
+    requires some { 1 ≤ length chain.now }
+    requires few { length chain.now ≤ 16 }
+    ensures { (terms : _) (stored : _) (octets : _) → AreInputs terms inputs.now → anchor_in anchor.now ≡ trust_anchor stored → map cert_in chain.now ≡ chain_of octets
+        → IfOk result (IsVerdict (question_of (S.accepts check.now) tables.now terms stored octets)) }
+{
+    let lists = lists_of(alloc, tables.crls())?;
+    let deltas = lists_of(alloc, tables.deltas())?;
+    let crls = Crls {
+        lists: &lists,
+        deltas: &deltas,
+    };
+    let verdict = validate(alloc, anchor, chain, inputs, &crls, check)?;
+    Ok(verdict)
+}
+
+/// The reply to a question about a chain, of which the parts were read.
+fn chain_reply<'a, S: SignatureCheck>(
+    alloc: Global,
+    check: &S,
+    tables: &'a Tables,
+    id: &[u8; 32],
+    terms: &'a Terms,
+    parts: Parts<'a>,
+) -> Result<Reply, AllocError>
+    requires some { 1 ≤ length parts.certificates.items }
+    requires few { length parts.certificates.items ≤ 16 }
+    requires read { (octets : List (List ℕ)) × AreParts terms.now octets parts }
+    ensures { (octets : List (List ℕ)) → AreParts terms.now octets parts.entry → IfOk result (IsTargetReply (S.accepts check.now) tables.now terms.now (Chain id.now octets)) }
+{
+    let Some(stored) = anchor_of(tables.anchors(), id) else {
+        return Ok(Reply::NoAnchor);
+    };
+    let trusted = Trusted::of(stored);
+    let anchor = trusted.anchor();
+    let inputs = inputs_of(terms, &parts.policies, &parts.permitted, &parts.excluded);
+    let chain = parts.certificates.as_slice();
+    let verdict = verdict_under(alloc, check, tables, &anchor, chain, &inputs)?;
+    let reply = reply_of_verdict(alloc, stored.id, verdict)?;
+    Ok(reply)
+}
+
+/// The answer of the search through a pool, over the lists of a store.
+fn found_under<'a, S: SignatureCheck>(
+    alloc: Global,
+    check: &S,
+    tables: &Tables,
+    trusted: &'a [Trusted<'a>],
+    certificates: &[Cert<'a>],
+    inputs: &Inputs<'a>,
+) -> Result<SearchAnswer<'a>, AllocError>
+    requires some { 1 ≤ length certificates.now }
+    requires few { length certificates.now ≤ 33 }
+    ensures { (terms : _) (octets : _) → AreInputs terms inputs.now → map trusted_in trusted.now ≡ map trust_anchor tables.now.anchors → map cert_in certificates.now ≡ chain_of octets
+        → IfOk result (IsAnswer (search_of (S.accepts check.now) tables.now terms octets)) }
+{
+    let lists = lists_of(alloc, tables.crls())?;
+    let deltas = lists_of(alloc, tables.deltas())?;
+    let crls = Crls {
+        lists: &lists,
+        deltas: &deltas,
+    };
+    let anchors = anchors_of(alloc, trusted)?;
+    let [leaf, pool @ ..] = certificates else {
+        unreachable!()
+    };
+    let answer = search(alloc, leaf, pool, &anchors, inputs, &crls, check)?;
+    Ok(answer)
+}
+
+/// The reply to a question about a search, of which the parts were read.
+fn search_reply<'a, S: SignatureCheck>(
+    alloc: Global,
+    check: &S,
+    tables: &'a Tables,
+    terms: &'a Terms,
+    parts: Parts<'a>,
+) -> Result<Reply, AllocError>
+    requires some { 1 ≤ length parts.certificates.items }
+    requires few { length parts.certificates.items ≤ 33 }
+    requires read { (octets : List (List ℕ)) × AreParts terms.now octets parts }
+    ensures { (octets : List (List ℕ)) → AreParts terms.now octets parts.entry → IfOk result (IsTargetReply (S.accepts check.now) tables.now terms.now (Search octets)) }
+{
+    let Parts {
+        permitted,
+        excluded,
+        certificates,
+        policies,
+    } = parts;
+    let inputs = inputs_of(terms, &policies, &permitted, &excluded);
+    let trusted = trusted_of(alloc, tables.anchors())?;
+    let answer = found_under(alloc, check, tables, &trusted, &certificates, &inputs)?;
+    let reply = reply_of_search(alloc, tables.anchors(), answer)?;
+    Ok(reply)
+}
+
+/// The reply to a question about these certificates.
+fn target_reply<'a, S: SignatureCheck>(
+    alloc: Global,
+    check: &S,
+    tables: &'a Tables,
+    terms: &'a Terms,
+    target: &'a Target,
+    certificates: &'a OctetStrings,
+) -> Result<Reply, AllocError>
+    requires same { certificates.now ≡ certificates_of target.now }
+    requires within { is_target target.now ≡ true }
+    ensures { IfOk result (IsReplyBy (S.accepts check.now) tables.now (record { terms = terms.now; target = target.now }) (first_part terms.now certificates.now)) }
+{
+    match read_parts(alloc, terms, certificates) {
+        Ok(parts) => match target {
+            Target::Chain { anchor, .. } => {
+                chain_reply(alloc, check, tables, anchor, terms, parts)
+            }
+            Target::Search { .. } => search_reply(alloc, check, tables, terms, parts),
+        },
+        Err(PartFault::Unreadable { index, fault }) => Ok(malformed(index, fault)),
+        Err(PartFault::Memory) => Err(AllocError),
+    }
+}
+
+/// The reply to a question over the tables of a store.
+pub(crate) fn reply_over<S: SignatureCheck>(
+    alloc: Global,
+    check: &S,
+    tables: &Tables,
+    question: &Question,
+) -> Result<Reply, AllocError>
+    ensures { IfOk result (IsReply (S.accepts check.now) tables.now question.now) }
+{
+    let terms = question.terms();
+    let target = question.target();
+    match target {
+        Target::Chain { certificates, .. } | Target::Search { certificates } => {
+            target_reply(alloc, check, tables, terms, target, certificates)
+        }
+    }
+}

@@ -1,0 +1,42 @@
+//! The trust store under a node: commands are taken, and questions are answered after any number of them.
+//!
+//! ```text
+//! let mut answers = Answers::new(alloc, check);             // it owns the check of signatures
+//! let outcome = answers.push(&command)?;                    // Applied, Repeated(position) or Refused(why)
+//! let answer = answers.answer(k, &question)?;               // over the store after the first k commands
+//! let node = ts_node::Node::open(alloc, a, b, answers)?;    // Answers is the state machine of a node
+//! ```
+//!
+//! The reply to a question over a store is, in this order: `Malformed`, with the first part that can't be read (the initial subtrees, which
+//! have index 0, and then the certificates, counted from 1) and the first rule that it breaks; `NoAnchor`, where a chain's anchor is not in
+//! the store; and else what path validation or the search answers (`specs/Reply`).
+//!
+//! | Call | Clauses |
+//! |---|---|
+//! | [`Answers::new`], [`Answers::close`], [`Answers::prefix`] | no commands; the check, given back; how many commands were taken |
+//! | [`Answers::push`] | `outcome`: that of the definition; `pushed`; `refused`: at an error nothing changes; `check` |
+//! | [`Answers::settled`] | the first command of an id, and what it came to |
+//! | [`Answers::answer`] | `answer`: the reply after the first k commands (`IsAnswer`, `specs/Machine`); `not_yet`: exactly where fewer were taken |
+//! | `impl ts_node::Machine<Command> for Answers<S>` | those of the trait: what a node is proved over |
+//! | [`is_deliverable`] | whether a node takes a message |
+//! | [`laws::one_answer`] | questions that ask the same have one answer after a list of commands |
+//! | [`laws::headline`] | over every run of nodes: agreement, and every answer at k is the one over the store of the first k chosen commands |
+//!
+//! Memory that is refused is answered as `AllocError`.
+#![tactic(auto)]
+
+mod answers;
+mod deliverable;
+mod fault;
+mod judging;
+pub mod laws;
+mod machine;
+mod parts;
+mod store;
+#[cfg(test)]
+mod tests;
+mod trusted;
+mod verdicts;
+
+pub use answers::Answers;
+pub use deliverable::is_deliverable;

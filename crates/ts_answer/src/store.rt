@@ -1,0 +1,65 @@
+//! What path validation is lent of a store.
+
+ghost use Rattle.std.specs.Prelude.{◌≡◌, map, option_map, IfOk};
+ghost use Rattle.ts_crl.specs.ListView.{crl_in};
+ghost use Rattle.ts_path.specs.View.{anchor_in};
+ghost use Rattle.ts_answer.specs.Asked.{lists_in, trust_anchor};
+ghost use Rattle.ts_answer.specs.Reply.{with_id};
+ghost use Rattle.ts_answer.specs.Trusted.{trusted_in};
+
+use crate::trusted::Trusted;
+use std::alloc::{AllocError, Global};
+use ts_crl::Crl;
+use ts_path::Anchor;
+use ts_store::{StoredCrl, TrustAnchor};
+
+/// The lists, lent. None is read again.
+pub(crate) fn lists_of(alloc: Global, stored: &[StoredCrl]) -> Result<Vec<Crl<'_>>, AllocError>
+    ensures { IfOk result (λ lists. map crl_in lists.items ≡ lists_in stored.now) }
+{
+    let mut lists = Vec::new(alloc);
+    for kept in stored {
+        lists.push(kept.crl.view())?;
+    }
+    Ok(lists)
+}
+
+/// The anchor of this id, if it is in the store.
+pub(crate) fn anchor_of<'a>(anchors: &'a [TrustAnchor], id: &[u8]) -> Option<&'a TrustAnchor>
+    ensures { option_map (λ a. a.now) result ≡ with_id id.now anchors.now }
+{
+    for anchor in anchors {
+        if anchor.id.as_slice() == id {
+            return Some(anchor);
+        }
+    }
+    None
+}
+
+/// The anchors of the store, lent. No certificate is read again.
+pub(crate) fn trusted_of(
+    alloc: Global,
+    stored: &[TrustAnchor],
+) -> Result<Vec<Trusted<'_>>, AllocError>
+    ensures { IfOk result (λ trusted. map trusted_in trusted.items ≡ map trust_anchor stored.now) }
+{
+    let mut trusted = Vec::new(alloc);
+    for anchor in stored {
+        trusted.push(Trusted::of(anchor))?;
+    }
+    Ok(trusted)
+}
+
+/// The anchors, as path validation takes them.
+pub(crate) fn anchors_of<'a>(
+    alloc: Global,
+    trusted: &'a [Trusted<'a>],
+) -> Result<Vec<Anchor<'a>>, AllocError>
+    ensures { IfOk result (λ anchors. map anchor_in anchors.items ≡ map trusted_in trusted.now) }
+{
+    let mut anchors = Vec::new(alloc);
+    for anchor in trusted {
+        anchors.push(anchor.anchor())?;
+    }
+    Ok(anchors)
+}

@@ -1,0 +1,147 @@
+//! Verdicts and answers of a search, as replies.
+
+ghost use Rattle.std.specs.Prelude.{◌≡◌, ◌≤◌, suc, true, Some, map, slice_get, length, IfOk, IfSome};
+ghost use Rattle.std.specs.List.{list_all};
+ghost use Rattle.ts_answer.specs.Parts.{unreadable};
+ghost use Rattle.ts_answer.specs.Reply.{SaysReason, SaysSearch, SaysVerdict, malformed as malformed_of};
+
+use std::alloc::{AllocError, Global};
+use ts_der::{Oid, OidRef};
+use ts_path::{Reason as PathReason, Verdict};
+use ts_question::{Oids, Places, Reason, Reply, identifier};
+use ts_search::Answer as SearchAnswer;
+use ts_shape::CertFault;
+use ts_store::TrustAnchor;
+
+/// The reply to a question of which a part can't be read.
+pub(crate) fn malformed(index: u8, fault: CertFault) -> Reply
+    ensures { result ≡ malformed_of (unreadable index fault) }
+{
+    Reply::Malformed {
+        index,
+        fault: fault.kind.code(),
+        place: fault.at.min(u32::MAX as usize) as u32,
+    }
+}
+
+/// An object identifier with memory of its own.
+fn owned(alloc: Global, oid: OidRef<'_>) -> Result<Oid, AllocError>
+    ensures { IfOk result (λ copy. copy ≡ oid.entry.content.now) }
+{
+    Oid::from_oid(alloc, oid)
+}
+
+/// A reason, with memory of its own.
+fn reason_of(alloc: Global, reason: &PathReason<'_>) -> Result<Reason, AllocError>
+    ensures { IfOk result (λ said. SaysReason said reason.now) }
+{
+    Ok(match reason {
+        PathReason::AnchorPurpose => Reason::AnchorPurpose,
+        PathReason::Signature => Reason::Signature,
+        PathReason::TooEarly => Reason::TooEarly,
+        PathReason::Expired => Reason::Expired,
+        PathReason::Revoked(code) => Reason::Revoked(*code),
+        PathReason::Undetermined => Reason::Undetermined,
+        PathReason::IssuerName => Reason::IssuerName,
+        PathReason::UnsupportedConstraint => Reason::UnsupportedConstraint,
+        PathReason::NotPermitted => Reason::NotPermitted,
+        PathReason::Excluded => Reason::Excluded,
+        PathReason::PolicyRequired => Reason::PolicyRequired,
+        PathReason::MapsAny => Reason::MapsAny,
+        PathReason::NotCa => Reason::NotCa,
+        PathReason::PathLength => Reason::PathLength,
+        PathReason::KeyUsage => Reason::KeyUsage,
+        PathReason::CriticalExtension(oid) => Reason::CriticalExtension(owned(alloc, *oid)?),
+        PathReason::FinalPolicy => Reason::FinalPolicy,
+        PathReason::Purpose => Reason::Purpose,
+    })
+}
+
+/// Accepted policies, with memory of their own. Each is an object identifier, since it was read as one; no clause of a lower crate says
+/// so, and what is none is refused as memory is.
+fn policies_of(alloc: Global, policies: &[&[u8]]) -> Result<Oids, AllocError>
+    ensures { IfOk result (λ said. said ≡ map (λ p. p.now) policies.now) }
+{
+    let mut oids = Vec::new(alloc);
+    for policy in policies {
+        let Some(oid) = identifier(policy) else {
+            return Err(AllocError);
+        };
+        oids.push(owned(alloc, oid)?)?;
+    }
+    Ok(Oids::new(oids))
+}
+
+/// A verdict on a chain under the anchor of this id, as a reply.
+pub(crate) fn reply_of_verdict(
+    alloc: Global,
+    anchor: [u8; 32],
+    verdict: Verdict<'_>,
+) -> Result<Reply, AllocError>
+    ensures { IfOk result (λ reply. SaysVerdict anchor verdict.entry reply) }
+{
+    match verdict {
+        Verdict::Valid(policies) => {
+            let policies = policies_of(alloc, &policies)?;
+            Ok(Reply::Valid { anchor, policies })
+        }
+        Verdict::Invalid { position, reason } => {
+            let reason = reason_of(alloc, &reason)?;
+            Ok(Reply::Invalid { position, reason })
+        }
+    }
+}
+
+/// The places of a chain, counted from 1.
+fn places_of(alloc: Global, chain: &[u8]) -> Result<Places, AllocError>
+    ensures { IfOk result (λ places. places ≡ map suc chain.now) }
+{
+    let mut places = Vec::new(alloc);
+    for place in chain {
+        let Some(next) = place.checked_add(1) else {
+            return Err(AllocError);
+        };
+        places.push(next)?;
+    }
+    Ok(Places::new(places))
+}
+
+/// The id of the anchor of this number.
+fn id_at(anchors: &[TrustAnchor], number: usize) -> Option<[u8; 32]>
+    ensures { result ≡ slice_get (map (λ a. a.id) anchors.now) number }
+{
+    match anchors.get(number) {
+        Some(anchor) => Some(anchor.id),
+        None => None,
+    }
+}
+
+/// An answer of a search under these anchors, as a reply.
+pub(crate) fn reply_of_search(
+    alloc: Global,
+    anchors: &[TrustAnchor],
+    answer: SearchAnswer<'_>,
+) -> Result<Reply, AllocError>
+    ensures { IfOk result (λ reply. SaysSearch anchors.now answer.entry reply) }
+{
+    match answer {
+        SearchAnswer::Found {
+            anchor,
+            chain,
+            policies,
+        } => {
+            let Some(anchor) = id_at(anchors, anchor) else {
+                return Err(AllocError);
+            };
+            let places = places_of(alloc, &chain)?;
+            let policies = policies_of(alloc, &policies)?;
+            Ok(Reply::Found {
+                anchor,
+                places,
+                policies,
+            })
+        }
+        SearchAnswer::NoPath => Ok(Reply::NoPath),
+        SearchAnswer::SearchLimit => Ok(Reply::SearchLimit),
+    }
+}

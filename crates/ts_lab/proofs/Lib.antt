@@ -1,0 +1,4 @@
+pub mod Checked
+pub mod OneWord
+pub mod Reading
+pub mod Scanning

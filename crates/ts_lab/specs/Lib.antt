@@ -1,0 +1,5 @@
+pub mod Member
+pub mod Says
+pub mod Script
+pub mod Scanner
+pub mod Lab

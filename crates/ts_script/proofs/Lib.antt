@@ -1,0 +1,12 @@
+pub mod Answering
+pub mod Cutting
+pub mod Decoding
+pub mod DottedText
+pub mod Keywords
+pub mod ListReading
+pub mod SameParts
+pub mod OneCertificate
+pub mod OneList
+pub mod OneParts
+pub mod Lookup
+pub mod Spelling

@@ -1,0 +1,12 @@
+pub mod Pieces
+pub mod Words
+pub mod Parts
+pub mod ExtensionWords
+pub mod OwnedParts
+pub mod ListWords
+pub mod OwnedList
+pub mod Known
+pub mod Wrong
+pub mod CertLine
+pub mod CheckLine
+pub mod CrlLine

@@ -1,0 +1,64 @@
+//! The text of a verdict.
+
+ghost use Rattle.std.specs.Prelude.{IfOk, string_bytes};
+ghost use Rattle.ts_script.specs.CheckLine.{IsVerdictText};
+
+use std::alloc::{AllocError, Global};
+use ts_der::Reader;
+use ts_path::Verdict;
+
+/// The tag of an OBJECT IDENTIFIER (X.690 8.19).
+const OBJECT_IDENTIFIER: u8 = 0x06;
+
+/// The policies that are accepted, in dotted form, or `-` where there is none.
+fn print_policies(alloc: Global, policies: &[&[u8]]) -> Result<String, AllocError> {
+    let mut text = String::new(alloc);
+    if policies.is_empty() {
+        text.push_str(" -")?;
+    }
+    for policy in policies {
+        text.push_str(" ")?;
+        text.push_str(dotted(alloc, policy)?.as_str())?;
+    }
+    Ok(text)
+}
+
+/// The dotted form of an object identifier of these contents octets, of which there are at most 128.
+fn dotted(alloc: Global, content: &[u8]) -> Result<String, AllocError> {
+    let mut element = Vec::new(alloc);
+    let Ok(length) = u8::try_from(content.len()) else {
+        return Ok(String::new(alloc));
+    };
+    element.push(OBJECT_IDENTIFIER)?;
+    if length >= 128 {
+        element.push(0x81)?;
+    }
+    element.push(length)?;
+    element.extend_from_slice(content)?;
+    let mut reader = Reader::new(&element);
+    match reader.element(OBJECT_IDENTIFIER).and_then(|e| e.oid()) {
+        Ok(oid) => format!(in alloc; "{oid}"),
+        Err(_) => Ok(String::new(alloc)),
+    }
+}
+
+/// The words of a verdict.
+fn words_of(alloc: Global, verdict: &Verdict<'_>) -> Result<String, AllocError> {
+    match verdict {
+        Verdict::Valid(policies) => {
+            let policies = print_policies(alloc, policies)?;
+            format!(in alloc; "valid{policies}")
+        }
+        Verdict::Invalid { position, reason } => {
+            format!(in alloc; "invalid {position} {reason}")
+        }
+    }
+}
+
+/// The line of output for a verdict.
+pub fn print_verdict(alloc: Global, verdict: &Verdict<'_>) -> Result<String, AllocError>
+    ensures { IfOk result (λ text. IsVerdictText (string_bytes text)) }
+{
+    let words = words_of(alloc, verdict)?;
+    format!(in alloc; "check {words}\n")
+}

@@ -1,0 +1,118 @@
+-- Each reply that a call of a node gives has a frame.
+use Rattle.std.proofs.Common.{◌≡◌, refl, sym, subst, ℕ, ◌<◌, ◌≤◌, Bool, true, false, List, [], ◌∷◌, Option, Some, None, Result, Ok, Err, IfOk, length, arith, if◌then◌else◌}
+use Rattle.std.proofs.lemmas.Bool.{leb-false, leb-true}
+use Rattle.std.specs.Prelude.{nat_le}
+use Rattle.ts_disk.specs.Disk.{State}
+use Rattle.ts_synod.specs.declared.message.Fact.{Fact}
+use Rattle.ts_synod.specs.Config.{Config}
+use Rattle.ts_synod.specs.Force.{SameForce, log_of}
+use Rattle.ts_synod.specs.Laws.{node_with}
+use Rattle.ts_synod.specs.Log.{next_position, prefix}
+use Rattle.ts_synod.specs.Node as world
+use Rattle.ts_synod.specs.Proposer.{ProposerStep}
+use Rattle.ts_synod.specs.Store.{Settling, Store, settling}
+use Rattle.ts_store.specs.declared.command.Command.{Command}
+use Rattle.ts_store.specs.declared.outcome.Outcome.{Outcome}
+use Rattle.ts_question.specs.Question.{Asked}
+use Rattle.ts_question.specs.Reply.{Answered}
+use Rattle.ts_node.specs.declared.node.Node.{Node}
+use Rattle.ts_node.specs.declared.input.Input.{Input}
+use Rattle.ts_node.specs.declared.input.Input.TheVariants as inputs
+use Rattle.ts_node.specs.declared.input.Output.{Output}
+use Rattle.ts_node.specs.declared.input.NodeFault.{NodeFault}
+use Rattle.ts_node.specs.declared.input.Reply.{Reply}
+use Rattle.ts_node.specs.declared.input.Reply.TheVariants as replies
+use Rattle.ts_node.specs.Inputs.{IsReply}
+use Rattle.ts_node.specs.Node.{config, facts, volatile}
+use Rattle.ts_serve.specs.Replies.{HasFrame, IsWithin}
+use Rattle.ts_serve.specs.Turn.{IsCall}
+
+-- of the world's replies: a prefix that is not yet k is below it
+abbrev InRange : world.Reply Outcome Asked (List Command) → Type 0
+InRange (world.NotYet k question m) = (k ≤ 1000000) × (m < k)
+InRange other = Unit {0}
+
+bool_cases : {P : Type 0} (b : Bool) → (b ≡ true → P) → (b ≡ false → P) → P
+bool_cases true f g = f refl
+bool_cases false f g = g refl
+
+framed : (is_answer : List Command → Asked → Answered → Type 0) (r : Reply Outcome Answered) (w : world.Reply Outcome Asked (List Command)) → IsReply is_answer r w → InRange w → HasFrame r
+framed is_answer replies.Done w h i = tt
+framed is_answer (replies.Started p b) w h i = tt
+framed is_answer (replies.Settled p o) w h i = tt
+framed is_answer replies.Unknown w h i = tt
+framed is_answer (replies.Answered k a) w h i = tt
+framed is_answer (replies.Prefix m) w h i = tt
+framed is_answer (replies.Compacted p) w h i = tt
+framed is_answer (replies.NotYet k m) (world.NotYet at' q p) h i =
+    let P : ℕ → ℕ → Type 0 = λ x y. (x ≤ 1000000) × (y < x) in
+    subst (λ x. P x m) (sym h.0) (subst (λ y. P at' y) (sym h.1) i)
+framed is_answer (replies.NotYet k m) world.Done h i = absurd h
+framed is_answer (replies.NotYet k m) (world.Started p b) h i = absurd h
+framed is_answer (replies.NotYet k m) (world.Settled id p o) h i = absurd h
+framed is_answer (replies.NotYet k m) (world.Unknown id) h i = absurd h
+framed is_answer (replies.NotYet k m) (world.Answered a q v) h i = absurd h
+framed is_answer (replies.NotYet k m) (world.Prefix p) h i = absurd h
+framed is_answer (replies.NotYet k m) world.RoundsExhausted h i = absurd h
+framed is_answer (replies.NotYet k m) world.PositionsExhausted h i = absurd h
+
+module _ (store : Store Command Outcome (List Command) Asked (List Command)) where
+  chosen : (b : Bool) (k m : ℕ) (q : Asked) (v : List Command) → (b ≡ false → (k ≤ 1000000) × (m < k)) → InRange (if b then world.Answered k q v else world.NotYet k q m)
+  chosen true k m q v f = tt
+  chosen false k m q v f = f refl
+
+  within_prefix : (n : ℕ) → nat_le n n ≡ false → (n ≤ 1000000) × (n < n)
+  within_prefix n is = let bad : n < n = leb-false n n is in absurd (omega (arith, bad))
+
+  question_in_range : (cs : List Command) (k : Option ℕ) (q : Asked) → IsWithin (inputs.Ask k q) → InRange (world.on_question store cs k q)
+  question_in_range cs None q within = chosen (nat_le (length cs) (length cs)) (length cs) (length cs) q _ (within_prefix (length cs))
+  question_in_range cs (Some k) q within = chosen (nat_le k (length cs)) k (length cs) q _ (λ above. (leb-true k 1000000 within, leb-false k (length cs) above))
+
+  outcome_in_range : (id : List ℕ) (s : Option (Settling Outcome)) → InRange (world.outcome_reply store id s)
+  outcome_in_range id None = tt
+  outcome_in_range id (Some s) = tt
+
+  module _ (config : Config) (node : world.Node Command) (c : Command) where
+    start_in_range : (p b : ℕ) (step : Option (ProposerStep Command)) → InRange (world.start_reply store config node.volatile p b step).reply
+    start_in_range p b None = tt
+    start_in_range p b (Some step) = tt
+
+    position_in_range : (p : Option ℕ) → InRange (world.submit_at store config node c p).reply
+    position_in_range None = tt
+    position_in_range (Some p) = start_in_range p _ _
+
+    submit_in_range : (s : Option (Settling Outcome)) → InRange (world.submit_unless_settled store config node c s).reply
+    submit_in_range None = position_in_range (next_position (log_of node.facts))
+    submit_in_range (Some s) = tt
+
+module _ {D M B : Type 0} (state : D → State) (store : Store Command Outcome (List Command) Asked (List Command)) (basis : M → B) (is_answer : B → List Command → Asked → Answered → Type 0) where
+  itself : (fs : List (Fact Command)) → SameForce fs fs
+  itself fs = record { used = refl; promised = λ p. refl; taken = λ p. refl; learned = λ p. refl }
+
+  reply_framed : (old new : Node D Command M) (input : Input Command Asked) (output : Output Command Outcome Answered) → IsCall state store basis is_answer old input (Ok output) new → IsWithin input → old.kept.broken ≡ false → HasFrame output.reply
+  reply_framed old new (inputs.Deliver m) output call within whole =
+      framed (is_answer (basis old.machine)) output.reply world.Done (call.step whole (facts old) (m ∷ []) (world.Deliver 0) (itself (facts old)) refl).reply tt
+  reply_framed old new (inputs.Submit c) output call within whole =
+      framed (is_answer (basis old.machine)) output.reply _ (call.step whole (facts old) [] (world.Submit c) (itself (facts old)) refl).reply
+      (submit_in_range store (config old) (node_with (facts old) (volatile old)) c (settling store (prefix (log_of (facts old))) (store.id_of c)))
+  reply_framed old new (inputs.Ask k q) output call within whole =
+      framed (is_answer (basis old.machine)) output.reply _ (call.step whole (facts old) [] (world.Question k q) (itself (facts old)) (refl, refl)).reply
+      (question_in_range store (prefix (log_of (facts old))) k q within)
+  reply_framed old new (inputs.Outcome id) output call within whole =
+      framed (is_answer (basis old.machine)) output.reply _ (call.step whole (facts old) [] (world.Outcome id) (itself (facts old)) refl).reply
+      (outcome_in_range store id (settling store (prefix (log_of (facts old))) id))
+  reply_framed old new inputs.CatchUp output call within whole =
+      framed (is_answer (basis old.machine)) output.reply world.Done (call.step whole (facts old) [] world.CatchUp (itself (facts old)) tt).reply tt
+  reply_framed old new inputs.Status output call within whole =
+      framed (is_answer (basis old.machine)) output.reply _ (call.step whole (facts old) [] world.Status (itself (facts old)) tt).reply tt
+  reply_framed old new inputs.Compact output call within whole =
+      let rewrites = (call.compacts whole refl).0 in subst HasFrame (sym rewrites.reply) tt
+
+  -- a broken node answers no reply
+  has_frame : (old new : Node D Command M) (input : Input Command Asked) (output : Output Command Outcome Answered) → IsCall state store basis is_answer old input (Ok output) new → IsWithin input → HasFrame output.reply
+  has_frame old new input output call within =
+      bool_cases old.kept.broken (λ broken. (let h = call.broken broken in absurd (cc (h.0)))) (reply_framed old new input output call within)
+
+  pub all_framed : (old new : Node D Command M) (input : Input Command Asked) (result : Result (Output Command Outcome Answered) NodeFault) → IsCall state store basis is_answer old input result new → IsWithin input → IfOk result (λ output. HasFrame output.reply)
+  all_framed old new input (Ok output) call within = has_frame old new input output call within
+  all_framed old new input (Err fault) call within = tt

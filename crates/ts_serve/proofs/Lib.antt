@@ -1,0 +1,12 @@
+pub mod Writing
+pub mod Runs
+pub mod Steps
+pub mod Whole
+pub mod Outboxes
+pub mod Saying
+pub mod Commands
+pub mod Inputs
+pub mod Framing
+pub mod Exact
+pub mod Turns
+pub mod FirstOfId

@@ -1,0 +1,40 @@
+-- A call of the node was answered.
+use Rattle.std.proofs.Common.{◌∙◌, ap, ◌∷◌, [], ◌++◌, take, List}
+use Rattle.ts_synod.specs.declared.message.Message.{Message}
+use Rattle.ts_store.specs.declared.command.Command.{Command}
+use Rattle.ts_question.specs.Question.{Asked}
+use Rattle.ts_node.specs.Machine.{store_of}
+use Rattle.ts_wire.specs.declared.frame.Frame.{Frame}
+use Rattle.ts_serve.proofs.Framing.{all_framed}
+use Rattle.ts_serve.proofs.server.Server.handle.Goals as goal
+
+pub answer_of-frame-requires : goal.answer_of-frame-requires
+answer_of-frame-requires g c =
+    all_framed g.D.Disk.state (store_of Asked g.M.Machine.client_id g.M.Machine.outcome) g.M.Machine.basis g.M.Machine.is_answer c.args.self.now.node c.handle-called.new.self c.args.input.now c.handle-called.result
+    (record {
+      step = c.handle-called.ensures.step;
+      moments = c.handle-called.ensures.moments;
+      compacts = c.handle-called.ensures.compacts;
+      same_config = c.handle-called.ensures.config;
+      same_basis = c.handle-called.ensures.basis;
+      whole = c.handle-called.ensures.whole;
+      failed = c.handle-called.ensures.failed;
+      broken = c.handle-called.ensures.broken;
+    }) c.requires.within
+
+pub returns-clause-handled : goal.returns-clause-handled
+returns-clause-handled g c = record {
+  result = c.handle-called.result;
+  call = record {
+    step = c.handle-called.ensures.step;
+    moments = c.handle-called.ensures.moments;
+    compacts = c.handle-called.ensures.compacts;
+    same_config = c.handle-called.ensures.config;
+    same_basis = c.handle-called.ensures.basis;
+    whole = c.handle-called.ensures.whole;
+    failed = c.handle-called.ensures.failed;
+    broken = c.handle-called.ensures.broken;
+  };
+  said = ap (λ (f : Frame). f ∷ []) c.answer_of-frame.ensures.frame;
+  outbox = c.put.ensures ∙ ap (λ (l : List (Message Command)). take 256 (c.args.self.now.outbox ++ l)) c.answer_of-frame.ensures.messages;
+}

@@ -1,0 +1,16 @@
+-- Which frames are requests.
+use Rattle.std.specs.Prelude.{Bool, true, false}
+use Rattle.ts_wire.specs.declared.frame.Frame.{Frame}
+use Rattle.ts_wire.specs.declared.frame.Frame.TheVariants.{Done, Started, Settled, Answer, Unknown, NodeFault, FrameFault, Prefix}
+
+-- kinds 20 to 27 are what a server answers; the others are requests
+abbrev pub is_request : Frame → Bool
+is_request (Done count) = false
+is_request (Started position ballot) = false
+is_request (Settled position outcome) = false
+is_request (Answer answer) = false
+is_request Unknown = false
+is_request (NodeFault fault) = false
+is_request (FrameFault fault) = false
+is_request (Prefix prefix) = false
+is_request request = true

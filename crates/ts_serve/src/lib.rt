@@ -1,0 +1,54 @@
+//! A node, served: a stream of requests is answered, from octets to octets, and messages are carried between servers.
+//!
+//! ```text
+//! let mut server = Server::new(alloc, node)?;                 // refused, it gives the node back
+//! serve(&mut server, &mut reader, &mut writer)?;               // one stream
+//! listen(&mut server, &listener, 1_000_000)?;                  // connections, one after the other
+//! let mut peers = [ServerPeer::new(alloc, server), ..];        // peer i is node i
+//! let delivered = carry(alloc, &mut peers, 4)?;                // four rounds
+//! ```
+//!
+//! A request is a frame of kind 01 to 07 or 10 to 16 (`ts_wire`). Each but Take is handed to the node as an input, the node's messages
+//! go to the outbox, where the first 256 that wait stay and others are lost, and the answer is the node's reply: Done 0, Started,
+//! Settled, Unknown, Prefix, Answer, Done 0 or 1 for a step of a rewrite, or NodeFault. Take is answered with the outbox's messages as
+//! frames and Done with their count, and the outbox is empty then. A frame of kind 20 to 27 is no request: it is the fault Kind. A fault
+//! in a frame's place is answered with FrameFault, and ends the stream.
+//!
+//! | Call | Clauses |
+//! |---|---|
+//! | [`Server::new`], [`Server::close`] | the node, given back too where memory is refused |
+//! | [`serve`] | `served`: where the reader tells its octets, what is written is the text of the answers to the requests at the front of the stream, each a turn of the server (`specs/Turn`, in the words of `Node::handle`), and nothing else; Ok where that is all of the stream, `Cut` where less than a frame is left, `Frame` at the fault behind them, whose answer comes last; at another fault what is written is a front of such a text, and the server is after the requests that were taken (`specs/Stream`). `exact`: the requests are those among the frames that the stream splits into. `run`: whatever is read, the server is after a run of turns. `sound` |
+//! | [`listen`] | `run`, `sound`; `fault`: no fault but `Read` |
+//! | [`ServerPeer::exchange`](Peer::exchange) | `served`: the answers are those of `serve` to the whole stream |
+//! | [`TcpPeer::exchange`](Peer::exchange), [`carry`] | they end, and each peer can be asked again; what they carry and count is shown by tests |
+//!
+//! `serve` requires that the node is sound (`IsSound`), as each node that was opened is, and leaves it so. An answer that would be longer
+//! than a frame may be is written as NodeFault Memory (`specs/Text`); that no answer is so long is not proved. An interrupted read or
+//! write is tried again: each read counts towards the limit, and one answer is written in at most as many writes as a stream may have
+//! reads. `Read`, `Write` and `ReadLimit` come where the reader or the writer fails or the limit is met; no clause says so, since
+//! nothing tells whether a reader fails.
+#![tactic(auto)]
+
+mod carrying;
+mod fault;
+mod listening;
+mod outbox;
+mod peer;
+mod replies;
+mod sending;
+mod server;
+mod serving;
+#[cfg(test)]
+mod test_ids;
+#[cfg(test)]
+mod test_machine;
+#[cfg(test)]
+mod tests;
+
+pub use carrying::carry;
+pub use fault::ServeFault;
+pub use listening::listen;
+pub use outbox::MAX_WAITING;
+pub use peer::{Peer, ServerPeer, TcpPeer};
+pub use server::Server;
+pub use serving::{READ_LIMIT, serve};

@@ -1,0 +1,113 @@
+//! Answers are written.
+
+ghost use Rattle.std.specs.Prelude.{◌≡◌, ◌++◌, ◌∷◌, [], ◌⊎◌, OnOk, OnErr, IfOk, IfErr};
+ghost use Rattle.std.specs.Io.KnownBytes.{Appends, Keeps};
+ghost use Rattle.ts_wire.specs.declared.frame.Frame.TheVariants.{Done};
+ghost use Rattle.ts_serve.specs.Text.{AppendsFront, text, written};
+ghost use Rattle.ts_serve.specs.Steps.{Refuses};
+
+use crate::fault::ServeFault;
+use crate::serving::READ_LIMIT;
+use std::alloc::Global;
+use std::io::{ErrorKind, Write};
+use ts_wire::{Frame, FrameFault, NodeFault, WriteError, write_frame};
+
+/// The octets of an answer.
+fn octets_of(alloc: Global, frame: &Frame) -> Result<Vec<u8>, ServeFault>
+    ensures octets { IfOk result (λ octets. octets.items ≡ written frame.now) }
+    ensures fault { IfErr result (λ fault. fault ≡ ServeFault.Memory) }
+{
+    let mut octets = Vec::new(alloc);
+    match write_frame(alloc, &mut octets, frame) {
+        Ok(()) => return Ok(octets),
+        Err(WriteError::Memory) => return Err(ServeFault::Memory),
+        Err(WriteError::Length) => {}
+    }
+    let fault = Frame::NodeFault {
+        fault: NodeFault::Memory,
+    };
+    match write_frame(alloc, &mut octets, &fault) {
+        Ok(()) => Ok(octets),
+        Err(_) => Err(ServeFault::Memory),
+    }
+}
+
+/// Writes octets. An interrupted write is tried again.
+pub(crate) fn write_octets<W: Write>(writer: &mut W, octets: &[u8]) -> Result<(), ServeFault>
+    ensures written { OnOk result (Appends (W.contents writer.old) (W.contents writer.new) octets.now) }
+    ensures front { OnErr result (AppendsFront (W.contents writer.old) (W.contents writer.new) octets.now) }
+    ensures fault { IfErr result (λ fault. fault ≡ ServeFault.Write) }
+{
+    let mut rest = octets;
+    for _try in 0..READ_LIMIT {
+        if rest.is_empty() {
+            return Ok(());
+        }
+        match writer.write(rest) {
+            Ok(0) => return Err(ServeFault::Write),
+            Ok(count) => rest = &rest[count..],
+            Err(error) if error.kind() == ErrorKind::Interrupted => {}
+            Err(_) => return Err(ServeFault::Write),
+        }
+    }
+    Err(ServeFault::Write)
+}
+
+/// Writes an answer that is lent.
+fn send_lent<W: Write>(alloc: Global, writer: &mut W, frame: &Frame) -> Result<(), ServeFault>
+    ensures sent { OnOk result (Appends (W.contents writer.old) (W.contents writer.new) (text (frame.now ∷ []))) }
+    ensures front { OnErr result (AppendsFront (W.contents writer.old) (W.contents writer.new) (text (frame.now ∷ []))) }
+    ensures fault { IfErr result (λ fault. (fault ≡ ServeFault.Write) ⊎ (fault ≡ ServeFault.Memory)) }
+{
+    let octets = octets_of(alloc, frame)?;
+    write_octets(writer, octets.as_slice())
+}
+
+/// Writes an answer.
+pub(crate) fn send<W: Write>(alloc: Global, writer: &mut W, frame: Frame) -> Result<(), ServeFault>
+    ensures sent { OnOk result (Appends (W.contents writer.old) (W.contents writer.new) (text (frame ∷ []))) }
+    ensures front { OnErr result (AppendsFront (W.contents writer.old) (W.contents writer.new) (text (frame ∷ []))) }
+    ensures fault { IfErr result (λ fault. (fault ≡ ServeFault.Write) ⊎ (fault ≡ ServeFault.Memory)) }
+{
+    send_lent(alloc, writer, &frame)
+}
+
+/// Writes answers, one after another.
+pub(crate) fn send_all<W: Write>(
+    alloc: Global,
+    writer: &mut W,
+    frames: &[Frame],
+) -> Result<(), ServeFault>
+    ensures sent { OnOk result (Appends (W.contents writer.old) (W.contents writer.new) (text frames.now)) }
+    ensures front { OnErr result (AppendsFront (W.contents writer.old) (W.contents writer.new) (text frames.now)) }
+    ensures fault { IfErr result (λ fault. (fault ≡ ServeFault.Write) ⊎ (fault ≡ ServeFault.Memory)) }
+{
+    for frame in frames {
+        send_lent(alloc, writer, frame)?;
+    }
+    Ok(())
+}
+
+/// Hands on what a writer holds back.
+pub(crate) fn flush<W: Write>(writer: &mut W) -> Result<(), ServeFault>
+    ensures same { Keeps (W.contents writer.old) (W.contents writer.new) }
+    ensures fault { IfErr result (λ fault. fault ≡ ServeFault.Write) }
+{
+    match writer.flush() {
+        Ok(()) => Ok(()),
+        Err(_) => Err(ServeFault::Write),
+    }
+}
+
+/// Writes the answer to a fault in a frame's place, and returns what ends the stream.
+pub(crate) fn refuse<W: Write>(alloc: Global, writer: &mut W, fault: FrameFault) -> ServeFault
+    ensures { Refuses fault (W.contents writer.old) result (W.contents writer.new) }
+{
+    if let Err(fault) = send(alloc, writer, Frame::FrameFault { fault }) {
+        return fault;
+    }
+    match flush(writer) {
+        Ok(()) => ServeFault::Frame(fault),
+        Err(fault) => fault,
+    }
+}

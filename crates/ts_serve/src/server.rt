@@ -1,0 +1,169 @@
+//! A node that is served.
+
+ghost use Rattle.std.specs.Prelude.{◌≡◌, ◌∷◌, ◌++◌, [], map, OnOk, OnErr, MatchResult};
+ghost use Rattle.std.specs.Io.KnownBytes.{Appends};
+ghost use Rattle.ts_question.specs.Question.{Asked};
+ghost use Rattle.ts_node.specs.Machine.{store_of};
+ghost use Rattle.ts_node.specs.Inputs.{InputFits};
+ghost use Rattle.ts_node.specs.Node.{IsSound};
+ghost use Rattle.ts_store.specs.Octets.{octets_of};
+ghost use Rattle.ts_wire.specs.Frames.{Fits};
+ghost use Rattle.ts_wire.specs.declared.frame.Frame.TheVariants.{Take};
+ghost use Rattle.ts_serve.specs.Replies.{IsWithin};
+ghost use Rattle.ts_serve.specs.Turn.{Given, Handled, Turn};
+ghost use Rattle.ts_serve.specs.Steps.{Answers, Refuses, Says};
+
+use crate::fault::ServeFault;
+use crate::outbox::Outbox;
+use crate::replies::answer_of;
+use crate::sending::{refuse, send, send_all};
+use std::alloc::Global;
+use std::io::Write;
+use ts_disk::Disk;
+use ts_node::{Input, Machine, Node};
+use ts_question::{Answer, Question};
+use ts_store::{Command, Outcome};
+use ts_wire::{Feed, Frame, FrameFault};
+
+/// A node, and the messages of it that wait to be taken, at most 256.
+#[derive(Drop)]
+pub struct Server<D: Disk, M> {
+    alloc: Global,
+    node: Node<D, Command, M>,
+    outbox: Outbox,
+}
+
+/// A question, as an input of a node: over as many commands as it names.
+fn ask(question: Question) -> Input<Command, Question>
+    ensures asked { result ≡ Input.Ask question.terms.k question }
+    ensures within { IsWithin result }
+{
+    let k = question.terms().k;
+    let _ = question.target();
+    Input::Ask { k, question }
+}
+
+impl<D: Disk, M: Machine<Command, Outcome = Outcome, Question = Question, Answer = Answer>> Server<
+    D,
+    M,
+> {
+    /// A server of a node, which has sent nothing.
+    ///
+    /// # Errors
+    ///
+    /// Memory that is refused. The node is given back.
+    pub fn new(
+        alloc: Global,
+        node: Node<D, Command, M>,
+    ) -> Result<Server<D, M>, Node<D, Command, M>>
+        ensures { MatchResult result (λ server. (server.node ≡ node) × (server.outbox ≡ [])) (λ refused. refused ≡ node) }
+    {
+        match Outbox::new(alloc) {
+            Ok(outbox) => Ok(Server {
+                alloc,
+                node,
+                outbox,
+            }),
+            Err(_) => Err(node),
+        }
+    }
+
+    /// Gives the node back. The messages that wait are lost.
+    pub fn close(self) -> Node<D, Command, M>
+        ensures { result ≡ self.node }
+    {
+        let Server {
+            alloc: _alloc,
+            node,
+            outbox: _outbox,
+        } = self;
+        node
+    }
+
+    /// What the server allocates with.
+    pub(crate) fn allocator(&self) -> Global {
+        self.alloc
+    }
+
+    /// A stream of which nothing has come.
+    pub(crate) fn feed(&self) -> Feed
+        ensures { result ≡ [] }
+    {
+        Feed::new(self.alloc)
+    }
+
+    /// Answers a fault in a frame's place, and returns what ends the stream.
+    pub(crate) fn refuse<W: Write>(&self, fault: FrameFault, writer: &mut W) -> ServeFault
+        ensures { Refuses fault (W.contents writer.old) result (W.contents writer.new) }
+    {
+        refuse(self.alloc, writer, fault)
+    }
+
+    /// Hands an input to the node, and puts its messages into the outbox.
+    fn handle(&mut self, input: &Input<Command, Question>) -> Frame
+        requires sound { IsSound D.state octets_of M.commands self.old.node }
+        requires fits { InputFits octets_of input.now }
+        requires within { IsWithin input.now }
+        ensures handled { Handled D.state (store_of Asked M.client_id M.outcome) M.basis M.is_answer self.old input.now (result ∷ []) self.new }
+        ensures sound { IsSound D.state octets_of M.commands self.new.node }
+        ensures alloc { self.new.alloc ≡ self.old.alloc }
+    {
+        let called = self.node.handle(input);
+        let (frame, messages) = answer_of(self.alloc, called);
+        self.outbox.put(messages);
+        frame
+    }
+
+    /// Hands an input to the node, and writes its reply.
+    fn respond<W: Write>(
+        &mut self,
+        input: Input<Command, Question>,
+        writer: &mut W,
+    ) -> Result<(), ServeFault>
+        requires sound { IsSound D.state octets_of M.commands self.old.node }
+        requires fits { InputFits octets_of input }
+        requires within { IsWithin input }
+        ensures said { Says (Handled D.state (store_of Asked M.client_id M.outcome) M.basis M.is_answer self.old input) (W.contents writer.old) result self.new (W.contents writer.new) }
+        ensures sound { IsSound D.state octets_of M.commands self.new.node }
+    {
+        let frame = self.handle(&input);
+        send(self.alloc, writer, frame)
+    }
+
+    /// Writes the messages that wait, and their count. None waits then.
+    fn give<W: Write>(&mut self, writer: &mut W) -> Result<(), ServeFault>
+        ensures said { Says (Given D.state (store_of Asked M.client_id M.outcome) M.basis M.is_answer self.old) (W.contents writer.old) result self.new (W.contents writer.new) }
+        ensures same { self.new.node ≡ self.old.node }
+    {
+        let frames = self.outbox.frames();
+        let count = frames.len() as u32;
+        let given = send_all(self.alloc, writer, frames);
+        self.outbox.clear();
+        given?;
+        send(self.alloc, writer, Frame::Done { count })
+    }
+
+    /// Answers a frame.
+    pub(crate) fn answer<W: Write>(
+        &mut self,
+        frame: Frame,
+        writer: &mut W,
+    ) -> Result<(), ServeFault>
+        requires sound { IsSound D.state octets_of M.commands self.old.node }
+        requires fits { Fits frame }
+        ensures answers { Answers (Turn D.state (store_of Asked M.client_id M.outcome) M.basis M.is_answer) self.old frame (W.contents writer.old) result self.new (W.contents writer.new) }
+        ensures sound { IsSound D.state octets_of M.commands self.new.node }
+    {
+        match frame {
+            Frame::Peer(message) => self.respond(Input::Deliver(message), writer),
+            Frame::Submit { command } => self.respond(Input::Submit(command), writer),
+            Frame::Question { question } => self.respond(ask(question), writer),
+            Frame::Take => self.give(writer),
+            Frame::Outcome { id } => self.respond(Input::Outcome(id), writer),
+            Frame::CatchUp => self.respond(Input::CatchUp, writer),
+            Frame::Status => self.respond(Input::Status, writer),
+            Frame::Compact => self.respond(Input::Compact, writer),
+            _ => Err(self.refuse(FrameFault::Kind, writer)),
+        }
+    }
+}

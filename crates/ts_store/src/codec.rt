@@ -1,0 +1,34 @@
+//! A command is copied, and kept in a record by its one spelling.
+
+ghost use Rattle.std.specs.Prelude.{◌≡◌, ◌≤◌, ◌++◌, length, IfOk, IfSome, IfNone, OnOk};
+ghost use Rattle.ts_store.specs.Octets.{octets_of};
+
+use crate::command::Command;
+use crate::writing::push_spelling;
+use std::alloc::{AllocError, Global};
+use ts_record::Codec;
+
+impl ts_synod::Command for Command {
+    fn try_copy(&self, alloc: Global) -> Result<Self, AllocError> {
+        Command::try_copy(self, alloc)
+    }
+}
+
+impl Codec for Command {
+    ghost octets = { octets_of };
+
+    fn try_copy(&self, alloc: Global) -> Result<Self, AllocError> {
+        Command::try_copy(self, alloc)
+    }
+
+    fn write(&self, out: &mut Vec<u8>) -> Result<(), AllocError> {
+        self.has_spelling();
+        push_spelling(out, self)
+    }
+
+    fn read(alloc: Global, source: &[u8]) -> Result<Option<Self>, AllocError> {
+        Command::read(alloc, source)
+    }
+
+    fn one_spelling() {}
+}
