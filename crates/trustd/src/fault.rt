@@ -1,0 +1,149 @@
+//! Why a task fails.
+
+ghost use Rattle.std.specs.Prelude.{◌≡◌};
+ghost use Rattle.trustd.specs.declared.fault.Fault.TheVariants as fault;
+
+use std::alloc::{AllocError, AllocFailed};
+use std::fmt;
+use ts_lab::text::fault_name;
+use ts_node::NodeFault as NodeCallFault;
+use ts_serve::ServeFault;
+use ts_sig::TableFault;
+use ts_wire::{FrameFault, NodeFault};
+
+/// Why a task fails. The program prints its name, and ends with 1.
+#[derive(Clone, Copy, Debug, PartialEq, Eq)]
+pub enum Fault {
+    /// Memory was refused.
+    Memory,
+    /// A file can't be opened, read or made; or a record is to be made where octets are.
+    File,
+    /// A file is not one whole command or question.
+    Field,
+    /// A file is longer than a command's certificate or list may be.
+    TooLong,
+    /// A question has parts outside of its limits.
+    OutOfLimits,
+    /// The line of this number, counted from 1, is the first wrong one of a table.
+    TableLine(usize),
+    /// A record can't be opened or made.
+    Record(ts_record::Fault),
+    /// A connection was not accepted or an address can't be listened on, or a read failed.
+    Read,
+    /// A connection was not made, or a write failed.
+    Write,
+    /// A stream had not ended after 16,777,216 reads.
+    ReadLimit,
+    /// A stream ended within a frame, or before the answer.
+    Cut,
+    /// A node answered this fault.
+    Node(NodeFault),
+    /// This stands in a frame's place, or a server answered it.
+    Frame(FrameFault),
+}
+
+/// The name of the reason, with the offset or the line where it has one: `Damaged(35)`, `TableLine(3)`, `Kind`.
+impl fmt::Display for Fault {
+    fn fmt<W: fmt::Write>(&self, f: &mut fmt::Formatter<W>) -> fmt::Result {
+        let name = match self {
+            Fault::Memory => "Memory",
+            Fault::File => "File",
+            Fault::Field => "Field",
+            Fault::TooLong => "TooLong",
+            Fault::OutOfLimits => "OutOfLimits",
+            Fault::TableLine(number) => return write!(f, "TableLine({number})"),
+            Fault::Record(ts_record::Fault::Damaged(offset)) => return write!(f, "Damaged({offset})"),
+            Fault::Record(fault) => record_name(*fault),
+            Fault::Read => "Read",
+            Fault::Write => "Write",
+            Fault::ReadLimit => "ReadLimit",
+            Fault::Cut => "Cut",
+            Fault::Node(fault) => node_name(*fault),
+            Fault::Frame(fault) => frame_name(*fault),
+        };
+        write!(f, "{name}")
+    }
+}
+
+/// The name of a record's fault.
+fn record_name(fault: ts_record::Fault) -> &'static str {
+    match fault {
+        ts_record::Fault::Memory => "Memory",
+        ts_record::Fault::DiskFailed => "DiskFailed",
+        ts_record::Fault::Broken => "Broken",
+        ts_record::Fault::GenerationsExhausted => "GenerationsExhausted",
+        ts_record::Fault::NotFormatted => "NotFormatted",
+        ts_record::Fault::OldVersion => "OldVersion",
+        ts_record::Fault::Damaged(_) => "Damaged",
+    }
+}
+
+/// The name of a fault that a node answered in a frame.
+fn node_name(fault: NodeFault) -> &'static str {
+    fault_name(match fault {
+        NodeFault::Memory => NodeCallFault::Memory,
+        NodeFault::DiskFailed => NodeCallFault::DiskFailed,
+        NodeFault::Broken => NodeCallFault::Broken,
+        NodeFault::RoundsExhausted => NodeCallFault::RoundsExhausted,
+        NodeFault::PositionsExhausted => NodeCallFault::PositionsExhausted,
+        NodeFault::GenerationsExhausted => NodeCallFault::GenerationsExhausted,
+    })
+}
+
+/// The name of what is wrong in a frame's place.
+fn frame_name(fault: FrameFault) -> &'static str {
+    match fault {
+        FrameFault::Length => "Length",
+        FrameFault::Version => "Version",
+        FrameFault::Kind => "Kind",
+        FrameFault::Field => "Field",
+        FrameFault::Trailing => "Trailing",
+    }
+}
+
+impl From<AllocError> for Fault {
+    ghost from_gives = { λ _ e. e ≡ fault.Memory };
+
+    fn from(_e: AllocError) -> Fault {
+        Fault::Memory
+    }
+}
+
+impl<T: Drop> From<AllocFailed<T>> for Fault {
+    ghost from_gives = { λ _ e. e ≡ fault.Memory };
+
+    fn from(_e: AllocFailed<T>) -> Fault {
+        Fault::Memory
+    }
+}
+
+impl From<ts_record::Fault> for Fault {
+    fn from(fault: ts_record::Fault) -> Fault {
+        match fault {
+            ts_record::Fault::Memory => Fault::Memory,
+            other => Fault::Record(other),
+        }
+    }
+}
+
+impl From<TableFault> for Fault {
+    fn from(fault: TableFault) -> Fault {
+        match fault {
+            TableFault::TableLine(number) => Fault::TableLine(number),
+            TableFault::Memory => Fault::Memory,
+        }
+    }
+}
+
+impl From<ServeFault> for Fault {
+    fn from(fault: ServeFault) -> Fault {
+        match fault {
+            ServeFault::Read => Fault::Read,
+            ServeFault::Write => Fault::Write,
+            ServeFault::ReadLimit => Fault::ReadLimit,
+            ServeFault::Cut => Fault::Cut,
+            ServeFault::Frame(fault) => Fault::Frame(fault),
+            ServeFault::Memory => Fault::Memory,
+        }
+    }
+}

@@ -1,0 +1,126 @@
+//! Files.
+
+ghost use Rattle.std.specs.Prelude.{◌≤◌};
+
+use crate::fault::Fault;
+use std::alloc::Global;
+use std::fs;
+use std::io::{Error, ErrorKind, Read};
+use std::rt::Files;
+use ts_file::{FileDisk, create, open};
+use ts_record::Record;
+use ts_disk::Disk;
+use ts_store::Command;
+
+/// The most octets that are read of a file that holds a certificate, a list, a command or a question: as many as a frame may have.
+pub const MAX_LENGTH: u64 = 8_388_608;
+
+/// Why a file is not read.
+fn fault_of(error: &Error) -> Fault {
+    if error.kind() == ErrorKind::OutOfMemory {
+        Fault::Memory
+    } else {
+        Fault::File
+    }
+}
+
+/// The octets of a file, if they are no more than a frame may have.
+///
+/// # Errors
+///
+/// `TooLong` for more; `File`, `Memory`.
+pub fn read_file<R: Files>(rt: &R, alloc: Global, path: &str) -> Result<Vec<u8>, Fault> {
+    let file = match fs::open(rt, path) {
+        Ok(file) => file,
+        Err(error) => return Err(fault_of(&error)),
+    };
+    let mut octets = Vec::new(alloc);
+    match file.take(MAX_LENGTH + 1).read_to_end(&mut octets) {
+        Ok(_) if octets.len() as u64 > MAX_LENGTH => Err(Fault::TooLong),
+        Ok(_) => Ok(octets),
+        Err(error) => Err(fault_of(&error)),
+    }
+}
+
+/// All octets of a file.
+///
+/// # Errors
+///
+/// `File`, `Memory`.
+pub fn read_all<R: Files>(rt: &R, alloc: Global, path: &str) -> Result<Vec<u8>, Fault> {
+    let mut file = match fs::open(rt, path) {
+        Ok(file) => file,
+        Err(error) => return Err(fault_of(&error)),
+    };
+    let mut octets = Vec::new(alloc);
+    match file.read_to_end(&mut octets) {
+        Ok(_) => Ok(octets),
+        Err(error) => Err(fault_of(&error)),
+    }
+}
+
+/// The name of a record's second file.
+pub fn second(alloc: Global, path: &str) -> Result<String, Fault> {
+    Ok(format!(in alloc; "{path}.b")?)
+}
+
+/// The two disks of a record that is there: the file, and the one whose name ends in `.b`.
+///
+/// # Errors
+///
+/// `File`, `Memory`.
+pub fn open_disks<R: Files>(
+    rt: &R,
+    alloc: Global,
+    path: &str,
+) -> Result<(FileDisk<R::File>, FileDisk<R::File>), Fault> {
+    let other = second(alloc, path)?;
+    let a = match open(rt, alloc, path) {
+        Ok(disk) => disk,
+        Err(error) => return Err(fault_of(&error)),
+    };
+    match open(rt, alloc, other.as_str()) {
+        Ok(b) => Ok((a, b)),
+        Err(error) => Err(fault_of(&error)),
+    }
+}
+
+/// A disk on a file that holds no octets, which is made where it is missing.
+fn create_empty<R: Files>(
+    rt: &R,
+    alloc: Global,
+    path: &str,
+) -> Result<FileDisk<R::File>, Fault> {
+    let mut disk = match create(rt, alloc, path) {
+        Ok(disk) => disk,
+        Err(error) => return Err(fault_of(&error)),
+    };
+    match disk.read(alloc) {
+        Ok(octets) if octets.is_empty() => Ok(disk),
+        Ok(_) => Err(Fault::File),
+        Err(fault) => Err(Fault::from(ts_record::Fault::from(fault))),
+    }
+}
+
+/// Makes the empty record of a node, on two files that hold no octets or are missing: what is there is never written over.
+///
+/// # Errors
+///
+/// `File`, also where a file holds octets; `Memory`; `Record`.
+pub fn format_files<R: Files>(
+    rt: &R,
+    alloc: Global,
+    path: &str,
+    node: u8,
+    nodes: u8,
+) -> Result<(), Fault>
+    requires from { 1 ≤ node }
+    requires to { node ≤ nodes }
+    requires few { nodes ≤ 9 }
+{
+    let other = second(alloc, path)?;
+    let mut a = create_empty(rt, alloc, path)?;
+    let mut b = create_empty(rt, alloc, other.as_str())?;
+    Record::<FileDisk<R::File>, Command>::format(&mut a, &mut b, node, nodes)?;
+    Ok(())
+}

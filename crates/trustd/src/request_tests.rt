@@ -1,0 +1,83 @@
+//! What no clause says of a client's lines: a command is submitted to a node in memory, its messages are carried, and a question is asked.
+
+ghost use Rattle.std.specs.Prelude.{IfOk, IfSome};
+ghost use Rattle.ts_disk.specs.Memory.{state_of};
+ghost use Rattle.ts_node.specs.Node.{IsSound};
+ghost use Rattle.ts_store.specs.Octets.{octets_of};
+
+use crate::requests::{ask, submit};
+use crate::upkeep::{Upkeep, tend};
+use std::alloc::{AllocError, Global};
+use std::test::Fail;
+use ts_answer::Answers;
+use ts_disk::MemDisk;
+use ts_node::Node;
+use ts_question::Question;
+use ts_record::Record;
+use ts_serve::{Server, ServerPeer, carry};
+use ts_sig::DigestCheck;
+use ts_store::Command;
+
+type Lone = ServerPeer<MemDisk, Answers<DigestCheck>>;
+
+/// The question about the search for a leaf of no octets.
+const QUESTION: &[u8] =
+    b"\x02\x00\x00\x00\x00\x00\x00\x00\x00\x00\x00\x00\x00\x00\x00\x01\x00\x00\x00\x00";
+
+/// A new node that is alone, in memory.
+fn lone(alloc: Global) -> Result<Option<Lone>, AllocError>
+    ensures { IfOk result (λ found. IfSome found (λ peer. IsSound state_of octets_of ⟦<Answers<DigestCheck> as ts_node::Machine<Command>>⟧.commands peer.server.node)) }
+{
+    let mut a = MemDisk::new(alloc, Vec::new(alloc))?;
+    let mut b = MemDisk::new(alloc, Vec::new(alloc))?;
+    if Record::<MemDisk, Command>::format(&mut a, &mut b, 1, 1).is_err() {
+        return Ok(None);
+    }
+    let Ok(node) = Node::open(alloc, a, b, Answers::new(alloc, DigestCheck)) else {
+        return Ok(None);
+    };
+    match Server::new(alloc, node) {
+        Ok(server) => Ok(Some(ServerPeer::new(alloc, server))),
+        Err(_) => Ok(None),
+    }
+}
+
+/// The command that changes nothing, of the id 01.
+fn noop() -> Command {
+    Command::Noop {
+        id: [0, 0, 0, 0, 0, 0, 0, 0, 0, 0, 0, 0, 0, 0, 0, 1],
+    }
+}
+
+#[test]
+fn a_command_is_submitted_and_a_question_asked(rt: HostRuntime) -> Result<(), Fail> {
+    let alloc = rt.alloc();
+    let Some(peer) = lone(alloc)? else {
+        panic!(&rt; "no node");
+    };
+    let mut peers = [peer];
+    assert_eq!(rt;
+        submit(alloc, &mut peers[0], noop())?.as_str(),
+        "submit started 1 17\n"
+    );
+    assert_eq!(rt; carry(alloc, &mut peers, 4)?, 4);
+    assert_eq!(rt;
+        submit(alloc, &mut peers[0], noop())?.as_str(),
+        "submit settled 1 applied\n"
+    );
+    let Some(question) = Question::read(alloc, QUESTION)? else {
+        panic!(&rt; "no question");
+    };
+    assert_eq!(rt;
+        ask(alloc, &mut peers[0], question)?.as_str(),
+        "ask 1 Malformed 1 Truncated\n"
+    );
+    for (upkeep, line) in [
+        (Upkeep::Status, "prefix 1\n"),
+        (Upkeep::CatchUp, "catchup\n"),
+        (Upkeep::Compact, "compact working\n"),
+    ] {
+        assert_eq!(rt; tend(alloc, &mut peers[0], upkeep)?.as_str(), line);
+    }
+    Ok(())
+}

@@ -1,0 +1,163 @@
+//! The programs of a client: a command is submitted, a question asked, and messages are carried.
+
+ghost use Rattle.std.specs.Prelude.{All};
+
+use crate::fault::Fault;
+use crate::files::read_file;
+use std::alloc::Global;
+use std::io::Print;
+use std::net::Net;
+use std::rt::Files;
+use ts_lab::text::{outcome_text, reply_text};
+use ts_question::Question;
+use ts_serve::{Peer, TcpPeer, carry};
+use ts_store::Command;
+use ts_wire::{Feed, FeedError, Frame, FrameFault, WriteError, write_frame};
+
+/// The one frame that a peer answers a request with.
+fn frame_of(alloc: Global, octets: &[u8]) -> Result<Frame, Fault> {
+    let mut feed = Feed::new(alloc);
+    feed.push(octets)?;
+    let frame = match feed.take() {
+        Ok(Some(frame)) => frame,
+        Ok(None) => return Err(Fault::Cut),
+        Err(FeedError::Frame(fault)) => return Err(Fault::Frame(fault)),
+        Err(FeedError::Memory) => return Err(Fault::Memory),
+    };
+    match frame {
+        Frame::NodeFault { fault } => Err(Fault::Node(fault)),
+        Frame::FrameFault { fault } => Err(Fault::Frame(fault)),
+        _ if !feed.is_empty() => Err(Fault::Frame(FrameFault::Trailing)),
+        frame => Ok(frame),
+    }
+}
+
+/// Sends a request to a peer, and returns the frame that it is answered with.
+pub fn answer_of<P: Peer>(alloc: Global, peer: &mut P, request: &Frame) -> Result<Frame, Fault>
+    requires { P.is_ready peer.old }
+    ensures { P.is_ready peer.new }
+{
+    let mut octets = Vec::new(alloc);
+    match write_frame(alloc, &mut octets, request) {
+        Ok(()) => {}
+        Err(WriteError::Memory) => return Err(Fault::Memory),
+        Err(WriteError::Length) => return Err(Fault::Frame(FrameFault::Length)),
+    }
+    let answer = peer.exchange(&octets)?;
+    frame_of(alloc, &answer)
+}
+
+/// Submits a command to a peer, and gives the line that says what it is answered.
+///
+/// # Errors
+///
+/// Those of the exchange; the node's; `Frame` where the answer is none to a command.
+pub fn submit<P: Peer>(alloc: Global, peer: &mut P, command: Command) -> Result<String, Fault>
+    requires { P.is_ready peer.old }
+    ensures { P.is_ready peer.new }
+{
+    match answer_of(alloc, peer, &Frame::Submit { command })? {
+        Frame::Started { position, ballot } => {
+            Ok(format!(in alloc; "submit started {position} {ballot}\n")?)
+        }
+        Frame::Settled { position, outcome } => {
+            let outcome = outcome_text(alloc, outcome)?;
+            Ok(format!(in alloc; "submit settled {position} {outcome}\n")?)
+        }
+        _ => Err(Fault::Frame(FrameFault::Kind)),
+    }
+}
+
+/// Asks a peer a question, and gives the line that says the answer.
+///
+/// # Errors
+///
+/// Those of the exchange; the node's; `Frame` where the answer is none to a question.
+pub fn ask<P: Peer>(alloc: Global, peer: &mut P, question: Question) -> Result<String, Fault>
+    requires { P.is_ready peer.old }
+    ensures { P.is_ready peer.new }
+{
+    match answer_of(alloc, peer, &Frame::Question { question })? {
+        Frame::Answer { answer } => {
+            let k = answer.k();
+            let reply = reply_text(alloc, answer.reply())?;
+            Ok(format!(in alloc; "ask {k} {reply}\n")?)
+        }
+        _ => Err(Fault::Frame(FrameFault::Kind)),
+    }
+}
+
+/// Prints a line.
+pub fn say(rt: &impl Print, line: &str) -> Result<(), Fault> {
+    match print!(rt; "{line}") {
+        Ok(()) => Ok(()),
+        Err(_) => Err(Fault::Write),
+    }
+}
+
+/// The server at an address.
+pub fn server_at<'a, R: Net>(
+    rt: &'a R,
+    alloc: Global,
+    address: &str,
+) -> Result<TcpPeer<'a, R>, Fault> {
+    Ok(TcpPeer::new(alloc, rt, String::from_str(alloc, address)?))
+}
+
+/// Submits the command that a file holds to the server at an address, and prints what it is answered.
+///
+/// # Errors
+///
+/// `Field` where the file is not one whole command; those of the file and of [`submit`].
+pub fn submit_file(
+    rt: &(impl AllocGlobal + Files + Net + Print),
+    address: &str,
+    file: &str,
+) -> Result<(), Fault> {
+    let alloc = rt.alloc();
+    let octets = read_file(rt, alloc, file)?;
+    let Some(command) = Command::read(alloc, &octets)? else {
+        return Err(Fault::Field);
+    };
+    let line = submit(alloc, &mut server_at(rt, alloc, address)?, command)?;
+    say(rt, line.as_str())
+}
+
+/// Asks the server at an address the question that a file holds, and prints the answer.
+///
+/// # Errors
+///
+/// `Field` where the file is not one whole question; those of the file and of [`ask`].
+pub fn ask_file(
+    rt: &(impl AllocGlobal + Files + Net + Print),
+    address: &str,
+    file: &str,
+) -> Result<(), Fault> {
+    let alloc = rt.alloc();
+    let octets = read_file(rt, alloc, file)?;
+    let Some(question) = Question::read(alloc, &octets)? else {
+        return Err(Fault::Field);
+    };
+    let line = ask(alloc, &mut server_at(rt, alloc, address)?, question)?;
+    say(rt, line.as_str())
+}
+
+/// Carries messages between the servers at these addresses, the first being node 1, for so many rounds, and prints how many were delivered.
+///
+/// # Errors
+///
+/// `Memory`, `Write`.
+pub fn carry_messages(
+    rt: &(impl AllocGlobal + Net + Print),
+    addresses: &[String],
+    rounds: u32,
+) -> Result<(), Fault> {
+    let alloc = rt.alloc();
+    let mut peers = Vec::new(alloc);
+    for address in addresses {
+        peers.push(server_at(rt, alloc, address.as_str())?)?;
+    }
+    let delivered = carry(alloc, &mut peers, rounds)?;
+    let line = format!(in alloc; "carried {delivered}\n")?;
+    say(rt, line.as_str())
+}

@@ -1,0 +1,68 @@
+//! What keeps a node in order: its state is asked for, what it missed is asked of the others, its record is rewritten.
+
+use crate::fault::Fault;
+use crate::requests::{answer_of, say, server_at};
+use std::alloc::Global;
+use std::io::Print;
+use std::net::Net;
+use ts_serve::Peer;
+use ts_wire::{Frame, FrameFault};
+
+/// What is asked of a server for its own sake.
+#[derive(Clone, Copy, Debug, PartialEq, Eq)]
+pub enum Upkeep {
+    /// How many commands it knows.
+    Status,
+    /// That it asks the others for what it lacks. What they give comes with the messages that are carried then.
+    CatchUp,
+    /// That it makes one step of the rewriting of its record.
+    Compact,
+}
+
+impl Upkeep {
+    /// The request.
+    fn frame(self) -> Frame {
+        match self {
+            Upkeep::Status => Frame::Status,
+            Upkeep::CatchUp => Frame::CatchUp,
+            Upkeep::Compact => Frame::Compact,
+        }
+    }
+}
+
+/// Asks this of a peer, and gives the line that says what it is answered: `prefix K`, `catchup`, or `compact working`, and `compact switched` where the
+/// rewriting is done.
+///
+/// # Errors
+///
+/// Those of the exchange; the node's; `Frame` where the answer is none to this.
+pub fn tend<P: Peer>(alloc: Global, peer: &mut P, upkeep: Upkeep) -> Result<String, Fault>
+    requires { P.is_ready peer.old }
+    ensures { P.is_ready peer.new }
+{
+    let line = match (upkeep, answer_of(alloc, peer, &upkeep.frame())?) {
+        (Upkeep::Status, Frame::Prefix { prefix }) => {
+            return Ok(format!(in alloc; "prefix {prefix}\n")?);
+        }
+        (Upkeep::CatchUp, Frame::Done { .. }) => "catchup\n",
+        (Upkeep::Compact, Frame::Done { count: 0 }) => "compact working\n",
+        (Upkeep::Compact, Frame::Done { .. }) => "compact switched\n",
+        _ => return Err(Fault::Frame(FrameFault::Kind)),
+    };
+    Ok(String::from_str(alloc, line)?)
+}
+
+/// Asks this of the server at an address, and prints what it is answered.
+///
+/// # Errors
+///
+/// Those of [`tend`]; `Write`.
+pub fn tend_server(
+    rt: &(impl AllocGlobal + Net + Print),
+    address: &str,
+    upkeep: Upkeep,
+) -> Result<(), Fault> {
+    let alloc = rt.alloc();
+    let line = tend(alloc, &mut server_at(rt, alloc, address)?, upkeep)?;
+    say(rt, line.as_str())
+}
