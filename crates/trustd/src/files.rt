@@ -1,6 +1,6 @@
 //! Files.
 
-ghost use Rattle.std.specs.Prelude.{◌≤◌};
+ghost use Rattle.std.specs.Prelude.{◌≤◌, IfOk, length};
 
 use crate::fault::Fault;
 use std::alloc::Global;
@@ -29,7 +29,9 @@ fn fault_of(error: &Error) -> Fault {
 /// # Errors
 ///
 /// `TooLong` for more; `File`, `Memory`.
-pub fn read_file<R: Files>(rt: &R, alloc: Global, path: &str) -> Result<Vec<u8>, Fault> {
+pub fn read_file<R: Files>(rt: &R, alloc: Global, path: &str) -> Result<Vec<u8>, Fault>
+    ensures short { IfOk result (λ octets. length octets.items ≤ 8388608) }
+{
     let file = match fs::open(rt, path) {
         Ok(file) => file,
         Err(error) => return Err(fault_of(&error)),

@@ -1,23 +1,37 @@
 //! The program `trustd`: reads the command line, and runs what it asks for.
 #![tactic(auto)]
 
-ghost use Rattle.std.specs.Prelude.{◌≤◌};
+ghost use Rattle.std.specs.Prelude.{◌≡◌, ◌≤◌, OnErr, OnOk};
 
-mod command_line;
+mod fault;
 #[cfg(test)]
-mod command_tests;
+mod file_tests;
+mod files;
+mod making;
+mod programs;
+#[cfg(test)]
+mod request_tests;
+mod requests;
+mod running;
+mod upkeep;
 
-use command_line::Task;
+use crate::fault::Fault;
+use crate::running::run;
 use std::io;
 use std::io::Input;
 use std::process::ExitCode;
+use ts_cli::{Task, report, task_of_process};
 use ts_lab::lab;
 
 /// Ends with the status of the task that the command line asks for, and with 2 for a wrong command line.
 fn main(rt: HostRuntime) -> ExitCode {
-    let status = match command_line::task_of_process(&rt) {
+    let status = match task_of_process(&rt) {
         Ok(Task::Lab) => run_lab(&rt),
-        Err(fault) => command_line::report(&rt, &fault),
+        Ok(task) => {
+            let ended = run(&rt, &task);
+            status_of(&rt, ended)
+        }
+        Err(fault) => report(&rt, &fault),
     };
     ExitCode::from(status)
 }
@@ -27,4 +41,18 @@ fn run_lab(rt: &(impl AllocGlobal + Input + Print)) -> u8
     ensures { result ≤ 2 }
 {
     lab(rt.alloc(), &mut rt.reader(), &mut io::writer(rt))
+}
+
+/// The status that a task ends with: 0, or 1 for a fault, whose name is printed on standard error.
+fn status_of(rt: &impl Eprint, ended: Result<(), Fault>) -> u8
+    ensures done { OnOk ended (result ≡ 0) }
+    ensures failed { OnErr ended (result ≡ 1) }
+{
+    match ended {
+        Ok(()) => 0,
+        Err(fault) => {
+            let _printed = eprintln!(rt; "fault: {fault}");
+            1
+        }
+    }
 }

@@ -6,7 +6,7 @@ use crate::fault::Fault;
 use crate::files::{format_files, open_disks, read_all};
 use std::alloc::Global;
 use std::io::Print;
-use std::net::{Net, TcpListener};
+use std::net::{Net, TcpListener, TcpStream};
 use std::rt::Files;
 use ts_answer::Answers;
 use ts_disk::Disk;
@@ -37,7 +37,7 @@ pub fn format_record(
 }
 
 /// Serves the node on two disks, whose signatures this check decides, to so many connections.
-fn serve_node<D: Disk, S: SignatureCheck, R: Net<Listener = TcpListener>>(
+fn serve_node<D: Disk + Drop, S: SignatureCheck + Drop, R: Net<Listener = TcpListener, Stream = TcpStream>>(
     rt: &R,
     alloc: Global,
     disks: (D, D),
@@ -66,7 +66,7 @@ fn serve_node<D: Disk, S: SignatureCheck, R: Net<Listener = TcpListener>>(
 /// # Errors
 ///
 /// Those of files, table, record and address, in this order.
-pub fn serve_record<R: AllocGlobal + Files + Net<Listener = TcpListener>>(
+pub fn serve_record<R: AllocGlobal + Files + Net<Listener = TcpListener, Stream = TcpStream>>(
     rt: &R,
     file: &str,
     address: &str,

@@ -1,0 +1,52 @@
+//! A task is run.
+
+ghost use Rattle.trustd.specs.Running.{IsRunnable};
+
+use crate::fault::Fault;
+use crate::making::{make_command, make_question, print_id, show_file};
+use crate::programs::{format_record, serve_record};
+use crate::requests::{ask_file, carry_messages, submit_file};
+use crate::upkeep::{Upkeep, tend_server};
+use std::io::Print;
+use std::net::{Net, TcpListener, TcpStream};
+use std::rt::Files;
+use ts_cli::Task;
+
+/// Runs a task, but the lab, which ends with a status of its own.
+///
+/// # Errors
+///
+/// Why the task fails.
+pub fn run<R: AllocGlobal + Files + Net<Listener = TcpListener, Stream = TcpStream> + Print + Eprint>(
+    rt: &R,
+    task: &Task,
+) -> Result<(), Fault>
+    requires { IsRunnable task.now }
+{
+    match task {
+        Task::Lab => Ok(()),
+        Task::Format { file, id, nodes } => format_record(rt, file.as_str(), *id, *nodes),
+        Task::Serve {
+            file,
+            listen,
+            table,
+            connections,
+        } => {
+            let table = match table {
+                Some(path) => Some(path.as_str()),
+                None => None,
+            };
+            serve_record(rt, file.as_str(), listen.as_str(), table, *connections)
+        }
+        Task::Submit { address, file } => submit_file(rt, address.as_str(), file.as_str()),
+        Task::Ask { address, file } => ask_file(rt, address.as_str(), file.as_str()),
+        Task::Carry { addresses, rounds } => carry_messages(rt, addresses, *rounds),
+        Task::Status { address } => tend_server(rt, address.as_str(), Upkeep::Status),
+        Task::CatchUp { address } => tend_server(rt, address.as_str(), Upkeep::CatchUp),
+        Task::Compact { address } => tend_server(rt, address.as_str(), Upkeep::Compact),
+        Task::Command(words) => make_command(rt, words),
+        Task::Question(words) => make_question(rt, words),
+        Task::Id { file } => print_id(rt, file.as_str()),
+        Task::Show { file } => show_file(rt, file.as_str()),
+    }
+}
