@@ -1,0 +1,39 @@
+-- Lines of text that a terminal shows as they are.
+use Rattle.std.specs.Prelude.{ℕ, Bool, ◌+◌, ◌/◌, ◌%◌, ◌==◌, ◌||◌, ◌&&◌, not, nat_le, nat_lt, if◌then◌else◌, List, [], ◌∷◌, ◌++◌}
+use Rattle.std.specs.List.{flat_map}
+
+-- a printable character of ASCII
+abbrev pub is_printable : ℕ → Bool
+is_printable octet = nat_le 32 octet && nat_le octet 126
+
+-- the same, or the line feed that ends a line
+abbrev pub is_shown : ℕ → Bool
+is_shown octet = octet == 10 || is_printable octet
+
+-- a hexadecimal digit
+abbrev pub digit : ℕ → ℕ
+digit n = if nat_lt n 10 then 48 + n else 87 + n
+
+-- the two hexadecimal digits of an octet
+abbrev pub two_digits : ℕ → List ℕ
+two_digits octet = digit (octet / 16) ∷ digit (octet % 16) ∷ []
+
+-- octets in hexadecimal digits
+abbrev pub hex : List ℕ → List ℕ
+hex octets = flat_map two_digits octets
+
+-- an octet as it is shown: as itself where it is printable and no backslash, else as a backslash, x and its two digits
+abbrev pub shown_octet : ℕ → List ℕ
+shown_octet octet = if is_printable octet && not (octet == 92) then octet ∷ [] else 92 ∷ 120 ∷ two_digits octet
+
+-- octets as they are shown
+abbrev pub shown : List ℕ → List ℕ
+shown octets = flat_map shown_octet octets
+
+-- a line with the line feed that ends it
+abbrev pub ended : List ℕ → List ℕ
+ended line = line ++ 10 ∷ []
+
+-- the text of lines
+abbrev pub text_of : List (List ℕ) → List ℕ
+text_of lines = flat_map ended lines

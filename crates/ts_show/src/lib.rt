@@ -1,0 +1,39 @@
+//! What octets hold, in lines that a person reads: a certificate, a list of revoked certificates, a command of a trust store, a
+//! question or a node's record.
+//!
+//! ```text
+//! let text = show(alloc, &octets, &other)?;       // `other`: the record's second disk, else nothing
+//! ```
+//!
+//! | Call | Clauses |
+//! |---|---|
+//! | [`kind_of`] | `IsKind` (`specs/Kind`): what octets hold, the first of the five that they are |
+//! | [`show`] | `IsShown` (`specs/Begins`): lines of printable characters of ASCII, each ended by a line feed; they begin with the word for the kind, and of a certificate and of a list with the digest that names it; of what is neither and begins with the tag of a SEQUENCE they are the first broken rule of each, with its place |
+//! | [`Kind::word`] | the word for a kind |
+//! | [`laws::one_kind`] | octets hold one kind of thing |
+//!
+//! What the other lines say of a certificate, a list, a command, a question and a record no clause says: tests show it. Serial
+//! numbers and the numbers of lists are hexadecimal digits. Of policyMappings, policyConstraints, authorityKeyIdentifier and
+//! issuingDistributionPoint the number of octets alone is shown, and of a distribution point nothing but its names.
+#![tactic(auto)]
+
+mod certificate;
+mod command;
+mod extension;
+mod fault;
+mod kind;
+pub mod laws;
+mod line;
+mod lines;
+mod list;
+mod name;
+mod question;
+mod record;
+mod shown;
+#[cfg(test)]
+mod tests;
+mod time;
+mod value;
+
+pub use kind::{Kind, kind_of};
+pub use shown::show;
