@@ -1,10 +1,10 @@
 //! What words write.
 
-ghost use Rattle.std.specs.Prelude.{◌≡◌, ◌≢◌, ℕ, ℤ, List, MatchOption, IfOk, IfSome, map, string_bytes};
+ghost use Rattle.std.specs.Prelude.{◌≡◌, ◌*◌, ℕ, ℤ, List, length, MatchOption};
+ghost use Rattle.std.specs.Bool.{MatchBool};
 ghost use Rattle.ts_time.specs.Text.{IsGeneral};
-ghost use Rattle.ts_cli.specs.Values.{IsNumber, IsNumberIn, IsAddress, IsHex, IsDotted};
+ghost use Rattle.ts_cli.specs.Values.{IsNumber, IsNumberIn, IsAddress, IsHex};
 
-use std::alloc::Global;
 use ts_time::{Moment, read_general};
 
 /// Stands between the host and the port of an address.
@@ -43,15 +43,31 @@ pub fn address_of(text: &str) -> Option<(&str, u16)>
     Some((host, port as u16))
 }
 
+/// Writes the octets that a text writes in lower-case hexadecimal digits, if it writes so many; else the octets are left as
+/// they may be. There is room for the digits.
+fn hex_into(text: &str, octets: &mut [u8], digits: &mut [u8]) -> bool
+    requires { length digits.now ≡ 2 * length octets.now }
+    ensures { MatchBool result (IsHex (length octets.old) text.now octets.new) ((xs : List ℕ) → ¬ (IsHex (length octets.old) text.now xs)) }
+{
+    if hex::decode_to_slice(text, octets).is_err() {
+        return false;
+    }
+    if hex::encode_to_slice(&*octets, digits).is_err() {
+        return false;
+    }
+    &*digits == text.as_bytes()
+}
+
 /// The 32 octets that a text writes in lower-case hexadecimal digits.
 pub(crate) fn digest_of(text: &str) -> Option<[u8; 32]>
     ensures { MatchOption result ((octets : List ℕ) → ¬ (IsHex 32 text.now octets)) (IsHex 32 text.now) }
 {
     let mut octets = [0; 32];
-    hex::decode_to_slice(text, &mut octets).ok()?;
-    let mut digits = [0; 64];
-    hex::encode_to_slice(octets, &mut digits).ok()?;
-    (digits.as_slice() == text.as_bytes()).then_some(octets)
+    if hex_into(text, &mut octets, &mut [0; 64]) {
+        Some(octets)
+    } else {
+        None
+    }
 }
 
 /// The 16 octets that a text writes in lower-case hexadecimal digits.
@@ -59,15 +75,19 @@ pub(crate) fn id_of(text: &str) -> Option<[u8; 16]>
     ensures { MatchOption result ((octets : List ℕ) → ¬ (IsHex 16 text.now octets)) (IsHex 16 text.now) }
 {
     let mut octets = [0; 16];
-    hex::decode_to_slice(text, &mut octets).ok()?;
-    let mut digits = [0; 32];
-    hex::encode_to_slice(octets, &mut digits).ok()?;
-    (digits.as_slice() == text.as_bytes()).then_some(octets)
+    if hex_into(text, &mut octets, &mut [0; 32]) {
+        Some(octets)
+    } else {
+        None
+    }
 }
 
 /// The moment that a text names as a GeneralizedTime.
 pub(crate) fn moment_of(text: &str) -> Option<Moment>
     ensures { MatchOption result ((m : ℤ) → ¬ (IsGeneral text.now m)) (IsGeneral text.now) }
 {
-    read_general(text.as_bytes()).ok()
+    match read_general(text.as_bytes()) {
+        Ok(moment) => Some(moment),
+        Err(_) => None,
+    }
 }
