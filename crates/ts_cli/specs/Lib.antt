@@ -1,3 +1,5 @@
 pub mod CommandLine
+pub mod Given
+pub mod Says
 pub mod Shapes
 pub mod Values

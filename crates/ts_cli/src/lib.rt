@@ -5,9 +5,13 @@ mod arguments;
 mod command_shape;
 mod fault;
 mod group;
+mod matched;
 mod program;
+mod program_task;
 mod question_shape;
+mod task;
 mod values;
 
 pub use fault::{CommandFault, WrongValue, report};
+pub use task::Task;
 pub use values::address_of;
