@@ -1,1 +1,3 @@
+mod Parsing
 mod Spelling
+mod Subcommands

@@ -1,9 +1,9 @@
 -- Which command line takes words, and the status that the program ends with where words give no task.
-use Rattle.std.specs.Prelude.{◌≡◌, ◌≢◌, ℕ, ◌≤◌, List, [], ◌∷◌, Option, Some, None, codes, drop, slice_get, if◌then◌else◌}
+use Rattle.std.specs.Prelude.{◌≡◌, ◌≢◌, ℕ, ◌≤◌, List, [], ◌∷◌, codes, drop, if◌then◌else◌}
 use Rattle.std.specs.Str.{bytes_eq}
 use Rattle.clap.specs.Words.{Kinds, kind_of, fault_of}
-use Rattle.clap.specs.Walk.{Row, Text}
-use Rattle.clap.specs.Simple.{App, subcommand_of}
+use Rattle.clap.specs.Walk.{Text}
+use Rattle.clap.specs.Simple.{App}
 use Rattle.clap.specs.declared.error.Error.{Error}
 use Rattle.clap.specs.declared.error.kind.ErrorKind.TheVariants as kind
 use Rattle.ts_cli.specs.Shapes.{program, commands, questions}
@@ -58,7 +58,3 @@ words_in group.Question words = drop 1 words
 -- the faults that the parser finds in words
 abbrev pub faults_in : List Text → Kinds
 faults_in words = fault_of (app_in (group_of words)) (words_in (group_of words) words)
-
--- the subcommand that words name, and what they give it
-abbrev pub given_by : List Text → Option (Text × List Row)
-given_by words = subcommand_of (app_in (group_of words)) (words_in (group_of words) words)

@@ -2,6 +2,8 @@
 use Rattle.std.specs.Prelude.{◌≡◌, ◌≤◌, ℕ, List, length, map, option_map, Option, Some, None, codes, string_bytes, MatchOption}
 use Rattle.std.specs.List.{AllByRecursion}
 use Rattle.clap.specs.Walk.{Row, Text, first_of}
+use Rattle.clap.specs.Simple.{App, subcommand_of}
+use Rattle.ts_cli.specs.CommandLine.{app_in, group_of, words_in}
 use Rattle.ts_cli.specs.Values.{IsAddressed, IsNumberIn}
 use Rattle.ts_cli.specs.Given.{IsAt, IsNumberAt, all_at}
 use Rattle.ts_cli.specs.declared.task.Task.{Task}
@@ -50,3 +52,14 @@ SaysTask name rows (Ask address file) = IsSending name (codes "ask") rows (strin
 SaysTask name rows (Carry addresses rounds) = IsCarry name rows (map string_bytes addresses.items) rounds
 SaysTask name rows (Id file) = IsReading name (codes "id") rows (string_bytes file)
 SaysTask name rows (Show file) = IsReading name (codes "show") rows (string_bytes file)
+
+-- the task that words ask for at a command line
+pub record Asks (app : App) (words : List Text) (task : Task) : Type 0 where
+  pub name : Text
+  pub rows : List Row
+  pub given : subcommand_of app words ≡ Some (name, rows)
+  pub says : SaysTask name rows task
+
+-- the task that words ask for
+abbrev pub AsksFor : List Text → Task → Type 0
+AsksFor words task = Asks (app_in (group_of words)) (words_in (group_of words) words) task
