@@ -1,9 +1,9 @@
 -- What words write: numbers, addresses, ids, moments and object identifiers.
-use Rattle.std.specs.Prelude.{◌≡◌, ◌≢◌, ◌<◌, ◌≤◌, ◌==◌, ◌^◌, ℕ, true, List, [], ◌∷◌, length}
+use Rattle.std.specs.Prelude.{◌≡◌, ◌≢◌, ◌<◌, ◌≤◌, ◌==◌, ◌^◌, ℕ, List, [], ◌∷◌, length, Option, Some, None}
 use Rattle.std.specs.List.{before_first, after_first}
 use Rattle.std.specs.Fmt.{decimal}
 use Rattle.hex.specs.Hex.{encode_lower, IsBytes}
-use Rattle.ts_der.specs.ObjectIdentifier.{arcs, is_oid}
+use Rattle.ts_der.specs.ObjectIdentifier.{arcs}
 use Rattle.ts_der.specs.Dotted.{dotted}
 
 -- a number below 2^32, in decimal without leading zeros
@@ -32,7 +32,17 @@ pub record IsHex (size : ℕ) (text octets : List ℕ) : Type 0 where
   pub count : length octets ≡ size
   pub bytes : IsBytes octets
 
+-- the dotted form of contents octets
+abbrev pub written : List ℕ → List ℕ
+written content = dotted (arcs content)
+
 -- the contents octets of the object identifier of a dotted form
-pub record IsDotted (text content : List ℕ) : Type 0 where
-  pub written : text ≡ dotted (arcs content)
-  pub valid : is_oid content ≡ true
+abbrev pub IsDotted : List ℕ → List ℕ → Type 0
+IsDotted text content = text ≡ written content
+
+-- what a text writes, where there is one
+abbrev pub AsWritten : {X : Type 0} → (List ℕ → X → Type 0) → Option (List ℕ) → Option X → Type 0
+AsWritten writes None None = Unit {0}
+AsWritten writes None (Some x) = ⊥
+AsWritten writes (Some text) None = ⊥
+AsWritten writes (Some text) (Some x) = writes text x

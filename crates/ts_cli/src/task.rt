@@ -1,5 +1,8 @@
 //! What the program is to do.
 
+use crate::command_words::CommandWords;
+use crate::question_words::QuestionWords;
+
 /// What the program is to do.
 #[derive(Debug, Drop)]
 pub enum Task {
@@ -46,6 +49,10 @@ pub enum Task {
         /// How many times.
         rounds: u32,
     },
+    /// Write an encoded command.
+    Command(CommandWords),
+    /// Write an encoded question.
+    Question(QuestionWords),
     /// Print the id of an anchor or list.
     Id {
         /// The certificate or list.
