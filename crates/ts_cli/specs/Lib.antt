@@ -1,4 +1,5 @@
 pub mod CommandLine
+pub mod Encoding
 pub mod Given
 pub mod Says
 pub mod Shapes

@@ -1,6 +1,6 @@
 //! What the command line asks for.
 
-ghost use Rattle.std.specs.Prelude.{◌≡◌, [], IfErr, IfOk, IsOk, map, option_map};
+ghost use Rattle.std.specs.Prelude.{◌≡◌, [], IfErr, IfOk, IsOk, drop, map, option_map};
 ghost use Rattle.clap.specs.Matches.{found_of};
 ghost use Rattle.clap.specs.Simple.{subcommand_rows_of};
 ghost use Rattle.clap.specs.Walk.{rows_of};
@@ -10,10 +10,14 @@ ghost use Rattle.ts_cli.specs.CommandLine.{AskForLab, faults_in};
 ghost use Rattle.ts_cli.specs.Says.{Asks, AsksFor};
 ghost use Rattle.ts_cli.specs.Shapes as shapes;
 
+use crate::command_shape::commands;
+use crate::command_words::command_named;
 use crate::fault::{CommandFault, WrongValue};
 use crate::group::{Group, group_of};
 use crate::program::program;
 use crate::program_task::task_named;
+use crate::question_shape::questions;
+use crate::question_words::question_named;
 use crate::task::Task;
 use clap::ArgMatches;
 use std::alloc::Global;
@@ -54,6 +58,46 @@ fn program_task<'a, S: AsStr>(alloc: Global, words: &'a [S]) -> Result<Task, Com
     }
 }
 
+/// The task that the words of `trustd command` ask for.
+fn command_task<'a, S: AsStr>(alloc: Global, words: &'a [S]) -> Result<Task, CommandFault>
+    ensures taken { IsOk result → fault_of shapes.commands (map S.text words.entry.now) ≡ [] }
+    ensures asked { IfOk result (Asks shapes.commands (map S.text words.entry.now)) }
+{
+    let matches = commands(alloc)?.try_get_matches_from(words)?;
+    match given(&matches) {
+        Some((name, inner)) => {
+            let words = command_named(alloc, &matches, name, inner)?;
+            Ok(Task::Command(words))
+        }
+        None => Err(CommandFault::Value(WrongValue::Missing)),
+    }
+}
+
+/// The task that the words of `trustd question` ask for.
+fn question_task<'a, S: AsStr>(alloc: Global, words: &'a [S]) -> Result<Task, CommandFault>
+    ensures taken { IsOk result → fault_of shapes.questions (map S.text words.entry.now) ≡ [] }
+    ensures asked { IfOk result (Asks shapes.questions (map S.text words.entry.now)) }
+{
+    let matches = questions(alloc)?.try_get_matches_from(words)?;
+    match given(&matches) {
+        Some((name, inner)) => {
+            let words = question_named(alloc, name, inner)?;
+            Ok(Task::Question(words))
+        }
+        None => Err(CommandFault::Value(WrongValue::Missing)),
+    }
+}
+
+/// The words behind the first.
+fn behind_first<S: AsStr>(words: &[S]) -> &[S]
+    ensures { map S.text result.now ≡ drop 1 (map S.text words.now) }
+{
+    match words {
+        [_, rest @ ..] => rest,
+        [] => words,
+    }
+}
+
 /// The task that these words ask for; the first is the program's name.
 pub fn task_of<'a, S: AsStr>(alloc: Global, words: &'a [S]) -> Result<Task, CommandFault>
     // Only want of memory keeps `trustd lab` from the lab.
@@ -65,6 +109,7 @@ pub fn task_of<'a, S: AsStr>(alloc: Global, words: &'a [S]) -> Result<Task, Comm
 {
     match group_of(words) {
         Group::Program => program_task(alloc, words),
-        Group::Command | Group::Question => Err(CommandFault::Value(WrongValue::Missing)),
+        Group::Command => command_task(alloc, behind_first(words)),
+        Group::Question => question_task(alloc, behind_first(words)),
     }
 }

@@ -5,6 +5,7 @@ mod arguments;
 mod command_line;
 mod command_shape;
 mod command_words;
+mod encoding;
 mod fault;
 mod group;
 mod matched;
@@ -18,6 +19,7 @@ mod values;
 
 pub use command_line::{task_of, task_of_process};
 pub use command_words::{Change, CommandWords};
+pub use encoding::{MakeFault, command_octets, id_text, question_octets};
 pub use fault::{CommandFault, WrongValue, report};
 pub use question_words::{QuestionWords, Subject, TermWords};
 pub use task::Task;

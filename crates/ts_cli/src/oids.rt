@@ -66,7 +66,7 @@ pub(crate) fn oid_at(
 
 /// These purposes, in their order; any where there are none.
 pub(crate) fn purposes_of(oids: Vec<Oid>) -> Result<Purposes, CommandFault>
-    ensures { IfOk result (ArePurposesOf oids.entry.items) }
+    ensures { IfOk result (ArePurposesOf oids.items) }
 {
     if oids.is_empty() {
         return Ok(Purposes::any());

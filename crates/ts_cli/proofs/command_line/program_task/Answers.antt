@@ -4,8 +4,9 @@ use Rattle.std.proofs.lemmas.Result.{IfOk-weaker, err_from_is_err_and}
 use Rattle.clap.specs.Words.{App, fault_of, is_simple_and_free, takes}
 use Rattle.clap.specs.Matches.{found_of}
 use Rattle.clap.specs.Walk.{Text, rows_of}
-use Rattle.clap.specs.Simple.{is_simple, subcommand_of}
+use Rattle.clap.specs.Simple.{is_simple, matches_of, subcommand_of}
 use Rattle.ts_cli.specs.Shapes.{program}
+use Rattle.ts_cli.proofs.Saying.{says_any}
 use Rattle.ts_cli.proofs.Parsing.{lab_is_taken, lab_is_given, program_is_free, program_is_simple, some_is}
 use Rattle.ts_cli.proofs.command_line.program_task.Goals as goal
 
@@ -41,5 +42,5 @@ returns-in-Some-clause-asked g c =
       name = c.in-Some.name.now;
       rows = rows_of (found_of c.in-Some.inner.now);
       given = sym pair;
-      says = says;
+      says = says_any (matches_of program words) c.in-Some.name.now (rows_of (found_of c.in-Some.inner.now)) task says;
     }) c.task_named.ensures.says
