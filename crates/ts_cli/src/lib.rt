@@ -4,8 +4,12 @@
 mod arguments;
 mod command_line;
 mod command_shape;
+#[cfg(test)]
+mod command_tests;
 mod command_words;
 mod encoding;
+#[cfg(test)]
+mod encoding_tests;
 mod fault;
 mod group;
 mod matched;
