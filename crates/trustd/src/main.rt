@@ -3,21 +3,21 @@
 
 ghost use Rattle.std.specs.Prelude.{◌≤◌};
 
-mod command_line;
-#[cfg(test)]
-mod command_tests;
-
-use command_line::Task;
 use std::io;
 use std::io::Input;
 use std::process::ExitCode;
+use ts_cli::{Task, report, task_of_process};
 use ts_lab::lab;
+
+/// The status of a wrong command line, and of a task that the program does not do yet.
+const WRONG_COMMAND_LINE: u8 = 2;
 
 /// Ends with the status of the task that the command line asks for, and with 2 for a wrong command line.
 fn main(rt: HostRuntime) -> ExitCode {
-    let status = match command_line::task_of_process(&rt) {
+    let status = match task_of_process(&rt) {
         Ok(Task::Lab) => run_lab(&rt),
-        Err(fault) => command_line::report(&rt, &fault),
+        Ok(_) => WRONG_COMMAND_LINE,
+        Err(fault) => report(&rt, &fault),
     };
     ExitCode::from(status)
 }

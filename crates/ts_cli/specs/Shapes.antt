@@ -56,6 +56,10 @@ among app sub = with_subcommand app sub
 abbrev pub HasShape : Shape → Command → Type 0
 HasShape shape command = (shape_of command ≡ shape) × ((out-Command command).has_globals ≡ false)
 
+-- a file
+abbrev pub reading : Text → Shape
+reading name = leaf name (word (codes "file") ∷ [])
+
 -- ---- the program
 
 abbrev pub lab : Shape
@@ -67,20 +71,12 @@ format = leaf (codes "format") (word (codes "file") ∷ needed (option (codes "i
 abbrev pub serve : Shape
 serve = leaf (codes "serve") (word (codes "file") ∷ needed (option (codes "listen")) ∷ option (codes "table") ∷ option (codes "connections") ∷ [])
 
-abbrev pub submit : Shape
-submit = leaf (codes "submit") (word (codes "address") ∷ word (codes "file") ∷ [])
-
-abbrev pub ask : Shape
-ask = leaf (codes "ask") (word (codes "address") ∷ word (codes "file") ∷ [])
+-- an address and a file
+abbrev pub sending : Text → Shape
+sending name = leaf name (word (codes "address") ∷ word (codes "file") ∷ [])
 
 abbrev pub carry : Shape
 carry = leaf (codes "carry") (needed (words (codes "addresses")) ∷ needed (option (codes "rounds")) ∷ [])
-
-abbrev pub id : Shape
-id = leaf (codes "id") (word (codes "file") ∷ [])
-
-abbrev pub show : Shape
-show = leaf (codes "show") (word (codes "file") ∷ [])
 
 -- whose words go to another command line
 abbrev pub named : Text → Shape
@@ -88,33 +84,25 @@ named name = leaf name []
 
 -- the tasks of a node
 abbrev pub node_tasks : App
-node_tasks = choice (codes "trustd") [] (lab ∷ format ∷ serve ∷ submit ∷ ask ∷ carry ∷ [])
+node_tasks = choice (codes "trustd") [] (lab ∷ format ∷ serve ∷ sending (codes "submit") ∷ sending (codes "ask") ∷ carry ∷ [])
 
 abbrev pub program : App
-program = choice (codes "trustd") [] (lab ∷ format ∷ serve ∷ submit ∷ ask ∷ carry ∷ named (codes "command") ∷ named (codes "question") ∷ id ∷ show ∷ [])
+program = choice (codes "trustd") [] (lab ∷ format ∷ serve ∷ sending (codes "submit") ∷ sending (codes "ask") ∷ carry ∷ named (codes "command") ∷ named (codes "question") ∷ reading (codes "id") ∷ reading (codes "show") ∷ [])
 
 -- ---- `trustd command`
 
-abbrev pub add : Shape
-add = leaf (codes "add") (word (codes "file") ∷ [])
-
-abbrev pub withdraw : Shape
-withdraw = leaf (codes "withdraw") (word (codes "anchor") ∷ [])
-
-abbrev pub load : Shape
-load = leaf (codes "load") (word (codes "file") ∷ [])
-
-abbrev pub drop : Shape
-drop = leaf (codes "drop") (word (codes "list") ∷ [])
+-- the id of an anchor or a list
+abbrev pub naming : Text → Text → Shape
+naming name argument = leaf name (word argument ∷ [])
 
 abbrev pub purposes : Shape
 purposes = leaf (codes "purposes") (word (codes "anchor") ∷ words (codes "purposes") ∷ [])
 
-abbrev pub noop : Shape
-noop = leaf (codes "noop") []
-
 abbrev pub commands : App
-commands = choice (codes "command") (option (codes "id") ∷ []) (add ∷ withdraw ∷ load ∷ drop ∷ purposes ∷ noop ∷ [])
+commands = choice (codes "command") (option (codes "id") ∷ []) (
+  reading (codes "add") ∷ naming (codes "withdraw") (codes "anchor") ∷ reading (codes "load") ∷ naming (codes "drop") (codes "list")
+  ∷ purposes ∷ leaf (codes "noop") [] ∷ []
+)
 
 -- ---- `trustd question`
 

@@ -4,7 +4,7 @@ ghost use Rattle.std.specs.Prelude.{◌≡◌, [], false, IfOk};
 ghost use Rattle.clap.specs.Simple.{app_of, shape_of, with_rule};
 ghost use Rattle.clap.specs.Walk.{rule_of};
 ghost use Rattle.clap.specs.declared.builder.command.Command.TheViews.{out-Command};
-ghost use Rattle.ts_cli.specs.Shapes.{option, options, flag, word, words, needed, leaf, with_argument, choice, among};
+ghost use Rattle.ts_cli.specs.Shapes.{option, options, flag, word, words, needed, leaf, with_argument, choice, among, reading, HasShape};
 
 use clap::{Arg, ArgAction, Command};
 use std::alloc::{AllocError, Global};
@@ -26,18 +26,8 @@ pub(crate) fn with<'a>(command: Command<'a>, arg: Arg<'a>) -> Result<Command<'a>
     command.arg(arg)
 }
 
-/// A command that wants a subcommand, and has none for help.
-pub(crate) fn choice<'a>(alloc: Global, name: &'a str, about: &'a str) -> Command<'a>
-    ensures { app_of result ≡ choice name.entry.now [] [] }
-{
-    Command::new(alloc, name)
-        .about(about)
-        .subcommand_required(true)
-        .disable_help_subcommand(true)
-}
-
-/// The same, whose usage names it so.
-pub(crate) fn choice_within<'a>(
+/// A command that wants a subcommand, and has none for help. Its usage names it so.
+pub(crate) fn choice<'a>(
     alloc: Global,
     name: &'a str,
     about: &'a str,
@@ -45,7 +35,11 @@ pub(crate) fn choice_within<'a>(
 ) -> Result<Command<'a>, AllocError>
     ensures { IfOk result (λ r. app_of r ≡ choice name.entry.now [] []) }
 {
-    choice(alloc, name, about).bin_name(usage)
+    Command::new(alloc, name)
+        .about(about)
+        .subcommand_required(true)
+        .disable_help_subcommand(true)
+        .bin_name(usage)
 }
 
 /// A choice with one more argument of its own.
@@ -128,4 +122,18 @@ pub(crate) fn needed(arg: Arg<'_>) -> Arg<'_>
     ensures local { result.global ≡ arg.entry.global }
 {
     arg.required(true)
+}
+
+/// A command with a file.
+pub(crate) fn reading<'a>(
+    alloc: Global,
+    name: &'a str,
+    about: &'a str,
+    value: &'a str,
+    help: &'a str,
+) -> Result<Command<'a>, AllocError>
+    ensures { IfOk result (HasShape (reading name.entry.now)) }
+{
+    let file = word(alloc, "file", value, help);
+    with(leaf(alloc, name, about), file)
 }

@@ -5,59 +5,21 @@ ghost use Rattle.clap.specs.Simple.{app_of};
 ghost use Rattle.ts_cli.specs.Shapes as shapes;
 ghost use Rattle.ts_cli.specs.Shapes.{HasShape};
 
-use crate::arguments::{among, choice_within, leaf, option, with, with_own, word, words};
+use crate::arguments::{among, choice, leaf, option, reading, with, with_own, word, words};
 use clap::Command;
 use std::alloc::{AllocError, Global};
 
-fn add<'a>(alloc: Global) -> Result<Command<'a>, AllocError>
-    ensures { IfOk result (HasShape shapes.add) }
+/// A command with the id of an anchor or a list.
+fn naming<'a>(
+    alloc: Global,
+    name: &'a str,
+    about: &'a str,
+    argument: &'a str,
+) -> Result<Command<'a>, AllocError>
+    ensures { IfOk result (HasShape (shapes.naming name.entry.now argument.entry.now)) }
 {
-    let file = word(alloc, "file", "CERT", "The certificate in DER");
-    with(
-        leaf(alloc, "add", "Adds a trust anchor, for any purpose"),
-        file,
-    )
-}
-
-fn withdraw<'a>(alloc: Global) -> Result<Command<'a>, AllocError>
-    ensures { IfOk result (HasShape shapes.withdraw) }
-{
-    let anchor = word(
-        alloc,
-        "anchor",
-        "ID",
-        "The id of the anchor, 64 lower-case hexadecimal digits",
-    );
-    with(leaf(alloc, "withdraw", "Removes a trust anchor"), anchor)
-}
-
-fn load<'a>(alloc: Global) -> Result<Command<'a>, AllocError>
-    ensures { IfOk result (HasShape shapes.load) }
-{
-    let file = word(alloc, "file", "CRL", "The list in DER");
-    with(
-        leaf(
-            alloc,
-            "load",
-            "Adds a list of revoked certificates, complete or delta",
-        ),
-        file,
-    )
-}
-
-fn drop_list<'a>(alloc: Global) -> Result<Command<'a>, AllocError>
-    ensures { IfOk result (HasShape shapes.drop) }
-{
-    let list = word(
-        alloc,
-        "list",
-        "ID",
-        "The id of the list, 64 lower-case hexadecimal digits",
-    );
-    with(
-        leaf(alloc, "drop", "Removes a list of revoked certificates"),
-        list,
-    )
+    let help = "Its id, 64 lower-case hexadecimal digits";
+    with(leaf(alloc, name, about), word(alloc, argument, "ID", help))
 }
 
 fn purposes<'a>(alloc: Global) -> Result<Command<'a>, AllocError>
@@ -86,13 +48,20 @@ pub(crate) fn commands<'a>(alloc: Global) -> Result<Command<'a>, AllocError>
 {
     let about = "Writes an encoded command to standard output";
     let help = "The id of the command, 32 lower-case hexadecimal digits; a drawn one if not given";
+    let what = "Adds a trust anchor, for any purpose";
+    let add = reading(alloc, "add", what, "CERT", "The certificate in DER")?;
+    let withdraw = naming(alloc, "withdraw", "Removes a trust anchor", "anchor")?;
+    let what = "Adds a list of revoked certificates, complete or delta";
+    let load = reading(alloc, "load", what, "CRL", "The list in DER")?;
+    let what = "Removes a list of revoked certificates";
+    let drop_list = naming(alloc, "drop", what, "list")?;
     let noop = leaf(alloc, "noop", "Changes nothing");
-    let all = choice_within(alloc, "command", about, "trustd command")?;
+    let all = choice(alloc, "command", about, "trustd command")?;
     let all = with_own(all, option(alloc, "id", "HEX", help))?;
-    let all = among(all, add(alloc)?)?;
-    let all = among(all, withdraw(alloc)?)?;
-    let all = among(all, load(alloc)?)?;
-    let all = among(all, drop_list(alloc)?)?;
+    let all = among(all, add)?;
+    let all = among(all, withdraw)?;
+    let all = among(all, load)?;
+    let all = among(all, drop_list)?;
     let all = among(all, purposes(alloc)?)?;
     among(all, noop)
 }

@@ -82,38 +82,6 @@ fn command_id(matches: &ArgMatches<'_>) -> Result<Option<[u8; 16]>, CommandFault
     }
 }
 
-fn add(alloc: Global, matches: &ArgMatches<'_>) -> Result<Change, CommandFault>
-    ensures { IfOk result (SaysChange (codes "add") (rows_of (found_of matches.now))) }
-{
-    Ok(Change::Add {
-        file: string_at(alloc, matches, "file")?,
-    })
-}
-
-fn withdraw(matches: &ArgMatches<'_>) -> Result<Change, CommandFault>
-    ensures { IfOk result (SaysChange (codes "withdraw") (rows_of (found_of matches.now))) }
-{
-    Ok(Change::Withdraw {
-        anchor: digest_at(matches, "anchor")?,
-    })
-}
-
-fn load(alloc: Global, matches: &ArgMatches<'_>) -> Result<Change, CommandFault>
-    ensures { IfOk result (SaysChange (codes "load") (rows_of (found_of matches.now))) }
-{
-    Ok(Change::Load {
-        file: string_at(alloc, matches, "file")?,
-    })
-}
-
-fn drop_list(matches: &ArgMatches<'_>) -> Result<Change, CommandFault>
-    ensures { IfOk result (SaysChange (codes "drop") (rows_of (found_of matches.now))) }
-{
-    Ok(Change::Drop {
-        list: digest_at(matches, "list")?,
-    })
-}
-
 fn purposes(alloc: Global, matches: &ArgMatches<'_>) -> Result<Change, CommandFault>
     ensures { IfOk result (SaysChange (codes "purposes") (rows_of (found_of matches.now))) }
 {
@@ -134,10 +102,18 @@ fn change_named(
     ensures { IfOk result (SaysChange name.now (rows_of (found_of matches.now))) }
 {
     match name {
-        "add" => add(alloc, matches),
-        "withdraw" => withdraw(matches),
-        "load" => load(alloc, matches),
-        "drop" => drop_list(matches),
+        "add" => Ok(Change::Add {
+            file: string_at(alloc, matches, "file")?,
+        }),
+        "withdraw" => Ok(Change::Withdraw {
+            anchor: digest_at(matches, "anchor")?,
+        }),
+        "load" => Ok(Change::Load {
+            file: string_at(alloc, matches, "file")?,
+        }),
+        "drop" => Ok(Change::Drop {
+            list: digest_at(matches, "list")?,
+        }),
         "purposes" => purposes(alloc, matches),
         "noop" => Ok(Change::Noop),
         _ => Err(CommandFault::Value(WrongValue::Missing)),

@@ -5,7 +5,7 @@ ghost use Rattle.clap.specs.Simple.{app_of};
 ghost use Rattle.ts_cli.specs.Shapes as shapes;
 ghost use Rattle.ts_cli.specs.Shapes.{HasShape};
 
-use crate::arguments::{among, choice, leaf, needed, option, with, word, words};
+use crate::arguments::{among, choice, leaf, needed, option, reading, with, word, words};
 use clap::Command;
 use std::alloc::{AllocError, Global};
 
@@ -49,23 +49,18 @@ fn serve<'a>(alloc: Global) -> Result<Command<'a>, AllocError>
     with(command, connections)
 }
 
-fn submit<'a>(alloc: Global) -> Result<Command<'a>, AllocError>
-    ensures { IfOk result (HasShape shapes.submit) }
+/// A command with an address and a file.
+fn sending<'a>(
+    alloc: Global,
+    name: &'a str,
+    about: &'a str,
+    help: &'a str,
+) -> Result<Command<'a>, AllocError>
+    ensures { IfOk result (HasShape (shapes.sending name.entry.now)) }
 {
     let address = word(alloc, "address", "ADDR", "HOST:PORT of the node");
-    let file = word(alloc, "file", "FILE", "An encoded command");
-    let command = leaf(alloc, "submit", "Hands a command to a node");
-    let command = with(command, address)?;
-    with(command, file)
-}
-
-fn ask<'a>(alloc: Global) -> Result<Command<'a>, AllocError>
-    ensures { IfOk result (HasShape shapes.ask) }
-{
-    let address = word(alloc, "address", "ADDR", "HOST:PORT of the node");
-    let file = word(alloc, "file", "FILE", "An encoded question");
-    let command = leaf(alloc, "ask", "Asks a node a question");
-    let command = with(command, address)?;
+    let file = word(alloc, "file", "FILE", help);
+    let command = with(leaf(alloc, name, about), address)?;
     with(command, file)
 }
 
@@ -84,39 +79,20 @@ fn carry<'a>(alloc: Global) -> Result<Command<'a>, AllocError>
     with(command, rounds)
 }
 
-fn id<'a>(alloc: Global) -> Result<Command<'a>, AllocError>
-    ensures { IfOk result (HasShape shapes.id) }
-{
-    let file = word(alloc, "file", "FILE", "The certificate or list in DER");
-    with(
-        leaf(alloc, "id", "Prints the id of an anchor or list"),
-        file,
-    )
-}
-
-fn show<'a>(alloc: Global) -> Result<Command<'a>, AllocError>
-    ensures { IfOk result (HasShape shapes.show) }
-{
-    let file = word(
-        alloc,
-        "file",
-        "FILE",
-        "A certificate, list, command, question or record",
-    );
-    with(leaf(alloc, "show", "Prints what a file holds"), file)
-}
-
 /// The tasks of a node, which are the first of the program.
 fn node_tasks<'a>(alloc: Global) -> Result<Command<'a>, AllocError>
     ensures { IfOk result (λ r. app_of r ≡ shapes.node_tasks) }
 {
     let about = "A replicated trust store for X.509 certificates";
     let lab = leaf(alloc, "lab", "Answers the script on standard input");
-    let program = among(choice(alloc, "trustd", about), lab)?;
+    let submit = sending(alloc, "submit", "Hands a command to a node", "An encoded command")?;
+    let ask = sending(alloc, "ask", "Asks a node a question", "An encoded question")?;
+    let program = choice(alloc, "trustd", about, "trustd")?;
+    let program = among(program, lab)?;
     let program = among(program, format(alloc)?)?;
     let program = among(program, serve(alloc)?)?;
-    let program = among(program, submit(alloc)?)?;
-    let program = among(program, ask(alloc)?)?;
+    let program = among(program, submit)?;
+    let program = among(program, ask)?;
     among(program, carry(alloc)?)
 }
 
@@ -124,18 +100,14 @@ fn node_tasks<'a>(alloc: Global) -> Result<Command<'a>, AllocError>
 pub(crate) fn program<'a>(alloc: Global) -> Result<Command<'a>, AllocError>
     ensures { IfOk result (λ r. app_of r ≡ shapes.program) }
 {
-    let command = leaf(
-        alloc,
-        "command",
-        "Writes an encoded command to standard output",
-    );
-    let question = leaf(
-        alloc,
-        "question",
-        "Writes an encoded question to standard output",
-    );
+    let command = leaf(alloc, "command", "Writes an encoded command to standard output");
+    let question = leaf(alloc, "question", "Writes an encoded question to standard output");
+    let about = "Prints the id of an anchor or list";
+    let id = reading(alloc, "id", about, "FILE", "The certificate or list in DER")?;
+    let what = "A certificate, list, command, question or record";
+    let show = reading(alloc, "show", "Prints what a file holds", "FILE", what)?;
     let program = among(node_tasks(alloc)?, command)?;
     let program = among(program, question)?;
-    let program = among(program, id(alloc)?)?;
-    among(program, show(alloc)?)
+    let program = among(program, id)?;
+    among(program, show)
 }

@@ -90,22 +90,6 @@ fn carry(alloc: Global, matches: &ArgMatches<'_>) -> Result<Task, CommandFault>
     Ok(Task::Carry { addresses, rounds })
 }
 
-fn id(alloc: Global, matches: &ArgMatches<'_>) -> Result<Task, CommandFault>
-    ensures { IfOk result (SaysTask (codes "id") (rows_of (found_of matches.now))) }
-{
-    Ok(Task::Id {
-        file: string_at(alloc, matches, "file")?,
-    })
-}
-
-fn show(alloc: Global, matches: &ArgMatches<'_>) -> Result<Task, CommandFault>
-    ensures { IfOk result (SaysTask (codes "show") (rows_of (found_of matches.now))) }
-{
-    Ok(Task::Show {
-        file: string_at(alloc, matches, "file")?,
-    })
-}
-
 /// The task of a subcommand of the program.
 pub(crate) fn task_named(
     alloc: Global,
@@ -122,8 +106,12 @@ pub(crate) fn task_named(
         "submit" => submit(alloc, matches),
         "ask" => ask(alloc, matches),
         "carry" => carry(alloc, matches),
-        "id" => id(alloc, matches),
-        "show" => show(alloc, matches),
+        "id" => Ok(Task::Id {
+            file: string_at(alloc, matches, "file")?,
+        }),
+        "show" => Ok(Task::Show {
+            file: string_at(alloc, matches, "file")?,
+        }),
         _ => Err(CommandFault::Value(WrongValue::Missing)),
     }
 }

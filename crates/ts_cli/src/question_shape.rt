@@ -7,7 +7,7 @@ ghost use Rattle.ts_cli.specs.Shapes as shapes;
 ghost use Rattle.ts_cli.specs.Shapes.{HasShape};
 
 use crate::arguments::{
-    among, choice_within, flag, leaf, needed, option, options, with, word, words,
+    among, choice, flag, leaf, needed, option, options, with, word, words,
 };
 use clap::Command;
 use std::alloc::{AllocError, Global};
@@ -85,7 +85,7 @@ pub(crate) fn questions<'a>(alloc: Global) -> Result<Command<'a>, AllocError>
     ensures { IfOk result (λ r. app_of r ≡ shapes.questions) }
 {
     let about = "Writes an encoded question to standard output";
-    let all = choice_within(alloc, "question", about, "trustd question")?;
+    let all = choice(alloc, "question", about, "trustd question")?;
     let all = among(all, chain(alloc)?)?;
     among(all, search(alloc)?)
 }

@@ -1,8 +1,8 @@
 -- The subcommands, one after another.
-use Rattle.std.proofs.Common.{◌≡◌, ◌∙◌, ap, ap₂, refl}
+use Rattle.std.proofs.Common.{◌≡◌, ◌∙◌, ap₂}
 use Rattle.std.proofs.lemmas.Result.{IfOk-weaker}
 use Rattle.clap.specs.Simple.{with_rule}
-use Rattle.ts_cli.specs.Shapes.{among, needed, with_argument}
+use Rattle.ts_cli.specs.Shapes.{among}
 use Rattle.ts_cli.proofs.command_shape.commands.Goals as goal
 
 pub returns : goal.returns

@@ -1,7 +1,7 @@
 -- The subcommands, one after another.
-use Rattle.std.proofs.Common.{◌≡◌, ◌∙◌, ap, ap₂, refl}
+use Rattle.std.proofs.Common.{◌≡◌, ◌∙◌, ap₂}
 use Rattle.std.proofs.lemmas.Result.{IfOk-weaker}
-use Rattle.ts_cli.specs.Shapes.{among, needed, with_argument}
+use Rattle.ts_cli.specs.Shapes.{among}
 use Rattle.ts_cli.proofs.program.program.Goals as goal
 
 pub returns : goal.returns
