@@ -169,3 +169,16 @@ pub record Asks (app : App) (words : List Text) (task : Task) : Type 0 where
 -- the task that words ask for
 abbrev pub AsksFor : List Text → Task → Type 0
 AsksFor words task = Asks (app_in (group_of words)) (words_in (group_of words) words) task
+
+-- nodes and one of them, connections, addresses and rounds are in range
+abbrev pub IsInRange : Task → Type 0
+IsInRange (Format file id nodes) = (1 ≤ id) × (id ≤ nodes) × (nodes ≤ 9)
+IsInRange (Serve file listen table connections) = (1 ≤ connections) × (connections ≤ 1000000)
+IsInRange (Carry addresses rounds) = (1 ≤ length addresses.items) × (length addresses.items ≤ 9) × (1 ≤ rounds) × (rounds ≤ 1000000)
+IsInRange Lab = Unit {0}
+IsInRange (Submit address file) = Unit {0}
+IsInRange (Ask address file) = Unit {0}
+IsInRange (Command words) = Unit {0}
+IsInRange (Question words) = Unit {0}
+IsInRange (Id file) = Unit {0}
+IsInRange (Show file) = Unit {0}

@@ -100,9 +100,9 @@ purposes = leaf (codes "purposes") (word (codes "anchor") ∷ words (codes "purp
 
 abbrev pub commands : App
 commands = choice (codes "command") (option (codes "id") ∷ []) (
-  reading (codes "add") ∷ naming (codes "withdraw") (codes "anchor") ∷ reading (codes "load") ∷ naming (codes "drop") (codes "list")
-  ∷ purposes ∷ leaf (codes "noop") [] ∷ []
-)
+    reading (codes "add") ∷ naming (codes "withdraw") (codes "anchor") ∷ reading (codes "load") ∷ naming (codes "drop") (codes "list")
+    ∷ purposes ∷ leaf (codes "noop") [] ∷ []
+    )
 
 -- ---- `trustd question`
 

@@ -7,7 +7,7 @@ ghost use Rattle.clap.specs.Walk.{rows_of};
 ghost use Rattle.clap.specs.Words.{fault_of};
 ghost use Rattle.ts_cli.specs.declared.fault.CommandFault.TheVariants.{Memory};
 ghost use Rattle.ts_cli.specs.CommandLine.{AskForLab, faults_in};
-ghost use Rattle.ts_cli.specs.Says.{Asks, AsksFor};
+ghost use Rattle.ts_cli.specs.Says.{Asks, AsksFor, IsInRange};
 ghost use Rattle.ts_cli.specs.Shapes as shapes;
 
 use crate::command_shape::commands;
@@ -98,13 +98,10 @@ fn behind_first<S: AsStr>(words: &[S]) -> &[S]
     }
 }
 
-/// The task that these words ask for; the first is the program's name.
-pub fn task_of<'a, S: AsStr>(alloc: Global, words: &'a [S]) -> Result<Task, CommandFault>
-    // Only want of memory keeps `trustd lab` from the lab.
+/// The task that these words ask for, by their group.
+fn task_by_group<'a, S: AsStr>(alloc: Global, words: &'a [S]) -> Result<Task, CommandFault>
     ensures lab { AskForLab (map S.text words.entry.now) → IfErr result (λ fault. fault ≡ Memory) }
-    // A task comes only from words in which the parser has no fault to find.
     ensures taken { IsOk result → faults_in (map S.text words.entry.now) ≡ [] }
-    // It is what the subcommand says that they name, with what they give it.
     ensures asked { IfOk result (AsksFor (map S.text words.entry.now)) }
 {
     match group_of(words) {
@@ -112,4 +109,23 @@ pub fn task_of<'a, S: AsStr>(alloc: Global, words: &'a [S]) -> Result<Task, Comm
         Group::Command => command_task(alloc, behind_first(words)),
         Group::Question => question_task(alloc, behind_first(words)),
     }
+}
+
+/// The task that these words ask for; the first is the program's name.
+///
+/// # Errors
+///
+/// `Words` where the parser takes no such words, or where they ask for help. `Value` where it takes them, and a value is none
+/// that the task may have. Memory that is refused.
+pub fn task_of<'a, S: AsStr>(alloc: Global, words: &'a [S]) -> Result<Task, CommandFault>
+    // Only want of memory keeps `trustd lab` from the lab.
+    ensures lab { AskForLab (map S.text words.entry.now) → IfErr result (λ fault. fault ≡ Memory) }
+    // A task comes only from words in which the parser has no fault to find.
+    ensures taken { IsOk result → faults_in (map S.text words.entry.now) ≡ [] }
+    // It is what the subcommand says that they name, with what they give it.
+    ensures asked { IfOk result (AsksFor (map S.text words.entry.now)) }
+    // Its numbers are in range.
+    ensures ranges { IfOk result IsInRange }
+{
+    task_by_group(alloc, words)
 }

@@ -94,11 +94,7 @@ fn purposes(alloc: Global, matches: &ArgMatches<'_>) -> Result<Change, CommandFa
 }
 
 /// What a subcommand of `trustd command` says that the command does.
-fn change_named(
-    alloc: Global,
-    name: &str,
-    matches: &ArgMatches<'_>,
-) -> Result<Change, CommandFault>
+fn change_named(alloc: Global, name: &str, matches: &ArgMatches<'_>) -> Result<Change, CommandFault>
     ensures { IfOk result (SaysChange name.now (rows_of (found_of matches.now))) }
 {
     match name {

@@ -112,7 +112,10 @@ fn command_in(
 {
     match change {
         Change::Add { .. } => add(alloc, id, contents),
-        Change::Withdraw { anchor } => Ok(Command::WithdrawAnchor { id, anchor: *anchor }),
+        Change::Withdraw { anchor } => Ok(Command::WithdrawAnchor {
+            id,
+            anchor: *anchor,
+        }),
         Change::Load { .. } => load(alloc, id, contents),
         Change::Drop { list } => Ok(Command::DropCrl { id, crl: *list }),
         Change::Purposes { anchor, purposes } => Ok(set(alloc, id, *anchor, purposes)?),

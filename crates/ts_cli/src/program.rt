@@ -85,8 +85,18 @@ fn node_tasks<'a>(alloc: Global) -> Result<Command<'a>, AllocError>
 {
     let about = "A replicated trust store for X.509 certificates";
     let lab = leaf(alloc, "lab", "Answers the script on standard input");
-    let submit = sending(alloc, "submit", "Hands a command to a node", "An encoded command")?;
-    let ask = sending(alloc, "ask", "Asks a node a question", "An encoded question")?;
+    let submit = sending(
+        alloc,
+        "submit",
+        "Hands a command to a node",
+        "An encoded command",
+    )?;
+    let ask = sending(
+        alloc,
+        "ask",
+        "Asks a node a question",
+        "An encoded question",
+    )?;
     let program = choice(alloc, "trustd", about, "trustd")?;
     let program = among(program, lab)?;
     let program = among(program, format(alloc)?)?;
@@ -100,8 +110,16 @@ fn node_tasks<'a>(alloc: Global) -> Result<Command<'a>, AllocError>
 pub(crate) fn program<'a>(alloc: Global) -> Result<Command<'a>, AllocError>
     ensures { IfOk result (λ r. app_of r ≡ shapes.program) }
 {
-    let command = leaf(alloc, "command", "Writes an encoded command to standard output");
-    let question = leaf(alloc, "question", "Writes an encoded question to standard output");
+    let command = leaf(
+        alloc,
+        "command",
+        "Writes an encoded command to standard output",
+    );
+    let question = leaf(
+        alloc,
+        "question",
+        "Writes an encoded question to standard output",
+    );
     let about = "Prints the id of an anchor or list";
     let id = reading(alloc, "id", about, "FILE", "The certificate or list in DER")?;
     let what = "A certificate, list, command, question or record";

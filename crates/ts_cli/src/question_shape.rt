@@ -6,9 +6,7 @@ ghost use Rattle.clap.specs.declared.builder.command.Command.TheViews.{out-Comma
 ghost use Rattle.ts_cli.specs.Shapes as shapes;
 ghost use Rattle.ts_cli.specs.Shapes.{HasShape};
 
-use crate::arguments::{
-    among, choice, flag, leaf, needed, option, options, with, word, words,
-};
+use crate::arguments::{among, choice, flag, leaf, needed, option, options, with, word, words};
 use clap::Command;
 use std::alloc::{AllocError, Global};
 
