@@ -1,0 +1,4 @@
+mod Parsing
+mod Saying
+mod Spelling
+mod Subcommands

@@ -1,0 +1,42 @@
+-- What a parse gives, and what it takes.
+use Rattle.std.proofs.Common.{◌≡◌, ◌∙◌, refl, ap, sym, true, List, ℕ, [], ◌∷◌, codes, option_map, Option, Some, None}
+use Rattle.clap.specs.Words.{fault_of, is_simple_and_free, takes}
+use Rattle.clap.specs.Walk.{Text, Row}
+use Rattle.clap.specs.Simple.{App, is_simple, subcommand_of}
+use Rattle.clap.proofs.OnLiterals.{clap_on_literals}
+use Rattle.ts_cli.specs.Shapes.{program, commands, questions}
+
+pub lab_is_taken : (name : Text) → takes program (name ∷ codes "lab" ∷ []) ≡ true
+unfolding clap_on_literals
+lab_is_taken name = refl
+
+pub lab_is_given : (name : Text) → option_map (λ p. p.0) (subcommand_of program (name ∷ codes "lab" ∷ [])) ≡ Some (codes "lab")
+unfolding clap_on_literals
+lab_is_given name = refl
+
+pub program_is_free : is_simple_and_free program ≡ true
+unfolding clap_on_literals
+program_is_free = refl
+
+pub program_is_simple : is_simple program ≡ true
+unfolding clap_on_literals
+program_is_simple = refl
+
+pub commands_are_free : is_simple_and_free commands ≡ true
+unfolding clap_on_literals
+commands_are_free = refl
+
+pub commands_are_simple : is_simple commands ≡ true
+unfolding clap_on_literals
+commands_are_simple = refl
+
+pub questions_are_free : is_simple_and_free questions ≡ true
+unfolding clap_on_literals
+questions_are_free = refl
+
+pub questions_are_simple : is_simple questions ≡ true
+unfolding clap_on_literals
+questions_are_simple = refl
+
+pub some_is : {X : Type 0} {x y : X} → Some x ≡ Some y → x ≡ y
+some_is same = cc

@@ -1,0 +1,184 @@
+-- The task that a command line asks for: its subcommand, and what that is given.
+use Rattle.std.specs.Prelude.{◌≡◌, ◌≤◌, ℕ, List, [], ◌∷◌, IsPermutation, length, map, option_map, Option, Some, None, codes, string_bytes, MatchOption}
+use Rattle.std.specs.List.{AllByRecursion}
+use Rattle.clap.specs.Walk.{Row, Text, first_of}
+use Rattle.clap.specs.Simple.{App, matches_of, subcommand_of}
+use Rattle.ts_cli.specs.CommandLine.{app_in, group_of, words_in}
+use Rattle.ts_cli.specs.Values.{IsAddressed, IsNumberIn, IsHex, IsDotted, AsWritten, written}
+use Rattle.ts_cli.specs.Given.{IsAt, IsNumberAt, IsDigestAt, IsMomentAt, all_at, is_set}
+use Rattle.ts_question.specs.declared.terms.Flags.{Flags}
+use Rattle.ts_cli.specs.declared.command_words.CommandWords.{CommandWords}
+use Rattle.ts_cli.specs.declared.command_words.Change.{Change}
+use Rattle.ts_cli.specs.declared.command_words.Change.TheVariants.{Add, Withdraw, Load, Drop, Purposes, Noop}
+use Rattle.ts_cli.specs.declared.question_words.QuestionWords.{QuestionWords}
+use Rattle.ts_cli.specs.declared.question_words.TermWords.{TermWords}
+use Rattle.ts_cli.specs.declared.question_words.Subject.{Subject}
+use Rattle.ts_cli.specs.declared.question_words.Subject.TheVariants.{Chain, Search}
+use Rattle.ts_cli.specs.declared.task.Task.{Task}
+use Rattle.ts_cli.specs.declared.task.Task.TheVariants.{Lab, Format, Serve, Submit, Ask, Carry, Command, Question, Id, Show}
+
+pub record IsFormat (name : Text) (rows : List Row) (file : Text) (id nodes : ℕ) : Type 0 where
+  pub name_is : name ≡ codes "format"
+  pub file_is : IsAt (codes "file") rows file
+  pub id_is : IsNumberAt (codes "id") rows 1 nodes id
+  pub nodes_is : IsNumberAt (codes "nodes") rows 1 9 nodes
+
+pub record IsServe (name : Text) (rows : List Row) (file listen : Text) (table : Option Text) (connections : ℕ) : Type 0 where
+  pub name_is : name ≡ codes "serve"
+  pub file_is : IsAt (codes "file") rows file
+  pub listen_is : IsAt (codes "listen") rows listen
+  pub listen_address : IsAddressed listen
+  pub table_is : first_of (codes "table") rows ≡ table
+  pub connections_is : MatchOption (first_of (codes "connections") rows) (connections ≡ 1000000) (λ text. IsNumberIn 1 1000000 text connections)
+
+-- `submit` and `ask`, by their names
+pub record IsSending (name expected : Text) (rows : List Row) (address file : Text) : Type 0 where
+  pub name_is : name ≡ expected
+  pub address_is : IsAt (codes "address") rows address
+  pub address_form : IsAddressed address
+  pub file_is : IsAt (codes "file") rows file
+
+pub record IsCarry (name : Text) (rows : List Row) (addresses : List Text) (rounds : ℕ) : Type 0 where
+  pub name_is : name ≡ codes "carry"
+  pub addresses_are : addresses ≡ all_at (codes "addresses") rows
+  pub addresses_form : AllByRecursion IsAddressed addresses
+  pub least : 1 ≤ length addresses
+  pub most : length addresses ≤ 9
+  pub rounds_is : IsNumberAt (codes "rounds") rows 1 1000000 rounds
+
+-- `id` and `show`, by their names
+pub record IsReading (name expected : Text) (rows : List Row) (file : Text) : Type 0 where
+  pub name_is : name ≡ expected
+  pub file_is : IsAt (codes "file") rows file
+
+-- ---- commands
+
+-- `withdraw` and `drop`, by their names
+pub record IsNaming (name expected : Text) (rows : List Row) (argument : Text) (digest : List ℕ) : Type 0 where
+  pub name_is : name ≡ expected
+  pub digest_is : IsDigestAt argument rows digest
+
+-- any purposes where none are given; else those, in their order
+abbrev pub ArePurposesOf : List (List ℕ) → Option (List (List ℕ)) → Type 0
+ArePurposesOf [] purposes = purposes ≡ None
+ArePurposesOf (first ∷ others) purposes = (sorted : List (List ℕ)) × (purposes ≡ Some sorted) × IsPermutation (first ∷ others) sorted
+
+pub record IsSetting (name : Text) (rows : List Row) (anchor : List ℕ) (purposes : Option (List (List ℕ))) : Type 0 where
+  pub name_is : name ≡ codes "purposes"
+  pub anchor_is : IsDigestAt (codes "anchor") rows anchor
+  pub given : List (List ℕ)
+  pub given_are : map written given ≡ all_at (codes "purposes") rows
+  pub purposes_are : ArePurposesOf given purposes
+
+abbrev pub SaysChange : Text → List Row → Change → Type 0
+SaysChange name rows (Add file) = IsReading name (codes "add") rows (string_bytes file)
+SaysChange name rows (Withdraw anchor) = IsNaming name (codes "withdraw") rows (codes "anchor") anchor
+SaysChange name rows (Load file) = IsReading name (codes "load") rows (string_bytes file)
+SaysChange name rows (Drop list) = IsNaming name (codes "drop") rows (codes "list") list
+SaysChange name rows (Purposes anchor purposes) = IsSetting name rows anchor purposes
+SaysChange name rows Noop = name ≡ codes "noop"
+
+-- a command: its id by the arguments of `trustd command`, what it does by the subcommand
+pub record SaysCommand (own : List Row) (name : Text) (rows : List Row) (words : CommandWords) : Type 0 where
+  pub id_is : AsWritten (IsHex 16) (first_of (codes "id") own) words.id
+  pub change_is : SaysChange name rows words.change
+
+-- ---- questions
+
+abbrev pub flags_in : List Row → Flags
+flags_in rows = record {
+  explicit_policy = is_set (codes "explicit") rows;
+  inhibit_policy_mapping = is_set (codes "nomap") rows;
+  inhibit_any_policy = is_set (codes "noany") rows;
+  hard = is_set (codes "hard") rows;
+  use_deltas = is_set (codes "deltas") rows;
+}
+
+pub record AreTerms (rows : List Row) (terms : TermWords) : Type 0 where
+  pub moment_is : IsMomentAt (codes "at") rows terms.moment
+  pub flags_are : terms.flags ≡ flags_in rows
+  pub k_is : AsWritten (IsNumberIn 0 1000000) (first_of (codes "k") rows) terms.k
+  pub policies_are : map written terms.policies ≡ all_at (codes "policy") rows
+  pub few_policies : length terms.policies ≤ 32
+  pub purpose_is : AsWritten IsDotted (first_of (codes "purpose") rows) terms.purpose
+
+-- these files: one at least, and at most so many
+pub record AreFiles (most : ℕ) (expected files : List Text) : Type 0 where
+  pub are : files ≡ expected
+  pub some : 1 ≤ length files
+  pub few : length files ≤ most
+
+-- the files of a search: the leaf, and the pool
+pub record IsSearched (rows : List Row) (files : List Text) : Type 0 where
+  pub leaf : Text
+  pub leaf_is : IsAt (codes "leaf") rows leaf
+  pub files_are : AreFiles 33 (leaf ∷ all_at (codes "pool") rows) files
+
+pub record IsChain (name : Text) (rows : List Row) (anchor : List ℕ) (files : List Text) (terms : TermWords) : Type 0 where
+  pub name_is : name ≡ codes "chain"
+  pub anchor_is : IsDigestAt (codes "anchor") rows anchor
+  pub files_are : AreFiles 16 (all_at (codes "certificates") rows) files
+  pub terms_are : AreTerms rows terms
+
+pub record IsSearch (name : Text) (rows : List Row) (files : List Text) (terms : TermWords) : Type 0 where
+  pub name_is : name ≡ codes "search"
+  pub files_are : IsSearched rows files
+  pub terms_are : AreTerms rows terms
+
+abbrev pub IsAsked : Subject → Text → List Row → List Text → TermWords → Type 0
+IsAsked (Chain anchor) name rows files terms = IsChain name rows anchor files terms
+IsAsked Search name rows files terms = IsSearch name rows files terms
+
+abbrev pub SaysQuestion : Text → List Row → QuestionWords → Type 0
+SaysQuestion name rows words = IsAsked words.subject name rows (map string_bytes words.files.items) words.terms
+
+-- ---- tasks
+
+abbrev pub SaysTask : Text → List Row → Task → Type 0
+SaysTask name rows Lab = name ≡ codes "lab"
+SaysTask name rows (Format file id nodes) = IsFormat name rows (string_bytes file) id nodes
+SaysTask name rows (Serve file listen table connections) = IsServe name rows (string_bytes file) (string_bytes listen) (option_map string_bytes table) connections
+SaysTask name rows (Submit address file) = IsSending name (codes "submit") rows (string_bytes address) (string_bytes file)
+SaysTask name rows (Ask address file) = IsSending name (codes "ask") rows (string_bytes address) (string_bytes file)
+SaysTask name rows (Carry addresses rounds) = IsCarry name rows (map string_bytes addresses.items) rounds
+SaysTask name rows (Id file) = IsReading name (codes "id") rows (string_bytes file)
+SaysTask name rows (Show file) = IsReading name (codes "show") rows (string_bytes file)
+SaysTask name rows (Command words) = ⊥
+SaysTask name rows (Question words) = ⊥
+
+-- the task by the subcommand, and the arguments before it
+abbrev pub SaysAny : List Row → Text → List Row → Task → Type 0
+SaysAny own name rows (Command words) = SaysCommand own name rows words
+SaysAny own name rows (Question words) = SaysQuestion name rows words
+SaysAny own name rows Lab = SaysTask name rows Lab
+SaysAny own name rows (Format file id nodes) = SaysTask name rows (Format file id nodes)
+SaysAny own name rows (Serve file listen table connections) = SaysTask name rows (Serve file listen table connections)
+SaysAny own name rows (Submit address file) = SaysTask name rows (Submit address file)
+SaysAny own name rows (Ask address file) = SaysTask name rows (Ask address file)
+SaysAny own name rows (Carry addresses rounds) = SaysTask name rows (Carry addresses rounds)
+SaysAny own name rows (Id file) = SaysTask name rows (Id file)
+SaysAny own name rows (Show file) = SaysTask name rows (Show file)
+
+-- the task that words ask for at a command line
+pub record Asks (app : App) (words : List Text) (task : Task) : Type 0 where
+  pub name : Text
+  pub rows : List Row
+  pub given : subcommand_of app words ≡ Some (name, rows)
+  pub says : SaysAny (matches_of app words) name rows task
+
+-- the task that words ask for
+abbrev pub AsksFor : List Text → Task → Type 0
+AsksFor words task = Asks (app_in (group_of words)) (words_in (group_of words) words) task
+
+-- nodes and one of them, connections, addresses and rounds are in range
+abbrev pub IsInRange : Task → Type 0
+IsInRange (Format file id nodes) = (1 ≤ id) × (id ≤ nodes) × (nodes ≤ 9)
+IsInRange (Serve file listen table connections) = (1 ≤ connections) × (connections ≤ 1000000)
+IsInRange (Carry addresses rounds) = (1 ≤ length addresses.items) × (length addresses.items ≤ 9) × (1 ≤ rounds) × (rounds ≤ 1000000)
+IsInRange Lab = Unit {0}
+IsInRange (Submit address file) = Unit {0}
+IsInRange (Ask address file) = Unit {0}
+IsInRange (Command words) = Unit {0}
+IsInRange (Question words) = Unit {0}
+IsInRange (Id file) = Unit {0}
+IsInRange (Show file) = Unit {0}

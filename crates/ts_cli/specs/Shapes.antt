@@ -1,0 +1,130 @@
+-- The command lines as `clap` sees them: of the program, of `trustd command` and of `trustd question`.
+use Rattle.std.specs.Prelude.{true, false, List, [], ◌∷◌, ◌++◌, Some, codes, ◌≡◌}
+use Rattle.clap.specs.Walk.{Rule, Text, is_empty}
+use Rattle.clap.specs.Simple.{App, Shape, new_rule, new_shape, shape_of, with_subcommand}
+use Rattle.clap.specs.declared.builder.action.ArgAction.TheVariants.{Set, Append, SetTrue}
+use Rattle.clap.specs.declared.builder.command.Command.{Command}
+use Rattle.clap.specs.declared.builder.command.Command.TheViews.{out-Command}
+
+-- ---- arguments
+
+-- `--name VALUE`, at most once
+abbrev pub option : Text → Rule
+option name = record (new_rule name) { long = Some name; action = Some Set; value_names = 1 }
+
+-- `--name VALUE`, any number of times
+abbrev pub options : Text → Rule
+options name = record (new_rule name) { long = Some name; action = Some Append; value_names = 1 }
+
+-- `--name`, at most once
+abbrev pub flag : Text → Rule
+flag name = record (new_rule name) { long = Some name; action = Some SetTrue }
+
+-- a word that stands where it is
+abbrev pub word : Text → Rule
+word name = record (new_rule name) { action = Some Set; value_names = 1; required = true }
+
+-- any number of words to the end
+abbrev pub words : Text → Rule
+words name = record (new_rule name) { action = Some Append; value_names = 1 }
+
+-- what has to be given
+abbrev pub needed : Rule → Rule
+needed rule = record rule { required = true }
+
+-- ---- commands
+
+abbrev pub leaf : Text → List Rule → Shape
+leaf name rules = record (new_shape name) { rules = rules }
+
+-- a command with one more argument
+abbrev pub with_argument : Shape → Rule → Shape
+with_argument shape rule = record shape { rules = shape.rules ++ rule ∷ [] }
+
+-- a command that wants a subcommand, and has none for help
+abbrev pub choice : Text → List Rule → List Shape → App
+choice name rules subs = record {
+  top = record (leaf name rules) { is_leaf = is_empty subs; subcommand_required = true; disable_help_subcommand = true };
+  subs = subs;
+}
+
+-- with one more subcommand
+abbrev pub among : App → Shape → App
+among app sub = with_subcommand app sub
+
+-- a command of this shape, no argument of which is that of its subcommands
+abbrev pub HasShape : Shape → Command → Type 0
+HasShape shape command = (shape_of command ≡ shape) × ((out-Command command).has_globals ≡ false)
+
+-- a file
+abbrev pub reading : Text → Shape
+reading name = leaf name (word (codes "file") ∷ [])
+
+-- ---- the program
+
+abbrev pub lab : Shape
+lab = leaf (codes "lab") []
+
+abbrev pub format : Shape
+format = leaf (codes "format") (word (codes "file") ∷ needed (option (codes "id")) ∷ needed (option (codes "nodes")) ∷ [])
+
+abbrev pub serve : Shape
+serve = leaf (codes "serve") (word (codes "file") ∷ needed (option (codes "listen")) ∷ option (codes "table") ∷ option (codes "connections") ∷ [])
+
+-- an address and a file
+abbrev pub sending : Text → Shape
+sending name = leaf name (word (codes "address") ∷ word (codes "file") ∷ [])
+
+abbrev pub carry : Shape
+carry = leaf (codes "carry") (needed (words (codes "addresses")) ∷ needed (option (codes "rounds")) ∷ [])
+
+-- whose words go to another command line
+abbrev pub named : Text → Shape
+named name = leaf name []
+
+-- the tasks of a node
+abbrev pub node_tasks : App
+node_tasks = choice (codes "trustd") [] (lab ∷ format ∷ serve ∷ sending (codes "submit") ∷ sending (codes "ask") ∷ carry ∷ [])
+
+abbrev pub program : App
+program = choice (codes "trustd") [] (lab ∷ format ∷ serve ∷ sending (codes "submit") ∷ sending (codes "ask") ∷ carry ∷ named (codes "command") ∷ named (codes "question") ∷ reading (codes "id") ∷ reading (codes "show") ∷ [])
+
+-- ---- `trustd command`
+
+-- the id of an anchor or a list
+abbrev pub naming : Text → Text → Shape
+naming name argument = leaf name (word argument ∷ [])
+
+abbrev pub purposes : Shape
+purposes = leaf (codes "purposes") (word (codes "anchor") ∷ words (codes "purposes") ∷ [])
+
+abbrev pub commands : App
+commands = choice (codes "command") (option (codes "id") ∷ []) (
+    reading (codes "add") ∷ naming (codes "withdraw") (codes "anchor") ∷ reading (codes "load") ∷ naming (codes "drop") (codes "list")
+    ∷ purposes ∷ leaf (codes "noop") [] ∷ []
+    )
+
+-- ---- `trustd question`
+
+-- a command with more arguments
+abbrev pub with_arguments : Shape → List Rule → Shape
+with_arguments shape [] = shape
+with_arguments shape (rule ∷ rules) = with_arguments (with_argument shape rule) rules
+
+abbrev pub with_flags : Shape → Shape
+with_flags own = with_arguments own (flag (codes "hard") ∷ flag (codes "deltas") ∷ flag (codes "explicit") ∷ flag (codes "nomap") ∷ flag (codes "noany") ∷ [])
+
+-- what both questions take behind arguments of their own
+abbrev pub with_terms : Shape → Shape
+with_terms own =
+    let begun = with_arguments own (needed (option (codes "at")) ∷ option (codes "k") ∷ []) in
+    with_arguments (with_flags begun) (options (codes "policy") ∷ option (codes "purpose") ∷ [])
+
+abbrev pub chain : Shape
+chain = with_terms (leaf (codes "chain") (needed (option (codes "anchor")) ∷ needed (words (codes "certificates")) ∷ []))
+
+abbrev pub search : Shape
+search = with_terms (leaf (codes "search") (word (codes "leaf") ∷ words (codes "pool") ∷ []))
+
+abbrev pub questions : App
+questions = choice (codes "question") [] (chain ∷ search ∷ [])

@@ -1,0 +1,132 @@
+//! The command that `trustd command` is to write.
+
+ghost use Rattle.std.specs.Prelude.{◌≡◌, IfOk, codes};
+ghost use Rattle.clap.specs.Matches.{found_of};
+ghost use Rattle.clap.specs.Walk.{rows_of, first_of};
+ghost use Rattle.ts_cli.specs.Values.{IsHex, AsWritten};
+ghost use Rattle.ts_cli.specs.Given.{IsDigestAt};
+ghost use Rattle.ts_cli.specs.Says.{SaysChange, SaysCommand};
+
+use crate::fault::{CommandFault, WrongValue};
+use crate::matched::{string_at, text_at, value_at};
+use crate::oids::{oids_at, purposes_of};
+use crate::values::{digest_of, id_of};
+use clap::ArgMatches;
+use std::alloc::Global;
+use ts_store::Purposes;
+
+/// The words of a command.
+#[derive(Debug, Drop)]
+pub struct CommandWords {
+    /// The id of the command, if it is given.
+    pub id: Option<[u8; 16]>,
+    /// What the command does.
+    pub change: Change,
+}
+
+/// What a command does.
+#[derive(Debug, Drop)]
+pub enum Change {
+    /// Adds a trust anchor.
+    Add {
+        /// The certificate.
+        file: String,
+    },
+    /// Removes a trust anchor.
+    Withdraw {
+        /// Its id.
+        anchor: [u8; 32],
+    },
+    /// Adds a list of revoked certificates.
+    Load {
+        /// The list.
+        file: String,
+    },
+    /// Removes a list of revoked certificates.
+    Drop {
+        /// Its id.
+        list: [u8; 32],
+    },
+    /// Sets the purposes of a trust anchor.
+    Purposes {
+        /// Its id.
+        anchor: [u8; 32],
+        /// The purposes.
+        purposes: Purposes,
+    },
+    /// Changes nothing.
+    Noop,
+}
+
+/// The id of an anchor or a list that an argument gives.
+pub(crate) fn digest_at(matches: &ArgMatches<'_>, id: &str) -> Result<[u8; 32], CommandFault>
+    ensures { IfOk result (IsDigestAt id.now (rows_of (found_of matches.now))) }
+{
+    let text = text_at(matches, id)?;
+    match digest_of(text) {
+        Some(digest) => Ok(digest),
+        None => Err(CommandFault::Value(WrongValue::Digest)),
+    }
+}
+
+/// The id of the command, if it is given.
+fn command_id(matches: &ArgMatches<'_>) -> Result<Option<[u8; 16]>, CommandFault>
+    ensures { IfOk result (AsWritten (IsHex 16) (first_of (codes "id") (rows_of (found_of matches.now)))) }
+{
+    let Some(text) = value_at(matches, "id") else {
+        return Ok(None);
+    };
+    match id_of(text) {
+        Some(id) => Ok(Some(id)),
+        None => Err(CommandFault::Value(WrongValue::CommandId)),
+    }
+}
+
+fn purposes(alloc: Global, matches: &ArgMatches<'_>) -> Result<Change, CommandFault>
+    ensures { IfOk result (SaysChange (codes "purposes") (rows_of (found_of matches.now))) }
+{
+    let anchor = digest_at(matches, "anchor")?;
+    let oids = oids_at(alloc, matches, "purposes")?;
+    Ok(Change::Purposes {
+        anchor,
+        purposes: purposes_of(oids)?,
+    })
+}
+
+/// What a subcommand of `trustd command` says that the command does.
+fn change_named(alloc: Global, name: &str, matches: &ArgMatches<'_>) -> Result<Change, CommandFault>
+    ensures { IfOk result (SaysChange name.now (rows_of (found_of matches.now))) }
+{
+    match name {
+        "add" => Ok(Change::Add {
+            file: string_at(alloc, matches, "file")?,
+        }),
+        "withdraw" => Ok(Change::Withdraw {
+            anchor: digest_at(matches, "anchor")?,
+        }),
+        "load" => Ok(Change::Load {
+            file: string_at(alloc, matches, "file")?,
+        }),
+        "drop" => Ok(Change::Drop {
+            list: digest_at(matches, "list")?,
+        }),
+        "purposes" => purposes(alloc, matches),
+        "noop" => Ok(Change::Noop),
+        _ => Err(CommandFault::Value(WrongValue::Missing)),
+    }
+}
+
+/// The command that a subcommand says, behind the arguments of `trustd command`.
+pub(crate) fn command_named(
+    alloc: Global,
+    own: &ArgMatches<'_>,
+    name: &str,
+    matches: &ArgMatches<'_>,
+) -> Result<CommandWords, CommandFault>
+    ensures { IfOk result (SaysCommand (rows_of (found_of own.now)) name.now (rows_of (found_of matches.now))) }
+{
+    Ok(CommandWords {
+        id: command_id(own)?,
+        change: change_named(alloc, name, matches)?,
+    })
+}

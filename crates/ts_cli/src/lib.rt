@@ -1,0 +1,54 @@
+//! The command line of `trustd`: words to a task, and tasks to encoded commands and questions.
+//!
+//! ```text
+//! let task = task_of_process(&rt)?;                                     // else `report` prints why, and gives the status
+//! let octets = command_octets(alloc, &id, &words.change, &contents)?;   // the one spelling of the command
+//! let octets = question_octets(alloc, &words, &certificates)?;          // the one spelling of the question
+//! ```
+//!
+//! There are three command lines, each of one level, so that the parser's contracts say all of it: the program's own, that of
+//! `trustd command` and that of `trustd question`. The second word says whose words these are. No file is read here, no id is
+//! drawn, and no connection is made.
+//!
+//! | Call | Clauses |
+//! |---|---|
+//! | [`task_of`] | `lab`: only want of memory keeps `trustd lab` from the lab; `taken`: a task comes only from words in which the parser has no fault to find; `asked`: it is what the subcommand says that they name, by the values that they give it (`specs/Says`); `ranges`: numbers are in range |
+//! | [`report`] | the status: 2 for a wrong command line or a wrong value, at most 1 after help, 1 for want of memory |
+//! | [`command_octets`] | `made`, `fits`: the spelling of the command that the change says; `long`, `memory`: `TooLong` exactly where the file is longer than a command holds |
+//! | [`question_octets`] | `made`, `fits`: the spelling of the question that the words say; `refused`: `OutOfLimits` only where that is outside its limits |
+//! | [`id_text`] | the SHA-256 in lower-case hexadecimal digits, by which a store knows an anchor or a list |
+//! | [`address_of`] | the host and the port, exactly where a text is an address |
+//!
+//! Gaps. No clause says that words whose values are all right have a task, but for `trustd lab`: that is tested. Nor is there one
+//! for the text of help and of errors, nor for [`task_of_process`], since no contract says which words a process has.
+//!
+//! Memory that is refused is answered as `Memory` or `AllocError`.
+#![tactic(auto)]
+
+mod arguments;
+mod command_line;
+mod command_shape;
+#[cfg(test)]
+mod command_tests;
+mod command_words;
+mod encoding;
+#[cfg(test)]
+mod encoding_tests;
+mod fault;
+mod group;
+mod matched;
+mod oids;
+mod program;
+mod program_task;
+mod question_shape;
+mod question_words;
+mod task;
+mod values;
+
+pub use command_line::{task_of, task_of_process};
+pub use command_words::{Change, CommandWords};
+pub use encoding::{MakeFault, command_octets, id_text, question_octets};
+pub use fault::{CommandFault, WrongValue, report};
+pub use question_words::{QuestionWords, Subject, TermWords};
+pub use task::Task;
+pub use values::address_of;

@@ -1,0 +1,66 @@
+//! What the program is to do.
+
+use crate::command_words::CommandWords;
+use crate::question_words::QuestionWords;
+
+/// What the program is to do.
+#[derive(Debug, Drop)]
+pub enum Task {
+    /// Answer the script on standard input.
+    Lab,
+    /// Make the record of a node.
+    Format {
+        /// The record.
+        file: String,
+        /// Which node it is.
+        id: u8,
+        /// How many nodes there are.
+        nodes: u8,
+    },
+    /// Answer clients and other nodes.
+    Serve {
+        /// The record.
+        file: String,
+        /// The address to listen at.
+        listen: String,
+        /// Signatures that are good.
+        table: Option<String>,
+        /// How many connections to take.
+        connections: u32,
+    },
+    /// Hand a command to a node.
+    Submit {
+        /// The address of the node.
+        address: String,
+        /// The encoded command.
+        file: String,
+    },
+    /// Ask a node a question.
+    Ask {
+        /// The address of the node.
+        address: String,
+        /// The encoded question.
+        file: String,
+    },
+    /// Carry messages between nodes.
+    Carry {
+        /// The address of each.
+        addresses: Vec<String>,
+        /// How many times.
+        rounds: u32,
+    },
+    /// Write an encoded command.
+    Command(CommandWords),
+    /// Write an encoded question.
+    Question(QuestionWords),
+    /// Print the id of an anchor or list.
+    Id {
+        /// The certificate or list.
+        file: String,
+    },
+    /// Print what a file holds.
+    Show {
+        /// The file.
+        file: String,
+    },
+}
