@@ -5,6 +5,7 @@ ghost use Rattle.trustd.specs.declared.fault.Fault.TheVariants as fault;
 
 use std::alloc::{AllocError, AllocFailed};
 use std::fmt;
+use ts_cli::MakeFault;
 use ts_lab::text::fault_name;
 use ts_node::NodeFault as NodeCallFault;
 use ts_serve::ServeFault;
@@ -131,6 +132,16 @@ impl From<TableFault> for Fault {
         match fault {
             TableFault::TableLine(number) => Fault::TableLine(number),
             TableFault::Memory => Fault::Memory,
+        }
+    }
+}
+
+impl From<MakeFault> for Fault {
+    fn from(fault: MakeFault) -> Fault {
+        match fault {
+            MakeFault::Memory => Fault::Memory,
+            MakeFault::TooLong => Fault::TooLong,
+            MakeFault::OutOfLimits => Fault::OutOfLimits,
         }
     }
 }

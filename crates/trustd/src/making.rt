@@ -1,12 +1,13 @@
-//! Files for the programs of a client: encoded commands and questions, and the ids of anchors and lists.
+//! Files for the programs of a client: encoded commands and questions; the ids of anchors and lists; what files hold.
 
 use crate::fault::Fault;
-use crate::files::read_file;
+use crate::files::{read_all, read_file, second};
 use std::alloc::Global;
-use std::fs;
-use std::io::{Eprint, Print, Read};
+use std::io::{Print, Read, Write};
 use std::rt::Files;
+use std::{fs, io};
 use ts_cli::{Change, CommandWords, QuestionWords, command_octets, id_text, question_octets};
+use ts_show::show;
 
 /// Where ids are drawn from.
 const RANDOM: &str = "/dev/urandom";
@@ -23,10 +24,98 @@ fn draw_id<R: Files>(rt: &R) -> Result<[u8; 16], Fault> {
     }
 }
 
+/// The id of a command: the one that is given, or a new one, which is printed on standard error, so that the command can be known again.
+fn id_of(rt: &(impl AllocGlobal + Files + Eprint), words: &CommandWords) -> Result<[u8; 16], Fault> {
+    if let Some(id) = words.id {
+        return Ok(id);
+    }
+    let id = draw_id(rt)?;
+    let text = hex::encode(rt.alloc(), id)?;
+    match eprintln!(rt; "{text}") {
+        Ok(()) => Ok(id),
+        Err(_) => Err(Fault::Write),
+    }
+}
+
 /// Writes octets to standard output.
 fn put(rt: &impl Print, octets: &[u8]) -> Result<(), Fault> {
-    match std::io::writer(rt).write_all(octets) {
+    match io::writer(rt).write_all(octets) {
         Ok(()) => Ok(()),
         Err(_) => Err(Fault::Write),
     }
+}
+
+/// Writes the encoded command that words say to standard output.
+///
+/// # Errors
+///
+/// Those of the file with the certificate or list; `TooLong`; `File` where no id can be drawn; `Write`.
+pub fn make_command(
+    rt: &(impl AllocGlobal + Files + Print + Eprint),
+    words: &CommandWords,
+) -> Result<(), Fault> {
+    let alloc = rt.alloc();
+    let contents = match &words.change {
+        Change::Add { file } | Change::Load { file } => read_file(rt, alloc, file.as_str())?,
+        _ => Vec::new(alloc),
+    };
+    let id = id_of(rt, words)?;
+    let octets = command_octets(alloc, &id, &words.change, &contents)?;
+    put(rt, &octets)
+}
+
+/// The octets of each of these files.
+fn read_files<R: Files>(rt: &R, alloc: Global, files: &[String]) -> Result<Vec<Vec<u8>>, Fault> {
+    let mut found = Vec::new(alloc);
+    for file in files {
+        found.push(read_file(rt, alloc, file.as_str())?)?;
+    }
+    Ok(found)
+}
+
+/// Writes the encoded question that words say to standard output.
+///
+/// # Errors
+///
+/// Those of the files with the certificates; `OutOfLimits`; `Write`.
+pub fn make_question(
+    rt: &(impl AllocGlobal + Files + Print),
+    words: &QuestionWords,
+) -> Result<(), Fault> {
+    let alloc = rt.alloc();
+    let certificates = read_files(rt, alloc, &words.files)?;
+    let octets = question_octets(alloc, words, &certificates)?;
+    put(rt, &octets)
+}
+
+/// Prints the id by which a store knows the trust anchor or the list in a file.
+///
+/// # Errors
+///
+/// Those of the file; `Write`.
+pub fn print_id(rt: &(impl AllocGlobal + Files + Print), file: &str) -> Result<(), Fault> {
+    let alloc = rt.alloc();
+    let octets = read_file(rt, alloc, file)?;
+    let text = id_text(alloc, &octets)?;
+    match println!(rt; "{text}") {
+        Ok(()) => Ok(()),
+        Err(_) => Err(Fault::Write),
+    }
+}
+
+/// Prints what a file holds. A record lies in two files; where the second can't be read it is taken for an empty one.
+///
+/// # Errors
+///
+/// Those of the file; `Write`.
+pub fn show_file(rt: &(impl AllocGlobal + Files + Print), file: &str) -> Result<(), Fault> {
+    let alloc = rt.alloc();
+    let octets = read_all(rt, alloc, file)?;
+    let other = match read_all(rt, alloc, second(alloc, file)?.as_str()) {
+        Ok(other) => other,
+        Err(Fault::Memory) => return Err(Fault::Memory),
+        Err(_) => Vec::new(alloc),
+    };
+    let text = show(alloc, &octets, &other)?;
+    put(rt, &text)
 }

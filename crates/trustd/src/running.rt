@@ -1,6 +1,6 @@
 //! A task is run.
 
-ghost use Rattle.trustd.specs.Running.{IsRunnable};
+ghost use Rattle.ts_cli.specs.Says.{IsInRange};
 
 use crate::fault::Fault;
 use crate::making::{make_command, make_question, print_id, show_file};
@@ -21,7 +21,7 @@ pub fn run<R: AllocGlobal + Files + Net<Listener = TcpListener, Stream = TcpStre
     rt: &R,
     task: &Task,
 ) -> Result<(), Fault>
-    requires { IsRunnable task.now }
+    requires { IsInRange task.now }
 {
     match task {
         Task::Lab => Ok(()),

@@ -5,7 +5,7 @@ use Rattle.clap.specs.Walk.{Text, Row, first_of}
 use Rattle.ts_cli.specs.Values.{IsNumberIn}
 use Rattle.ts_cli.specs.Says.{SaysTask, SaysAny, IsInRange}
 use Rattle.ts_cli.specs.declared.task.Task.{Task}
-use Rattle.ts_cli.specs.declared.task.Task.TheVariants.{Lab, Format, Serve, Submit, Ask, Carry, Command, Question, Id, Show}
+use Rattle.ts_cli.specs.declared.task.Task.TheVariants.{Lab, Format, Serve, Submit, Ask, Carry, Status, CatchUp, Compact, Command, Question, Id, Show}
 
 pub says_any : (own : List Row) (name : Text) (rows : List Row) (task : Task) → SaysTask name rows task → SaysAny own name rows task
 says_any own name rows (Command words) says = absurd says
@@ -16,6 +16,9 @@ says_any own name rows (Serve file listen table connections) says = says
 says_any own name rows (Submit address file) says = says
 says_any own name rows (Ask address file) says = says
 says_any own name rows (Carry addresses rounds) says = says
+says_any own name rows (Status address) says = says
+says_any own name rows (CatchUp address) says = says
+says_any own name rows (Compact address) says = says
 says_any own name rows (Id file) says = says
 says_any own name rows (Show file) says = says
 
@@ -35,5 +38,8 @@ in_range own name rows (Submit address file) says = tt
 in_range own name rows (Ask address file) says = tt
 in_range own name rows (Command words) says = tt
 in_range own name rows (Question words) says = tt
+in_range own name rows (Status address) says = tt
+in_range own name rows (CatchUp address) says = tt
+in_range own name rows (Compact address) says = tt
 in_range own name rows (Id file) says = tt
 in_range own name rows (Show file) says = tt

@@ -15,7 +15,7 @@ use Rattle.ts_cli.specs.declared.question_words.TermWords.{TermWords}
 use Rattle.ts_cli.specs.declared.question_words.Subject.{Subject}
 use Rattle.ts_cli.specs.declared.question_words.Subject.TheVariants.{Chain, Search}
 use Rattle.ts_cli.specs.declared.task.Task.{Task}
-use Rattle.ts_cli.specs.declared.task.Task.TheVariants.{Lab, Format, Serve, Submit, Ask, Carry, Command, Question, Id, Show}
+use Rattle.ts_cli.specs.declared.task.Task.TheVariants.{Lab, Format, Serve, Submit, Ask, Carry, Status, CatchUp, Compact, Command, Question, Id, Show}
 
 pub record IsFormat (name : Text) (rows : List Row) (file : Text) (id nodes : ℕ) : Type 0 where
   pub name_is : name ≡ codes "format"
@@ -45,6 +45,12 @@ pub record IsCarry (name : Text) (rows : List Row) (addresses : List Text) (roun
   pub least : 1 ≤ length addresses
   pub most : length addresses ≤ 9
   pub rounds_is : IsNumberAt (codes "rounds") rows 1 1000000 rounds
+
+-- `status`, `catchup` and `compact`, by their names
+pub record IsReaching (name expected : Text) (rows : List Row) (address : Text) : Type 0 where
+  pub name_is : name ≡ expected
+  pub address_is : IsAt (codes "address") rows address
+  pub address_form : IsAddressed address
 
 -- `id` and `show`, by their names
 pub record IsReading (name expected : Text) (rows : List Row) (file : Text) : Type 0 where
@@ -141,6 +147,9 @@ SaysTask name rows (Serve file listen table connections) = IsServe name rows (st
 SaysTask name rows (Submit address file) = IsSending name (codes "submit") rows (string_bytes address) (string_bytes file)
 SaysTask name rows (Ask address file) = IsSending name (codes "ask") rows (string_bytes address) (string_bytes file)
 SaysTask name rows (Carry addresses rounds) = IsCarry name rows (map string_bytes addresses.items) rounds
+SaysTask name rows (Status address) = IsReaching name (codes "status") rows (string_bytes address)
+SaysTask name rows (CatchUp address) = IsReaching name (codes "catchup") rows (string_bytes address)
+SaysTask name rows (Compact address) = IsReaching name (codes "compact") rows (string_bytes address)
 SaysTask name rows (Id file) = IsReading name (codes "id") rows (string_bytes file)
 SaysTask name rows (Show file) = IsReading name (codes "show") rows (string_bytes file)
 SaysTask name rows (Command words) = ⊥
@@ -156,6 +165,9 @@ SaysAny own name rows (Serve file listen table connections) = SaysTask name rows
 SaysAny own name rows (Submit address file) = SaysTask name rows (Submit address file)
 SaysAny own name rows (Ask address file) = SaysTask name rows (Ask address file)
 SaysAny own name rows (Carry addresses rounds) = SaysTask name rows (Carry addresses rounds)
+SaysAny own name rows (Status address) = SaysTask name rows (Status address)
+SaysAny own name rows (CatchUp address) = SaysTask name rows (CatchUp address)
+SaysAny own name rows (Compact address) = SaysTask name rows (Compact address)
 SaysAny own name rows (Id file) = SaysTask name rows (Id file)
 SaysAny own name rows (Show file) = SaysTask name rows (Show file)
 
@@ -180,5 +192,8 @@ IsInRange (Submit address file) = Unit {0}
 IsInRange (Ask address file) = Unit {0}
 IsInRange (Command words) = Unit {0}
 IsInRange (Question words) = Unit {0}
+IsInRange (Status address) = Unit {0}
+IsInRange (CatchUp address) = Unit {0}
+IsInRange (Compact address) = Unit {0}
 IsInRange (Id file) = Unit {0}
 IsInRange (Show file) = Unit {0}

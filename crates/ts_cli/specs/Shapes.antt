@@ -75,6 +75,10 @@ serve = leaf (codes "serve") (word (codes "file") ∷ needed (option (codes "lis
 abbrev pub sending : Text → Shape
 sending name = leaf name (word (codes "address") ∷ word (codes "file") ∷ [])
 
+-- an address
+abbrev pub reaching : Text → Shape
+reaching name = leaf name (word (codes "address") ∷ [])
+
 abbrev pub carry : Shape
 carry = leaf (codes "carry") (needed (words (codes "addresses")) ∷ needed (option (codes "rounds")) ∷ [])
 
@@ -86,8 +90,12 @@ named name = leaf name []
 abbrev pub node_tasks : App
 node_tasks = choice (codes "trustd") [] (lab ∷ format ∷ serve ∷ sending (codes "submit") ∷ sending (codes "ask") ∷ carry ∷ [])
 
+-- the tasks of a node's upkeep, behind others
+abbrev pub with_upkeep : App → App
+with_upkeep app = among (among (among app (reaching (codes "status"))) (reaching (codes "catchup"))) (reaching (codes "compact"))
+
 abbrev pub program : App
-program = choice (codes "trustd") [] (lab ∷ format ∷ serve ∷ sending (codes "submit") ∷ sending (codes "ask") ∷ carry ∷ named (codes "command") ∷ named (codes "question") ∷ reading (codes "id") ∷ reading (codes "show") ∷ [])
+program = with_upkeep (choice (codes "trustd") [] (lab ∷ format ∷ serve ∷ sending (codes "submit") ∷ sending (codes "ask") ∷ carry ∷ named (codes "command") ∷ named (codes "question") ∷ reading (codes "id") ∷ reading (codes "show") ∷ []))
 
 -- ---- `trustd command`
 

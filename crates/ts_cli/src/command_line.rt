@@ -26,7 +26,9 @@ use std::rt::Env;
 use std::{env, io};
 
 /// The task that the process's own words ask for.
-pub fn task_of_process(rt: &(impl AllocGlobal + Env)) -> Result<Task, CommandFault> {
+pub fn task_of_process(rt: &(impl AllocGlobal + Env)) -> Result<Task, CommandFault>
+    ensures ranges { IfOk result IsInRange }
+{
     let words = match env::args(rt) {
         Ok(words) => words,
         Err(error) if error.kind() == io::ErrorKind::OutOfMemory => return Err(

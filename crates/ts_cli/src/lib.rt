@@ -20,7 +20,7 @@
 //! | [`address_of`] | the host and the port, exactly where a text is an address |
 //!
 //! Gaps. No clause says that words whose values are all right have a task, but for `trustd lab`: that is tested. Nor is there one
-//! for the text of help and of errors, nor for [`task_of_process`], since no contract says which words a process has.
+//! for the text of help and of errors, nor for which words a process has: of [`task_of_process`] only `ranges` is said.
 //!
 //! Memory that is refused is answered as `Memory` or `AllocError`.
 #![tactic(auto)]

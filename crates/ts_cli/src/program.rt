@@ -64,6 +64,38 @@ fn sending<'a>(
     with(command, file)
 }
 
+/// A command with an address.
+fn reaching<'a>(
+    alloc: Global,
+    name: &'a str,
+    about: &'a str,
+) -> Result<Command<'a>, AllocError>
+    ensures { IfOk result (HasShape (shapes.reaching name.entry.now)) }
+{
+    let address = word(alloc, "address", "ADDR", "HOST:PORT of the node");
+    with(leaf(alloc, name, about), address)
+}
+
+/// The tasks of a node's upkeep, behind those that the program has.
+fn with_upkeep<'a>(alloc: Global, program: Command<'a>) -> Result<Command<'a>, AllocError>
+    ensures { IfOk result (λ r. app_of r ≡ shapes.with_upkeep (app_of program.entry)) }
+{
+    let status = reaching(alloc, "status", "Prints how many commands a node knows")?;
+    let catch_up = reaching(
+        alloc,
+        "catchup",
+        "Has a node ask others for what it lacks",
+    )?;
+    let compact = reaching(
+        alloc,
+        "compact",
+        "Has a node make one step of rewriting its record",
+    )?;
+    let program = among(program, status)?;
+    let program = among(program, catch_up)?;
+    among(program, compact)
+}
+
 fn carry<'a>(alloc: Global) -> Result<Command<'a>, AllocError>
     ensures { IfOk result (HasShape shapes.carry) }
 {
@@ -127,5 +159,6 @@ pub(crate) fn program<'a>(alloc: Global) -> Result<Command<'a>, AllocError>
     let program = among(node_tasks(alloc)?, command)?;
     let program = among(program, question)?;
     let program = among(program, id)?;
-    among(program, show)
+    let program = among(program, show)?;
+    with_upkeep(alloc, program)
 }

@@ -106,6 +106,15 @@ pub(crate) fn task_named(
         "submit" => submit(alloc, matches),
         "ask" => ask(alloc, matches),
         "carry" => carry(alloc, matches),
+        "status" => Ok(Task::Status {
+            address: address_at(alloc, matches, "address")?,
+        }),
+        "catchup" => Ok(Task::CatchUp {
+            address: address_at(alloc, matches, "address")?,
+        }),
+        "compact" => Ok(Task::Compact {
+            address: address_at(alloc, matches, "address")?,
+        }),
         "id" => Ok(Task::Id {
             file: string_at(alloc, matches, "file")?,
         }),

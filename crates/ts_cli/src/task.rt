@@ -49,6 +49,21 @@ pub enum Task {
         /// How many times.
         rounds: u32,
     },
+    /// Print how many commands a node knows.
+    Status {
+        /// The address of the node.
+        address: String,
+    },
+    /// Have a node ask others for what it lacks.
+    CatchUp {
+        /// The address of the node.
+        address: String,
+    },
+    /// Have a node make one step of rewriting its record.
+    Compact {
+        /// The address of the node.
+        address: String,
+    },
     /// Write an encoded command.
     Command(CommandWords),
     /// Write an encoded question.
