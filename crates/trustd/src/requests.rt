@@ -47,6 +47,22 @@ pub fn answer_of<P: Peer>(alloc: Global, peer: &mut P, request: &Frame) -> Resul
     frame_of(alloc, &answer)
 }
 
+/// The line that says what a command is answered.
+fn submit_line(alloc: Global, answer: &Frame) -> Result<String, Fault> {
+    match answer {
+        Frame::Started { position, ballot } => {
+            let (position, ballot) = (*position, *ballot);
+            Ok(format!(in alloc; "submit started {position} {ballot}\n")?)
+        }
+        Frame::Settled { position, outcome } => {
+            let position = *position;
+            let outcome = outcome_text(alloc, *outcome)?;
+            Ok(format!(in alloc; "submit settled {position} {outcome}\n")?)
+        }
+        _ => Err(Fault::Frame(FrameFault::Kind)),
+    }
+}
+
 /// Submits a command to a peer, and gives the line that says what it is answered.
 ///
 /// # Errors
@@ -56,13 +72,18 @@ pub fn submit<P: Peer>(alloc: Global, peer: &mut P, command: Command) -> Result<
     requires { P.is_ready peer.old }
     ensures { P.is_ready peer.new }
 {
-    match answer_of(alloc, peer, &Frame::Submit { command })? {
-        Frame::Started { position, ballot } => {
-            Ok(format!(in alloc; "submit started {position} {ballot}\n")?)
-        }
-        Frame::Settled { position, outcome } => {
-            let outcome = outcome_text(alloc, outcome)?;
-            Ok(format!(in alloc; "submit settled {position} {outcome}\n")?)
+    let request = Frame::Submit { command };
+    let answer = answer_of(alloc, peer, &request)?;
+    submit_line(alloc, &answer)
+}
+
+/// The line that says what a question is answered.
+fn ask_line(alloc: Global, answer: &Frame) -> Result<String, Fault> {
+    match answer {
+        Frame::Answer { answer } => {
+            let k = answer.k();
+            let reply = reply_text(alloc, answer.reply())?;
+            Ok(format!(in alloc; "ask {k} {reply}\n")?)
         }
         _ => Err(Fault::Frame(FrameFault::Kind)),
     }
@@ -77,14 +98,9 @@ pub fn ask<P: Peer>(alloc: Global, peer: &mut P, question: Question) -> Result<S
     requires { P.is_ready peer.old }
     ensures { P.is_ready peer.new }
 {
-    match answer_of(alloc, peer, &Frame::Question { question })? {
-        Frame::Answer { answer } => {
-            let k = answer.k();
-            let reply = reply_text(alloc, answer.reply())?;
-            Ok(format!(in alloc; "ask {k} {reply}\n")?)
-        }
-        _ => Err(Fault::Frame(FrameFault::Kind)),
-    }
+    let request = Frame::Question { question };
+    let answer = answer_of(alloc, peer, &request)?;
+    ask_line(alloc, &answer)
 }
 
 /// Prints a line.

@@ -30,6 +30,24 @@ impl Upkeep {
     }
 }
 
+/// The line that says an answer.
+fn line_of(alloc: Global, upkeep: Upkeep, answer: &Frame) -> Result<String, Fault> {
+    match (upkeep, answer) {
+        (Upkeep::Status, Frame::Prefix { prefix }) => {
+            let prefix = *prefix;
+            Ok(format!(in alloc; "prefix {prefix}\n")?)
+        }
+        (Upkeep::CatchUp, Frame::Done { .. }) => Ok(String::from_str(alloc, "catchup\n")?),
+        (Upkeep::Compact, Frame::Done { count: 0 }) => {
+            Ok(String::from_str(alloc, "compact working\n")?)
+        }
+        (Upkeep::Compact, Frame::Done { .. }) => {
+            Ok(String::from_str(alloc, "compact switched\n")?)
+        }
+        _ => Err(Fault::Frame(FrameFault::Kind)),
+    }
+}
+
 /// Asks this of a peer, and gives the line that says what it is answered: `prefix K`, `catchup`, or `compact working`, and `compact switched` where the
 /// rewriting is done.
 ///
@@ -40,16 +58,9 @@ pub fn tend<P: Peer>(alloc: Global, peer: &mut P, upkeep: Upkeep) -> Result<Stri
     requires { P.is_ready peer.old }
     ensures { P.is_ready peer.new }
 {
-    let line = match (upkeep, answer_of(alloc, peer, &upkeep.frame())?) {
-        (Upkeep::Status, Frame::Prefix { prefix }) => {
-            return Ok(format!(in alloc; "prefix {prefix}\n")?);
-        }
-        (Upkeep::CatchUp, Frame::Done { .. }) => "catchup\n",
-        (Upkeep::Compact, Frame::Done { count: 0 }) => "compact working\n",
-        (Upkeep::Compact, Frame::Done { .. }) => "compact switched\n",
-        _ => return Err(Fault::Frame(FrameFault::Kind)),
-    };
-    Ok(String::from_str(alloc, line)?)
+    let request = upkeep.frame();
+    let answer = answer_of(alloc, peer, &request)?;
+    line_of(alloc, upkeep, &answer)
 }
 
 /// Asks this of the server at an address, and prints what it is answered.
