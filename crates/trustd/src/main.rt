@@ -15,11 +15,20 @@ const WRONG_COMMAND_LINE: u8 = 2;
 /// Ends with the status of the task that the command line asks for, and with 2 for a wrong command line.
 fn main(rt: HostRuntime) -> ExitCode {
     let status = match task_of_process(&rt) {
-        Ok(Task::Lab) => run_lab(&rt),
-        Ok(_) => WRONG_COMMAND_LINE,
+        Ok(task) => run(&rt, &task),
         Err(fault) => report(&rt, &fault),
     };
     ExitCode::from(status)
+}
+
+/// Does a task, and returns the status.
+fn run(rt: &(impl AllocGlobal + Input + Print), task: &Task) -> u8
+    ensures { result ≤ 2 }
+{
+    match task {
+        Task::Lab => run_lab(rt),
+        _ => WRONG_COMMAND_LINE,
+    }
 }
 
 /// The lab on the standard streams.
