@@ -1,8 +1,8 @@
 -- What a parse gives, and what it takes.
-use Rattle.std.proofs.Common.{◌≡◌, ◌∙◌, refl, ap, sym, true, List, ℕ, [], ◌∷◌, codes, option_map, Option, Some, None}
-use Rattle.clap.specs.Words.{fault_of, is_simple_and_free, takes}
-use Rattle.clap.specs.Walk.{Text, Row}
-use Rattle.clap.specs.Simple.{App, is_simple, subcommand_of}
+use Rattle.std.proofs.Common.{◌≡◌, refl, true, [], ◌∷◌, codes, option_map, Some}
+use Rattle.clap.specs.Words.{is_simple_and_free, takes}
+use Rattle.clap.specs.Walk.{Text}
+use Rattle.clap.specs.Simple.{is_simple, subcommand_of}
 use Rattle.clap.proofs.OnLiterals.{clap_on_literals}
 use Rattle.ts_cli.specs.Shapes.{program, commands, questions}
 

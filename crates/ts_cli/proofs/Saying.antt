@@ -1,5 +1,5 @@
 -- The task of a subcommand of the program.
-use Rattle.std.proofs.Common.{◌≡◌, ◌≤◌, ℕ, List, Option, Some, None, MatchOption, codes, length, string_bytes, arith}
+use Rattle.std.proofs.Common.{◌≡◌, ◌≤◌, ℕ, List, Option, Some, None, MatchOption, codes, string_bytes, arith}
 use Rattle.std.proofs.lemmas.List.{length-map}
 use Rattle.clap.specs.Walk.{Text, Row, first_of}
 use Rattle.ts_cli.specs.Values.{IsNumberIn}

@@ -1,5 +1,5 @@
 -- What words are written as.
-use Rattle.std.proofs.Common.{◌≡◌, ◌∙◌, refl, sym, ap, subst, ℕ, ◌<◌, ◌^◌, true, false, List, [], ◌∷◌, Result, Ok, Err, is_ok, Option, None, is_some, Bool, MatchOption, ◌≢◌, ◌*◌, length, arith, is_err, MatchResult, ◌⊎◌, inl, inr, ◌+◌, ◌-◌, ◌==◌, length-drop}
+use Rattle.std.proofs.Common.{◌≡◌, ◌∙◌, refl, sym, ap, subst, ℕ, ◌<◌, ◌^◌, true, false, List, Result, Ok, Err, is_ok, Option, None, is_some, Bool, MatchOption, ◌*◌, length, arith, is_err, MatchResult, ◌⊎◌, inl, inr, ◌+◌, ◌-◌, ◌==◌, length-drop}
 use Rattle.std.specs.List.{after_first, position_or_len}
 use Rattle.std.specs.Bool.{then_some, MatchBool}
 use Rattle.std.specs.Str.{bytes_eq}
@@ -7,7 +7,7 @@ use Rattle.std.specs.Str.Parse.{ParsesUnsigned}
 use Rattle.std.specs.Fmt.{decimal}
 use Rattle.std.proofs.lemmas.Slice.Eq.{bytes_eq-Decides}
 use Rattle.std.proofs.lemmas.Fmt.{parse-decimal, decimal_injective, decimal_nonempty}
-use Rattle.hex.specs.Hex.{decode_of, decode_sized, encode_lower, IsBytes}
+use Rattle.hex.specs.Hex.{decode_of, decode_sized, encode_lower}
 use Rattle.hex.proofs.HexLemmas.{decode_of-encode_lower, decode_of-ok, decode_sized-ok, decode_sized-twice, length-encode_with}
 use Rattle.hex.specs.Hex.{lower_digits}
 use Rattle.hex.specs.declared.error.FromHexError.{FromHexError}

@@ -1,5 +1,5 @@
 -- A task comes from words that the parser takes.
-use Rattle.std.proofs.Common.{◌≡◌, ◌∙◌, ap, sym, map, true}
+use Rattle.std.proofs.Common.{◌∙◌, ap, sym, map}
 use Rattle.clap.specs.Words.{App, fault_of, is_simple_and_free}
 use Rattle.ts_cli.proofs.Parsing.{commands_are_free}
 use Rattle.ts_cli.proofs.command_line.command_task.Goals as goal

@@ -1,5 +1,5 @@
 -- A task of words that the parser takes is that of their subcommand.
-use Rattle.std.proofs.Common.{◌≡◌, ◌∙◌, rules, ap, ap₂, sym, map, true, List, ℕ, Some, Ok, option_map, codes}
+use Rattle.std.proofs.Common.{◌≡◌, ◌∙◌, ap, ap₂, sym, map, List, Some, option_map, codes}
 use Rattle.std.proofs.lemmas.Result.{IfOk-weaker, err_from_is_err_and}
 use Rattle.clap.specs.Words.{App, fault_of, is_simple_and_free, takes}
 use Rattle.clap.specs.Matches.{found_of}

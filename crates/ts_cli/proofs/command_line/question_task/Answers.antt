@@ -1,5 +1,5 @@
 -- A task of words that the parser takes is that of their subcommand.
-use Rattle.std.proofs.Common.{◌≡◌, ◌∙◌, ap, sym, map, true, Some, option_map}
+use Rattle.std.proofs.Common.{◌≡◌, ◌∙◌, ap, sym, map, Some, option_map}
 use Rattle.clap.specs.Words.{App, fault_of, is_simple_and_free}
 use Rattle.clap.specs.Matches.{found_of}
 use Rattle.clap.specs.Walk.{rows_of}

@@ -1,7 +1,6 @@
 -- The faults of words are those that their command line finds.
-use Rattle.std.proofs.Common.{◌≡◌, ◌∙◌, ap, sym, map}
+use Rattle.std.proofs.Common.{◌∙◌, ap, sym, map}
 use Rattle.clap.specs.Words.{fault_of}
-use Rattle.clap.specs.Walk.{Text}
 use Rattle.ts_cli.specs.CommandLine.{app_in, words_in}
 use Rattle.ts_cli.specs.Shapes.{commands, questions}
 use Rattle.ts_cli.specs.declared.group.Group.{Group}

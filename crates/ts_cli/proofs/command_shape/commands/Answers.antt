@@ -1,5 +1,5 @@
 -- The subcommands, one after another.
-use Rattle.std.proofs.Common.{◌≡◌, ◌∙◌, ap₂}
+use Rattle.std.proofs.Common.{◌∙◌, ap₂}
 use Rattle.std.proofs.lemmas.Result.{IfOk-weaker}
 use Rattle.clap.specs.Simple.{with_rule}
 use Rattle.ts_cli.specs.Shapes.{among}

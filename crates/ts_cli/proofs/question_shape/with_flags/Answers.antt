@@ -1,5 +1,5 @@
 -- The arguments, one after another.
-use Rattle.std.proofs.Common.{◌≡◌, ◌∙◌, ap, ap₂, refl}
+use Rattle.std.proofs.Common.{◌∙◌, ap₂, refl}
 use Rattle.std.proofs.lemmas.Result.{IfOk-weaker}
 use Rattle.ts_cli.specs.Shapes.{with_argument}
 use Rattle.ts_cli.proofs.question_shape.with_flags.Goals as goal

@@ -1,5 +1,5 @@
 -- The arguments, one after another.
-use Rattle.std.proofs.Common.{◌≡◌, ◌∙◌, ap, ap₂, refl}
+use Rattle.std.proofs.Common.{◌∙◌, ap, ap₂, refl}
 use Rattle.std.proofs.lemmas.Result.{IfOk-weaker}
 use Rattle.ts_cli.specs.Shapes.{needed, with_argument, with_flags}
 use Rattle.ts_cli.proofs.question_shape.with_terms.Goals as goal

@@ -1,5 +1,5 @@
 -- A text that is refused names no moment.
-use Rattle.std.proofs.Common.{◌≡◌, rules, ap, subst, sym, ℕ, List}
+use Rattle.std.proofs.Common.{◌≡◌, rules, subst, sym, ℕ, List}
 use Rattle.ts_time.specs.Text.{IsGeneral}
 use Rattle.ts_cli.proofs.values.moment_of.Goals as goal
 
