@@ -53,7 +53,10 @@ impl fmt::Display for Fault {
             Fault::TooLong => "TooLong",
             Fault::OutOfLimits => "OutOfLimits",
             Fault::TableLine(number) => return write!(f, "TableLine({number})"),
-            Fault::Record(ts_record::Fault::Damaged(offset)) => return write!(f, "Damaged({offset})"),
+            Fault::Record(ts_record::Fault::Damaged(offset)) => return write!(
+                f,
+                "Damaged({offset})"
+            ),
             Fault::Record(fault) => record_name(*fault),
             Fault::Read => "Read",
             Fault::Write => "Write",

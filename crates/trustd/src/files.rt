@@ -7,9 +7,9 @@ use std::alloc::Global;
 use std::fs;
 use std::io::{Error, ErrorKind, Read};
 use std::rt::Files;
+use ts_disk::Disk;
 use ts_file::{FileDisk, create, open};
 use ts_record::Record;
-use ts_disk::Disk;
 use ts_store::Command;
 
 /// The most octets that are read of a file that holds a certificate, a list, a command or a question: as many as a frame may have.
@@ -88,11 +88,7 @@ pub fn open_disks<R: Files>(
 }
 
 /// A disk on a file that holds no octets, which is made where it is missing.
-fn create_empty<R: Files>(
-    rt: &R,
-    alloc: Global,
-    path: &str,
-) -> Result<FileDisk<R::File>, Fault> {
+fn create_empty<R: Files>(rt: &R, alloc: Global, path: &str) -> Result<FileDisk<R::File>, Fault> {
     let mut disk = match create(rt, alloc, path) {
         Ok(disk) => disk,
         Err(error) => return Err(fault_of(&error)),

@@ -2,6 +2,7 @@
 #![tactic(auto)]
 
 ghost use Rattle.std.specs.Prelude.{◌≡◌, ◌≤◌, OnErr, OnOk};
+ghost use Rattle.ts_cli.specs.Says.{IsInRange};
 
 mod fault;
 #[cfg(test)]
@@ -26,14 +27,20 @@ use ts_lab::lab;
 /// Ends with the status of the task that the command line asks for, and with 2 for a wrong command line.
 fn main(rt: HostRuntime) -> ExitCode {
     let status = match task_of_process(&rt) {
-        Ok(Task::Lab) => run_lab(&rt),
-        Ok(task) => {
-            let ended = run(&rt, &task);
-            status_of(&rt, ended)
-        }
+        Ok(task) => status_of_task(&rt, &task),
         Err(fault) => report(&rt, &fault),
     };
     ExitCode::from(status)
+}
+
+/// Runs a task, and returns the status to end with.
+fn status_of_task(rt: &HostRuntime, task: &Task) -> u8
+    requires { IsInRange task.now }
+{
+    match task {
+        Task::Lab => run_lab(rt),
+        other => status_of(rt, run(rt, other)),
+    }
 }
 
 /// The lab on the standard streams.

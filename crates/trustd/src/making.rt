@@ -25,7 +25,10 @@ fn draw_id<R: Files>(rt: &R) -> Result<[u8; 16], Fault> {
 }
 
 /// The id of a command: the one that is given, or a new one, which is printed on standard error, so that the command can be known again.
-fn id_of(rt: &(impl AllocGlobal + Files + Eprint), words: &CommandWords) -> Result<[u8; 16], Fault> {
+fn id_of(
+    rt: &(impl AllocGlobal + Files + Eprint),
+    words: &CommandWords,
+) -> Result<[u8; 16], Fault> {
     if let Some(id) = words.id {
         return Ok(id);
     }

@@ -37,7 +37,11 @@ pub fn format_record(
 }
 
 /// Serves the node on two disks, whose signatures this check decides, to so many connections.
-fn serve_node<D: Disk + Drop, S: SignatureCheck + Drop, R: Net<Listener = TcpListener, Stream = TcpStream>>(
+fn serve_node<
+    D: Disk + Drop,
+    S: SignatureCheck + Drop,
+    R: Net<Listener = TcpListener, Stream = TcpStream>,
+>(
     rt: &R,
     alloc: Global,
     disks: (D, D),

@@ -17,10 +17,9 @@ use ts_cli::Task;
 /// # Errors
 ///
 /// Why the task fails.
-pub fn run<R: AllocGlobal + Files + Net<Listener = TcpListener, Stream = TcpStream> + Print + Eprint>(
-    rt: &R,
-    task: &Task,
-) -> Result<(), Fault>
+pub fn run<
+    R: AllocGlobal + Files + Net<Listener = TcpListener, Stream = TcpStream> + Print + Eprint,
+>(rt: &R, task: &Task) -> Result<(), Fault>
     requires { IsInRange task.now }
 {
     match task {

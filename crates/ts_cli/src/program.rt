@@ -65,11 +65,7 @@ fn sending<'a>(
 }
 
 /// A command with an address.
-fn reaching<'a>(
-    alloc: Global,
-    name: &'a str,
-    about: &'a str,
-) -> Result<Command<'a>, AllocError>
+fn reaching<'a>(alloc: Global, name: &'a str, about: &'a str) -> Result<Command<'a>, AllocError>
     ensures { IfOk result (HasShape (shapes.reaching name.entry.now)) }
 {
     let address = word(alloc, "address", "ADDR", "HOST:PORT of the node");
@@ -81,11 +77,7 @@ fn with_upkeep<'a>(alloc: Global, program: Command<'a>) -> Result<Command<'a>, A
     ensures { IfOk result (λ r. app_of r ≡ shapes.with_upkeep (app_of program.entry)) }
 {
     let status = reaching(alloc, "status", "Prints how many commands a node knows")?;
-    let catch_up = reaching(
-        alloc,
-        "catchup",
-        "Has a node ask others for what it lacks",
-    )?;
+    let catch_up = reaching(alloc, "catchup", "Has a node ask others for what it lacks")?;
     let compact = reaching(
         alloc,
         "compact",
