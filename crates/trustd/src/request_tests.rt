@@ -72,12 +72,26 @@ fn a_command_is_submitted_and_a_question_asked(rt: HostRuntime) -> Result<(), Fa
         ask(alloc, &mut peers[0], question)?.as_str(),
         "ask 1 Malformed 1 Truncated\n"
     );
-    for (upkeep, line) in [
-        (Upkeep::Status, "prefix 1\n"),
-        (Upkeep::CatchUp, "catchup\n"),
-        (Upkeep::Compact, "compact working\n"),
-    ] {
-        assert_eq!(rt; tend(alloc, &mut peers[0], upkeep)?.as_str(), line);
-    }
+    Ok(())
+}
+
+#[test]
+fn a_node_is_kept_in_order(rt: HostRuntime) -> Result<(), Fail> {
+    let alloc = rt.alloc();
+    let Some(mut peer) = lone(alloc)? else {
+        panic!(&rt; "no node");
+    };
+    assert_eq!(rt;
+        tend(alloc, &mut peer, Upkeep::Status)?.as_str(),
+        "prefix 0\n"
+    );
+    assert_eq!(rt;
+        tend(alloc, &mut peer, Upkeep::CatchUp)?.as_str(),
+        "catchup\n"
+    );
+    assert_eq!(rt;
+        tend(alloc, &mut peer, Upkeep::Compact)?.as_str(),
+        "compact working\n"
+    );
     Ok(())
 }
