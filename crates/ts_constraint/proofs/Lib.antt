@@ -1,3 +1,10 @@
 pub mod Lists
 pub mod Shown
 pub mod Failing
+pub mod Fronts
+pub mod Backwards
+pub mod DomainEnds
+pub mod DirectoryForms
+pub mod Tables
+pub mod Numbers
+pub mod RangeTables

@@ -66,7 +66,7 @@ first-before c sources xs ys form first =
       form_is = first.form_is;
     }
 
--- the name behind others that meet the condition
+-- the name after others that meet the condition
 pub first-here : (c : Condition) (sources : List Source) (names front rest : List GeneralName) (name : GeneralName) → names ≡ front ++ name ∷ rest
     → Meets c sources front → Fails c sources name → FailsFirst c sources names (form_of name)
 first-here c sources names front rest name e meet fails = record { before = front; name = name; rest = rest; names_are = e; meet = meet; fails = fails; form_is = refl }

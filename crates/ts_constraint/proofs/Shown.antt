@@ -43,7 +43,7 @@ no-address x e = ap (λ (t : Bool). map (λ (a : Attr). rfc822Name a.value) (con
 pub an-address : (x : Attr) → true ≡ bytes_eq x.kind email_address → addresses_of (x ∷ []) ≡ rfc822Name x.value ∷ []
 an-address x e = ap (λ (t : Bool). map (λ (a : Attr). rfc822Name a.value) (cond t (x ∷ []) [])) (sym e)
 
--- the addresses before one, the one, and those behind it
+-- the addresses before one, the one, and those after it
 pub address-at : (front rest : List Attr) (x : Attr) → true ≡ bytes_eq x.kind email_address → addresses_of (front ++ x ∷ rest) ≡ addresses_of front ++ rfc822Name x.value ∷ addresses_of rest
 address-at front rest x e =
     addresses-append front (x ∷ rest)
@@ -53,7 +53,7 @@ pub joined-append : (xs ys : List (List Attr)) → joined (xs ++ ys) ≡ joined 
 joined-append [] ys = refl
 joined-append (x ∷ xs) ys = ap (λ (zs : List Attr). x ++ zs) (joined-append xs ys) ∙ sym (append_assoc x (joined xs) (joined ys))
 
--- the addresses of relative distinguished names before one, of the one, and of those behind it
+-- the addresses of relative distinguished names before one, of the one, and of those after it
 pub addresses-at : (front rest : List (List Attr)) (r : List Attr) → addresses_of (joined (front ++ r ∷ rest)) ≡ addresses_of (joined front) ++ (addresses_of r ++ addresses_of (joined rest))
 addresses-at front rest r =
     ap addresses_of (joined-append front (r ∷ rest))

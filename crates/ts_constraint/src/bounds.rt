@@ -11,11 +11,13 @@ ghost use Rattle.ts_cert.specs.CertView.{cert_in};
 ghost use Rattle.ts_constraint.specs.Conditions.{Fails, IsFirst, IsAnswer, IsExempt};
 ghost use Rattle.ts_constraint.specs.Names.{addresses_of, email_address, subject_names, names_of};
 ghost use Rattle.ts_constraint.specs.Source.{source_of};
+ghost use Rattle.ts_constraint.specs.Sought.{name_in};
 ghost use Rattle.ts_constraint.specs.View.{bases_in};
 
 use crate::condition::Condition;
 use crate::fault::NameFault;
 use crate::form::Form;
+use crate::sought::Sought;
 use crate::source::Source;
 use std::alloc::{AllocError, Global};
 use std::marker::Model;
@@ -66,7 +68,8 @@ impl<'a> Bounds<'a> {
     }
 
     /// Whether the names of a certificate, which is the last of its chain or not, meet the conditions of every source
-    /// (RFC 5280 6.1.3 (b) and (c)). It takes no memory.
+    /// (RFC 5280 6.1.3 (b) and (c)). It takes memory only for the canonical form of a directory name, for as long as that is
+    /// looked up; where there is none, it compares the name with each subtree, which takes longer and answers the same.
     ///
     /// # Errors
     ///
@@ -109,6 +112,13 @@ impl<'a> Bounds<'a> {
     /// Whether a name does not meet a condition of one of the sources.
     fn fails(&self, condition: Condition, name: General<'_>) -> bool
         ensures { IsTrue result ↔ Fails condition self.now (general_in name.entry) }
+    {
+        self.fails_sought(condition, &Sought::new(self.alloc, name))
+    }
+
+    /// Whether a name that is looked up does not meet a condition of one of the sources.
+    fn fails_sought(&self, condition: Condition, name: &Sought<'_>) -> bool
+        ensures { IsTrue result ↔ Fails condition self.now (name_in name.now) }
     {
         let mut rest = self.sources.as_slice();
         while let [source, others @ ..] = rest {

@@ -8,6 +8,10 @@
 //! }
 //! ```
 //!
+//! Each source is put into tables once (`table`), when it is made: the ends of host names and the canonical forms of directory names
+//! in order, so that a name is found in a number of steps that grows with the logarithm of theirs; IP ranges as numbers, each of
+//! which is compared, since a mask may have its bits anywhere.
+//!
 //! Contracts see `Bounds` as the list of its sources (`specs/Source`), each the names at which its permitted and its excluded subtrees
 //! begin. The names that a certificate shows are in `specs/Names`, the three conditions in `specs/Conditions`.
 //!
@@ -21,9 +25,20 @@
 
 mod bounds;
 mod condition;
+mod directories;
+mod directory;
+mod ending;
+mod endings;
 mod fault;
 mod form;
+mod hosts;
+mod masked;
+mod ranges;
+mod sought;
 mod source;
+mod table;
+#[cfg(test)]
+mod table_tests;
 #[cfg(test)]
 mod tests;
 

@@ -1,38 +1,36 @@
 //! A source of constraints, and whether a name meets its conditions.
 
 ghost use Rattle.std.specs.Prelude.{◌≡◌, ◌↔◌, IsTrue, IfOk, List, map, option_map};
-ghost use Rattle.ts_name.specs.GeneralView.{general_in};
-ghost use Rattle.ts_name.specs.Holds.{Holds};
 ghost use Rattle.ts_ext.specs.NameViews.{subtrees_in};
 ghost use Rattle.ts_cert.specs.CertView.{cert_in};
-ghost use Rattle.ts_constraint.specs.Conditions.{Some_of, FailsAt};
+ghost use Rattle.ts_constraint.specs.Conditions.{FailsAt};
 ghost use Rattle.ts_constraint.specs.declared.condition.Condition.TheVariants.{Supported, Permitted};
-ghost use Rattle.ts_constraint.specs.Names.{form_of};
 ghost use Rattle.ts_constraint.specs.Source.{bases, bases_if, source_of};
+ghost use Rattle.ts_constraint.specs.Sought.{name_in};
 ghost use Rattle.ts_constraint.specs.View.{bases_in, AreBases};
 
 use crate::condition::Condition;
-use crate::form::Form;
+use crate::sought::Sought;
+use crate::table::Table;
 use std::alloc::{AllocError, Global};
 use std::marker::Model;
 use ts_cert::Cert;
-use ts_name::{General, Subtree};
+use ts_name::Subtree;
 use ts_shape::SequenceOf;
 
 /// The subtrees that a certificate, or a question, permits and excludes.
 #[derive(Drop)]
 pub(crate) struct Source<'a> {
-    permitted: Vec<Subtree<'a>>,
-    excluded: Vec<Subtree<'a>>,
+    permitted: Table<'a>,
+    excluded: Table<'a>,
 }
 
 impl<'a> Model for Source<'a> {
     ghost use Rattle.ts_constraint.specs.Source.{Source};
-    ghost use Rattle.ts_constraint.specs.View.{bases_in};
 
     ghost Value = { Source };
 
-    ghost view = { λ s. record { permitted = bases_in s.permitted.items; excluded = bases_in s.excluded.items } };
+    ghost view = { λ s. record { permitted = s.permitted; excluded = s.excluded } };
 }
 
 impl<'a> Source<'a> {
@@ -45,8 +43,8 @@ impl<'a> Source<'a> {
         ensures { IfOk result (λ s. AreBases s permitted.now excluded.now) }
     {
         Ok(Source {
-            permitted: Vec::from_slice(alloc, permitted)?,
-            excluded: Vec::from_slice(alloc, excluded)?,
+            permitted: Table::new(alloc, Vec::from_slice(alloc, permitted)?)?,
+            excluded: Table::new(alloc, Vec::from_slice(alloc, excluded)?)?,
         })
     }
 
@@ -56,53 +54,53 @@ impl<'a> Source<'a> {
     {
         match cert.name_constraints() {
             Some(constraints) => Ok(Source {
-                permitted: gather_if(alloc, constraints.permitted)?,
-                excluded: gather_if(alloc, constraints.excluded)?,
+                permitted: Table::new(alloc, gather_if(alloc, constraints.permitted)?)?,
+                excluded: Table::new(alloc, gather_if(alloc, constraints.excluded)?)?,
             }),
             None => Ok(Source {
-                permitted: Vec::new(alloc),
-                excluded: Vec::new(alloc),
+                permitted: Table::new(alloc, Vec::new(alloc))?,
+                excluded: Table::new(alloc, Vec::new(alloc))?,
             }),
         }
     }
 
     /// Whether a name does not meet a condition of the source.
-    pub(crate) fn fails(&self, condition: Condition, name: General<'_>) -> bool
-        ensures { IsTrue result ↔ FailsAt condition (general_in name.entry) self.now }
+    pub(crate) fn fails(&self, condition: Condition, name: &Sought<'_>) -> bool
+        ensures { IsTrue result ↔ FailsAt condition (name_in name.now) self.now }
     {
         match condition {
             Condition::Supported => self.is_unsupported(name),
             Condition::Permitted => self.is_not_permitted(name),
-            Condition::NotExcluded => hold(self.excluded.as_slice(), name),
+            Condition::NotExcluded => self.excluded.holds(name),
         }
     }
 
     /// Whether the source has a subtree of the name's form, which is not processed.
-    fn is_unsupported(&self, name: General<'_>) -> bool
-        ensures { IsTrue result ↔ FailsAt Supported (general_in name.entry) self.now }
+    fn is_unsupported(&self, name: &Sought<'_>) -> bool
+        ensures { IsTrue result ↔ FailsAt Supported (name_in name.now) self.now }
     {
-        let form = Form::of(name);
+        let form = name.form();
         if form.is_processed() {
             return false;
         }
-        if have_form(self.permitted.as_slice(), form) {
+        if self.permitted.has_form(form) {
             return true;
         }
-        have_form(self.excluded.as_slice(), form)
+        self.excluded.has_form(form)
     }
 
     /// Whether the source permits subtrees of the name's form, which is processed, and the name lies in none of them.
-    fn is_not_permitted(&self, name: General<'_>) -> bool
-        ensures { IsTrue result ↔ FailsAt Permitted (general_in name.entry) self.now }
+    fn is_not_permitted(&self, name: &Sought<'_>) -> bool
+        ensures { IsTrue result ↔ FailsAt Permitted (name_in name.now) self.now }
     {
-        let form = Form::of(name);
+        let form = name.form();
         if !form.is_processed() {
             return false;
         }
-        if !have_form(self.permitted.as_slice(), form) {
+        if !self.permitted.has_form(form) {
             return false;
         }
-        !hold(self.permitted.as_slice(), name)
+        !self.permitted.holds(name)
     }
 }
 
@@ -131,32 +129,4 @@ fn gather<'a>(
         subtrees.push(subtree)?;
     }
     Ok(subtrees)
-}
-
-/// Whether one of the subtrees is of this form.
-fn have_form(subtrees: &[Subtree<'_>], form: Form) -> bool
-    ensures { IsTrue result ↔ Some_of (λ base. form_of base ≡ form) (bases_in subtrees.now) }
-{
-    let mut rest = subtrees;
-    while let [subtree, others @ ..] = rest {
-        if Form::of(subtree.base()) == form {
-            return true;
-        }
-        rest = others;
-    }
-    false
-}
-
-/// Whether a name lies in one of the subtrees.
-fn hold(subtrees: &[Subtree<'_>], name: General<'_>) -> bool
-    ensures { IsTrue result ↔ Some_of (λ base. Holds base (general_in name.entry)) (bases_in subtrees.now) }
-{
-    let mut rest = subtrees;
-    while let [subtree, others @ ..] = rest {
-        if subtree.holds(name) {
-            return true;
-        }
-        rest = others;
-    }
-    false
 }

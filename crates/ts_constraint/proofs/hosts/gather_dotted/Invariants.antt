@@ -1,0 +1,12 @@
+use Rattle.std.proofs.Common.{◌≡◌, ◌++◌, length}
+use Rattle.std.specs.Prelude.{map}
+use Rattle.ts_constraint.specs.Ending.{octets}
+use Rattle.ts_constraint.specs.Hosts.{dotted_endings}
+use Rattle.ts_constraint.specs.View.{bases_in}
+use Rattle.ts_constraint.proofs.hosts.gather_dotted.Given as goal
+
+abbrev pub invariant-loop-rest : goal.invariant-loop-rest
+invariant-loop-rest l = dotted_endings (bases_in l.subtrees) ≡ map octets l.endings.items ++ dotted_endings (bases_in l.rest)
+
+abbrev pub decreases-loop-rest : goal.decreases-loop-rest
+decreases-loop-rest l = length l.rest

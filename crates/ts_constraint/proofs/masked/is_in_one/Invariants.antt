@@ -1,0 +1,9 @@
+use Rattle.std.proofs.Common.{◌≡◌, length}
+use Rattle.ts_constraint.specs.Ranges.{is_in_one}
+use Rattle.ts_constraint.proofs.masked.is_in_one.Given as goal
+
+abbrev pub invariant-loop-rest : goal.invariant-loop-rest
+invariant-loop-rest l = is_in_one l.ranges l.address ≡ is_in_one l.rest l.address
+
+abbrev pub decreases-loop-rest : goal.decreases-loop-rest
+decreases-loop-rest l = length l.rest
