@@ -1,4 +1,3 @@
-mod Parsing
 mod Saying
-mod Spelling
+mod Encodings
 mod Subcommands

@@ -6,7 +6,7 @@ use Rattle.clap.specs.Walk.{Text}
 use Rattle.clap.specs.Simple.{App}
 use Rattle.clap.specs.declared.error.Error.{Error}
 use Rattle.clap.specs.declared.error.kind.ErrorKind.TheVariants as kind
-use Rattle.ts_cli.specs.Shapes.{program, commands, questions}
+use Rattle.ts_usage.specs.Shapes.{program, commands, questions}
 use Rattle.ts_cli.specs.declared.fault.CommandFault.{CommandFault}
 use Rattle.ts_cli.specs.declared.fault.CommandFault.TheVariants.{Memory, NotText, Words, Value}
 use Rattle.ts_cli.specs.declared.group.Group.{Group}
@@ -49,7 +49,7 @@ app_in group.Program = program
 app_in group.Command = commands
 app_in group.Question = questions
 
--- its words: the program's name stands before those of the others
+-- its words: the program's name precedes those of the others
 abbrev pub words_in : Group → List Text → List Text
 words_in group.Program words = words
 words_in group.Command words = drop 1 words

@@ -2,5 +2,4 @@ pub mod CommandLine
 pub mod Encoding
 pub mod Given
 pub mod Says
-pub mod Shapes
 pub mod Values

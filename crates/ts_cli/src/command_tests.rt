@@ -4,7 +4,7 @@ use crate::{CommandFault, address_of, task_of};
 use std::alloc::{AllocError, Global};
 use std::test::Fail;
 
-/// Words behind the program's name, and what they come to.
+/// Words after the program's name, and what they come to.
 const LINES: &[(&str, &str)] = &[
     ("", "Wrong"),
     ("lab", "Lab"),

@@ -116,7 +116,7 @@ fn change_named(alloc: Global, name: &str, matches: &ArgMatches<'_>) -> Result<C
     }
 }
 
-/// The command that a subcommand says, behind the arguments of `trustd command`.
+/// The command that a subcommand says, after the arguments of `trustd command`.
 pub(crate) fn command_named(
     alloc: Global,
     own: &ArgMatches<'_>,

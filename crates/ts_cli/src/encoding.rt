@@ -136,8 +136,8 @@ pub fn command_octets(
     change: &Change,
     contents: &[u8],
 ) -> Result<Vec<u8>, MakeFault>
-    // The octets are the one spelling of that command, which fits its limits.
-    ensures made { IfOk result (λ octets. octets.items ≡ commands.spelling (command_in id.now change.now contents.now)) }
+    // The octets are the one encoding of that command, which fits its limits.
+    ensures made { IfOk result (λ octets. octets.items ≡ commands.encoding (command_in id.now change.now contents.now)) }
     ensures fits { IfOk result (λ _. commands.Fits (command_in id.now change.now contents.now)) }
     // A file is too long exactly where the limits say so, and else only memory is wanting.
     ensures long { is_too_long change.now contents.now ≡ true → result ≡ Err TooLong }
@@ -209,8 +209,8 @@ pub fn question_octets(
     words: &QuestionWords,
     certificates: &[Vec<u8>],
 ) -> Result<Vec<u8>, MakeFault>
-    // The octets are the one spelling of that question, which is within its limits.
-    ensures made { IfOk result (λ octets. octets.items ≡ questions.spelling (asked_in words.now (map (λ c. c.items) certificates.now))) }
+    // The octets are the one encoding of that question, which is within its limits.
+    ensures made { IfOk result (λ octets. octets.items ≡ questions.encoding (asked_in words.now (map (λ c. c.items) certificates.now))) }
     ensures fits { IfOk result (λ _. questions.Fits (asked_in words.now (map (λ c. c.items) certificates.now))) }
     // It is refused where it is outside its limits, and else only memory is wanting.
     ensures refused { IfErr result (λ fault. (fault ≡ Memory)

@@ -4,7 +4,7 @@ use crate::{MakeFault, Task, command_octets, id_text, question_octets, task_of};
 use std::alloc::{AllocError, Global};
 use std::test::Fail;
 
-/// Words behind the program's name, the file in hexadecimal digits, and the encoding.
+/// Words after the program's name, the file in hexadecimal digits, and the encoding.
 const ENCODINGS: &[(&str, &str, &str)] = &[
     (
         "command --id 000102030405060708090a0b0c0d0e0f add f",
@@ -67,7 +67,7 @@ fn octets_of(alloc: Global, digits: &str) -> Result<Vec<u8>, AllocError> {
 }
 
 /// The encoding of a task with a file, if it has one.
-fn encoded(alloc: Global, task: &Task, file: Vec<u8>) -> Result<Vec<u8>, MakeFault> {
+fn encoding_of(alloc: Global, task: &Task, file: Vec<u8>) -> Result<Vec<u8>, MakeFault> {
     match task {
         Task::Command(words) => {
             let id = words.id.unwrap_or([0; 16]);
@@ -79,7 +79,7 @@ fn encoded(alloc: Global, task: &Task, file: Vec<u8>) -> Result<Vec<u8>, MakeFau
 }
 
 /// The encoding of a line of words, in hexadecimal digits.
-fn spelled(alloc: Global, line: &str, file: &str) -> Result<Option<String>, Fail> {
+fn hex_of(alloc: Global, line: &str, file: &str) -> Result<Option<String>, Fail> {
     let mut words: Vec<&str> = Vec::new(alloc);
     words.push("trustd")?;
     for word in line.split_ascii_whitespace() {
@@ -87,7 +87,7 @@ fn spelled(alloc: Global, line: &str, file: &str) -> Result<Option<String>, Fail
     }
     let file = octets_of(alloc, file)?;
     let task = task_of(alloc, words.as_slice()).ok().ok_or("a task")?;
-    match encoded(alloc, &task, file) {
+    match encoding_of(alloc, &task, file) {
         Ok(octets) => Ok(Some(hex::encode(alloc, octets.as_slice())?)),
         Err(_) => Ok(None),
     }
@@ -96,8 +96,8 @@ fn spelled(alloc: Global, line: &str, file: &str) -> Result<Option<String>, Fail
 #[test]
 fn lines_have_their_encodings(rt: HostRuntime) -> Result<(), Fail> {
     for (line, file, wanted) in ENCODINGS {
-        let spelled = spelled(rt.alloc(), line, file)?.ok_or("an encoding")?;
-        assert_eq!(rt; spelled.as_str(), *wanted, "{line}");
+        let encoded = hex_of(rt.alloc(), line, file)?.ok_or("an encoding")?;
+        assert_eq!(rt; encoded.as_str(), *wanted, "{line}");
     }
     Ok(())
 }

@@ -2,8 +2,8 @@
 //!
 //! ```text
 //! let task = task_of_process(&rt)?;                                     // else `report` prints why, and gives the status
-//! let octets = command_octets(alloc, &id, &words.change, &contents)?;   // the one spelling of the command
-//! let octets = question_octets(alloc, &words, &certificates)?;          // the one spelling of the question
+//! let octets = command_octets(alloc, &id, &words.change, &contents)?;   // the one encoding of the command
+//! let octets = question_octets(alloc, &words, &certificates)?;          // the one encoding of the question
 //! ```
 //!
 //! There are three command lines, each of one level, so that the parser's contracts say all of it: the program's own, that of
@@ -14,20 +14,18 @@
 //! |---|---|
 //! | [`task_of`] | `lab`: only want of memory keeps `trustd lab` from the lab; `taken`: a task comes only from words in which the parser has no fault to find; `asked`: it is what the subcommand says that they name, by the values that they give it (`specs/Says`); `ranges`: numbers are in range |
 //! | [`report`] | the status: 2 for a wrong command line or a wrong value, at most 1 after help, 1 for want of memory |
-//! | [`command_octets`] | `made`, `fits`: the spelling of the command that the change says; `long`, `memory`: `TooLong` exactly where the file is longer than a command holds |
-//! | [`question_octets`] | `made`, `fits`: the spelling of the question that the words say; `refused`: `OutOfLimits` only where that is outside its limits |
+//! | [`command_octets`] | `made`, `fits`: the encoding of the command that the change says; `long`, `memory`: `TooLong` exactly where the file is longer than a command holds |
+//! | [`question_octets`] | `made`, `fits`: the encoding of the question that the words say; `refused`: `OutOfLimits` only where that is outside its limits |
 //! | [`id_text`] | the SHA-256 in lower-case hexadecimal digits, by which a store knows an anchor or a list |
 //! | [`address_of`] | the host and the port, exactly where a text is an address |
 //!
 //! Gaps. No clause says that words whose values are all right have a task, but for `trustd lab`: that is tested. Nor is there one
-//! for the text of help and of errors, nor for which words a process has: of [`task_of_process`] only `ranges` is said.
+//! for the text of help and of errors, nor for which words a process has: of [`task_of_process`] only `ranges` is promised.
 //!
 //! Memory that is refused is answered as `Memory` or `AllocError`.
 #![tactic(auto)]
 
-mod arguments;
 mod command_line;
-mod command_shape;
 #[cfg(test)]
 mod command_tests;
 mod command_words;
@@ -38,9 +36,7 @@ mod fault;
 mod group;
 mod matched;
 mod oids;
-mod program;
 mod program_task;
-mod question_shape;
 mod question_words;
 mod task;
 mod values;

@@ -15,8 +15,8 @@ fn number_of(text: &str) -> Option<u32>
     ensures { MatchOption result ((n : ℕ) → ¬ (IsNumber text.now n)) (IsNumber text.now) }
 {
     let number: u32 = text.parse().ok()?;
-    let mut spelling = itoa::Buffer::new();
-    (spelling.format(number) == text).then_some(number)
+    let mut encoding = itoa::Buffer::new();
+    (encoding.format(number) == text).then_some(number)
 }
 
 /// The number that a text writes, where it is from `least` to `most`.

@@ -1,13 +1,13 @@
 -- A task of words that the parser takes is that of their subcommand.
-use Rattle.std.proofs.Common.{◌≡◌, ◌∙◌, ap, ap₂, sym, map, List, Some, option_map, codes}
+use Rattle.std.proofs.Common.{◌≡◌, ◌∙◌, ap, ap₂, sym, map, List, Some, None, option_map, codes}
 use Rattle.std.proofs.lemmas.Result.{IfOk-weaker, err_from_is_err_and}
 use Rattle.clap.specs.Words.{App, fault_of, is_simple_and_free, takes}
 use Rattle.clap.specs.Matches.{found_of}
 use Rattle.clap.specs.Walk.{Text, rows_of}
 use Rattle.clap.specs.Simple.{is_simple, matches_of, subcommand_of}
-use Rattle.ts_cli.specs.Shapes.{program}
+use Rattle.ts_usage.specs.Shapes.{program}
 use Rattle.ts_cli.proofs.Saying.{says_any}
-use Rattle.ts_cli.proofs.Parsing.{lab_is_taken, lab_is_given, program_is_free, program_is_simple, some_is}
+use Rattle.ts_usage.proofs.Parsing.{lab_is_taken, lab_is_given, program_is_free, program_is_simple, some_is}
 use Rattle.ts_cli.proofs.command_line.program_task.Goals as goal
 
 pub returns-in_err-matches-clause-lab : goal.returns-in_err-matches-clause-lab
@@ -44,3 +44,15 @@ returns-in-Some-clause-asked g c =
       given = sym pair;
       says = says_any (matches_of program words) c.in-Some.name.now (rows_of (found_of c.in-Some.inner.now)) task says;
     }) c.task_named.ensures.says
+
+pub returns-clause-lab : goal.returns-clause-lab
+returns-clause-lab g c asks =
+    let words = map g.S.AsStr.text c.args.words.now in
+    let parsed = (c.in_ok-matches.ensures.matches (ap is_simple c.in_ok-program.ensures ∙ program_is_simple)).1 in
+    let none : None ≡ subcommand_of program words =
+    ap (option_map (λ p. (p.0.now, rows_of (found_of p.1.now)))) (sym c.in-None.is) ∙ (c.given.ensures ∙ (parsed ∙ ap (λ (a : App). subcommand_of a words) c.in_ok-program.ensures)) in
+    let bad : None ≡ Some (codes "lab") = ap (option_map (λ p. p.0)) none ∙ (ap (λ (w : List Text). option_map (λ p. p.0) (subcommand_of program w)) asks.1 ∙ lab_is_given asks.0) in
+    absurd (none_some (codes "lab") bad)
+  where
+    none_some : (name : Text) → None ≡ Some name → ⊥
+    none_some name e = cc e

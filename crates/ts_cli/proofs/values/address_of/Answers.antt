@@ -1,7 +1,7 @@
--- A text without a colon has nothing behind one.
+-- A text without a colon has nothing after one.
 use Rattle.std.proofs.Common.{◌≡◌, ◌==◌, rules, length}
 use Rattle.std.specs.List.{position_or_len}
-use Rattle.ts_cli.proofs.Spelling.{no_port}
+use Rattle.ts_cli.proofs.Encodings.{no_port}
 use Rattle.ts_cli.proofs.values.address_of.Goals as goal
 
 pub returns-in_err-host : goal.returns-in_err-host

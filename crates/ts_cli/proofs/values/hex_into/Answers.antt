@@ -1,8 +1,8 @@
--- What is decoded, and spelled as the text.
+-- What is decoded, and encoded as the text.
 use Rattle.std.proofs.Common.{rules, ◌≡◌, ◌∙◌, ap, sym, length}
 use Rattle.std.specs.Str.{bytes_eq}
 use Rattle.hex.specs.Hex.{encode_lower}
-use Rattle.ts_cli.proofs.Spelling.{hex_refused, hex_found}
+use Rattle.ts_cli.proofs.Encodings.{hex_refused, hex_found}
 use Rattle.ts_cli.proofs.values.hex_into.Goals as goal
 
 pub returns-then-is_err : goal.returns-then-is_err
@@ -12,6 +12,6 @@ returns-then-is_err c = λ xs.
 
 pub returns : goal.returns
 returns c =
-    let spells : c.encode_to_slice.new.output ≡ encode_lower c.decode_to_slice.new.out = search rules in
+    let encodes : c.encode_to_slice.new.output ≡ encode_lower c.decode_to_slice.new.out = search rules in
     hex_found (length c.args.octets.now) c.args.text.now c.encode_to_slice.new.output c.decode_to_slice.result c.decode_to_slice.new.out c.decode_to_slice.ensures.value
-    (sym c.is_err.ensures.value ∙ c.if-is_err.false) spells c.eq.result (c.eq.ensures ∙ ap (bytes_eq c.encode_to_slice.new.output) c.as_bytes.ensures.value)
+    (sym c.is_err.ensures.value ∙ c.if-is_err.false) encodes c.eq.result (c.eq.ensures ∙ ap (bytes_eq c.encode_to_slice.new.output) c.as_bytes.ensures.value)

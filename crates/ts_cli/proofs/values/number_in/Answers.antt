@@ -1,7 +1,7 @@
 -- A text writes one number, which is out of range.
 use Rattle.std.proofs.Common.{◌<◌, rules, inl, inr}
 use Rattle.ts_cli.specs.Values.{IsNumber}
-use Rattle.ts_cli.proofs.Spelling.{number_out}
+use Rattle.ts_cli.proofs.Encodings.{number_out}
 use Rattle.ts_cli.proofs.values.number_in.Goals as goal
 use Rattle.ts_cli.proofs.values.number_in.Goals.{then-number-least-via-then-number-least, then-number-least-via-else-number-least+then-most-number}
 

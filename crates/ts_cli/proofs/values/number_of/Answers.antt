@@ -1,7 +1,7 @@
 -- A number is text that is parsed, and what it is parsed as is written so.
 use Rattle.std.proofs.Common.{rules, ◌≡◌, ◌<◌, ◌^◌, Ok}
 use Rattle.std.specs.Fmt.{decimal}
-use Rattle.ts_cli.proofs.Spelling.{IsNumber-parsed, number_read, refused_ok}
+use Rattle.ts_cli.proofs.Encodings.{IsNumber-parsed, number_read, refused_ok}
 use Rattle.ts_cli.proofs.values.number_of.Goals as goal
 
 pub returns-in_err-number : goal.returns-in_err-number
@@ -12,11 +12,11 @@ returns-in_err-number c =
 
 pub returns : goal.returns
 returns c =
-    let spells : c.format.result.now ≡ decimal c.in_ok-number.number = search rules in
+    let encodes : c.format.result.now ≡ decimal c.in_ok-number.number = search rules in
     let small : c.in_ok-number.number < 2 ^ 32 = search rules in
     let gives : c.parse.result ≡ Ok c.in_ok-number.number = search rules in
     rw c.then_some.ensures
-    (number_read c.args.text.now c.format.result.now c.in_ok-number.number c.eq.result spells small c.eq.ensures
+    (number_read c.args.text.now c.format.result.now c.in_ok-number.number c.eq.result encodes small c.eq.ensures
     (λ n is.
     let parsed = IsNumber-parsed c.args.text.now n c.parse.result is c.parse.ensures.value.0 in
     cc))

@@ -1,10 +1,11 @@
 -- The subcommands, one after another.
 use Rattle.std.proofs.Common.{◌∙◌, ap, ap₂}
 use Rattle.std.proofs.lemmas.Result.{IfOk-weaker}
-use Rattle.ts_cli.specs.Shapes.{among, with_upkeep}
-use Rattle.ts_cli.proofs.program.program.Goals as goal
+use Rattle.ts_usage.specs.Shapes.{among, with_upkeep, program}
+use Rattle.ts_usage.proofs.program_shape.program.Goals as goal
 
 pub returns : goal.returns
+unfolding program
 returns c =
     let start = c.in_ok-node_tasks.ensures in
     let with_command = c.in_ok-program.ensures ∙ ap₂ among start c.leaf-command.ensures.shape in

@@ -2,8 +2,8 @@
 
 ghost use Rattle.std.specs.Prelude.{◌≡◌, IfOk};
 ghost use Rattle.clap.specs.Simple.{app_of};
-ghost use Rattle.ts_cli.specs.Shapes as shapes;
-ghost use Rattle.ts_cli.specs.Shapes.{HasShape};
+ghost use Rattle.ts_usage.specs.Shapes as shapes;
+ghost use Rattle.ts_usage.specs.Shapes.{HasShape};
 
 use crate::arguments::{among, choice, leaf, option, reading, with, with_own, word, words};
 use clap::Command;
@@ -22,6 +22,7 @@ fn naming<'a>(
     with(leaf(alloc, name, about), word(alloc, argument, "ID", help))
 }
 
+#[tactic(auto, unfolding(crate::specs::Shapes::purposes))]
 fn purposes<'a>(alloc: Global) -> Result<Command<'a>, AllocError>
     ensures { IfOk result (HasShape shapes.purposes) }
 {
@@ -43,7 +44,8 @@ fn purposes<'a>(alloc: Global) -> Result<Command<'a>, AllocError>
 }
 
 /// The command line of `trustd command`.
-pub(crate) fn commands<'a>(alloc: Global) -> Result<Command<'a>, AllocError>
+#[tactic(auto, unfolding(crate::specs::Shapes::commands))]
+pub fn commands<'a>(alloc: Global) -> Result<Command<'a>, AllocError>
     ensures { IfOk result (λ r. app_of r ≡ shapes.commands) }
 {
     let about = "Writes an encoded command to standard output";

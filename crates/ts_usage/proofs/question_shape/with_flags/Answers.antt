@@ -1,10 +1,11 @@
 -- The arguments, one after another.
 use Rattle.std.proofs.Common.{◌∙◌, ap₂, refl}
 use Rattle.std.proofs.lemmas.Result.{IfOk-weaker}
-use Rattle.ts_cli.specs.Shapes.{with_argument}
-use Rattle.ts_cli.proofs.question_shape.with_flags.Goals as goal
+use Rattle.ts_usage.specs.Shapes.{with_argument, with_flags}
+use Rattle.ts_usage.proofs.question_shape.with_flags.Goals as goal
 
 pub returns-clause-shape : goal.returns-clause-shape
+unfolding with_flags
 returns-clause-shape c =
     let hard = c.in_ok-all.ensures.shape ∙ ap₂ with_argument refl c.flag-hard.ensures.rule in
     let deltas = c.in_ok-all-2.ensures.shape ∙ ap₂ with_argument hard c.flag-deltas.ensures.rule in

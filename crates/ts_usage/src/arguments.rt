@@ -4,7 +4,7 @@ ghost use Rattle.std.specs.Prelude.{◌≡◌, [], false, IfOk};
 ghost use Rattle.clap.specs.Simple.{app_of, shape_of, with_rule};
 ghost use Rattle.clap.specs.Walk.{rule_of};
 ghost use Rattle.clap.specs.declared.builder.command.Command.TheViews.{out-Command};
-ghost use Rattle.ts_cli.specs.Shapes.{option, options, flag, word, words, needed, leaf, with_argument, choice, among, reading, HasShape};
+ghost use Rattle.ts_usage.specs.Shapes.{option, options, flag, word, words, needed, leaf, with_argument, choice, among, reading, HasShape};
 
 use clap::{Arg, ArgAction, Command};
 use std::alloc::{AllocError, Global};
@@ -93,7 +93,7 @@ pub(crate) fn flag<'a>(alloc: Global, name: &'a str, help: &'a str) -> Arg<'a>
         .help(help)
 }
 
-/// A word that stands where it is.
+/// A word that is where it is.
 pub(crate) fn word<'a>(alloc: Global, name: &'a str, value: &'a str, help: &'a str) -> Arg<'a>
     ensures rule { rule_of result ≡ word name.entry.now }
     ensures local { result.global ≡ false }

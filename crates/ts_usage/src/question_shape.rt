@@ -3,14 +3,15 @@
 ghost use Rattle.std.specs.Prelude.{◌≡◌, IfOk};
 ghost use Rattle.clap.specs.Simple.{app_of, shape_of};
 ghost use Rattle.clap.specs.declared.builder.command.Command.TheViews.{out-Command};
-ghost use Rattle.ts_cli.specs.Shapes as shapes;
-ghost use Rattle.ts_cli.specs.Shapes.{HasShape};
+ghost use Rattle.ts_usage.specs.Shapes as shapes;
+ghost use Rattle.ts_usage.specs.Shapes.{HasShape};
 
 use crate::arguments::{among, choice, flag, leaf, needed, option, options, with, word, words};
 use clap::Command;
 use std::alloc::{AllocError, Global};
 
 /// A question with the flags that both take.
+#[tactic(auto, unfolding(crate::specs::Shapes::with_flags))]
 fn with_flags<'a>(alloc: Global, own: Command<'a>) -> Result<Command<'a>, AllocError>
     ensures shape { IfOk result (λ r. shape_of r ≡ shapes.with_flags (shape_of own.entry)) }
     ensures local { IfOk result (λ r. (out-Command r).has_globals ≡ (out-Command own.entry).has_globals) }
@@ -27,7 +28,8 @@ fn with_flags<'a>(alloc: Global, own: Command<'a>) -> Result<Command<'a>, AllocE
     with(all, noany)
 }
 
-/// A question with the options that both take behind its own.
+/// A question with the options that both take after its own.
+#[tactic(auto, unfolding(crate::specs::Shapes::with_terms))]
 fn with_terms<'a>(alloc: Global, own: Command<'a>) -> Result<Command<'a>, AllocError>
     ensures shape { IfOk result (λ r. shape_of r ≡ shapes.with_terms (shape_of own.entry)) }
     ensures local { IfOk result (λ r. (out-Command r).has_globals ≡ (out-Command own.entry).has_globals) }
@@ -43,6 +45,7 @@ fn with_terms<'a>(alloc: Global, own: Command<'a>) -> Result<Command<'a>, AllocE
     with(all, purpose)
 }
 
+#[tactic(auto, unfolding(crate::specs::Shapes::chain))]
 fn chain<'a>(alloc: Global) -> Result<Command<'a>, AllocError>
     ensures { IfOk result (HasShape shapes.chain) }
 {
@@ -53,16 +56,18 @@ fn chain<'a>(alloc: Global) -> Result<Command<'a>, AllocError>
         "ID",
         "The id of the anchor, 64 lower-case hexadecimal digits",
     ));
-    let certificates = words(
+    let certificates = needed(words(
         alloc,
         "certificates",
         "CERT",
         "The chain in DER from the anchor's side, 1 to 16",
-    );
-    let command = with(with(command, anchor)?, needed(certificates))?;
+    ));
+    let command = with(command, anchor)?;
+    let command = with(command, certificates)?;
     with_terms(alloc, command)
 }
 
+#[tactic(auto, unfolding(crate::specs::Shapes::search))]
 fn search<'a>(alloc: Global) -> Result<Command<'a>, AllocError>
     ensures { IfOk result (HasShape shapes.search) }
 {
@@ -79,7 +84,8 @@ fn search<'a>(alloc: Global) -> Result<Command<'a>, AllocError>
 }
 
 /// The command line of `trustd question`.
-pub(crate) fn questions<'a>(alloc: Global) -> Result<Command<'a>, AllocError>
+#[tactic(auto, unfolding(crate::specs::Shapes::questions))]
+pub fn questions<'a>(alloc: Global) -> Result<Command<'a>, AllocError>
     ensures { IfOk result (λ r. app_of r ≡ shapes.questions) }
 {
     let about = "Writes an encoded question to standard output";

@@ -2,13 +2,14 @@
 
 ghost use Rattle.std.specs.Prelude.{◌≡◌, IfOk};
 ghost use Rattle.clap.specs.Simple.{app_of};
-ghost use Rattle.ts_cli.specs.Shapes as shapes;
-ghost use Rattle.ts_cli.specs.Shapes.{HasShape};
+ghost use Rattle.ts_usage.specs.Shapes as shapes;
+ghost use Rattle.ts_usage.specs.Shapes.{HasShape};
 
 use crate::arguments::{among, choice, leaf, needed, option, reading, with, word, words};
 use clap::Command;
 use std::alloc::{AllocError, Global};
 
+#[tactic(auto, unfolding(crate::specs::Shapes::format))]
 fn format<'a>(alloc: Global) -> Result<Command<'a>, AllocError>
     ensures { IfOk result (HasShape shapes.format) }
 {
@@ -25,6 +26,7 @@ fn format<'a>(alloc: Global) -> Result<Command<'a>, AllocError>
     with(command, nodes)
 }
 
+#[tactic(auto, unfolding(crate::specs::Shapes::serve))]
 fn serve<'a>(alloc: Global) -> Result<Command<'a>, AllocError>
     ensures { IfOk result (HasShape shapes.serve) }
 {
@@ -72,7 +74,8 @@ fn reaching<'a>(alloc: Global, name: &'a str, about: &'a str) -> Result<Command<
     with(leaf(alloc, name, about), address)
 }
 
-/// The tasks of a node's upkeep, behind those that the program has.
+/// The tasks of a node's upkeep, after those that the program has.
+#[tactic(auto, unfolding(crate::specs::Shapes::with_upkeep))]
 fn with_upkeep<'a>(alloc: Global, program: Command<'a>) -> Result<Command<'a>, AllocError>
     ensures { IfOk result (λ r. app_of r ≡ shapes.with_upkeep (app_of program.entry)) }
 {
@@ -88,6 +91,7 @@ fn with_upkeep<'a>(alloc: Global, program: Command<'a>) -> Result<Command<'a>, A
     among(program, compact)
 }
 
+#[tactic(auto, unfolding(crate::specs::Shapes::carry))]
 fn carry<'a>(alloc: Global) -> Result<Command<'a>, AllocError>
     ensures { IfOk result (HasShape shapes.carry) }
 {
@@ -104,6 +108,7 @@ fn carry<'a>(alloc: Global) -> Result<Command<'a>, AllocError>
 }
 
 /// The tasks of a node, which are the first of the program.
+#[tactic(auto, unfolding(crate::specs::Shapes::node_tasks, crate::specs::Shapes::lab))]
 fn node_tasks<'a>(alloc: Global) -> Result<Command<'a>, AllocError>
     ensures { IfOk result (λ r. app_of r ≡ shapes.node_tasks) }
 {
@@ -131,7 +136,8 @@ fn node_tasks<'a>(alloc: Global) -> Result<Command<'a>, AllocError>
 }
 
 /// The command line of the program. The words of `trustd command` and `trustd question` go to command lines of their own.
-pub(crate) fn program<'a>(alloc: Global) -> Result<Command<'a>, AllocError>
+#[tactic(auto, unfolding(crate::specs::Shapes::program))]
+pub fn program<'a>(alloc: Global) -> Result<Command<'a>, AllocError>
     ensures { IfOk result (λ r. app_of r ≡ shapes.program) }
 {
     let command = leaf(

@@ -24,14 +24,14 @@ pub IsNumber-parsed : {E : Type 0} (word : List ℕ) (n : ℕ) (r : Result ℕ E
 IsNumber-parsed word n r is parses = parse-decimal 32 n word r is.range (omega (arith, is.range)) is.written parses
 
 -- a number that is written as the word is the word's
-pub number_read : (word spelled : List ℕ) (number : ℕ) (same : Bool) → spelled ≡ decimal number → number < 2 ^ 32 → same ≡ bytes_eq spelled word
+pub number_read : (word encoded : List ℕ) (number : ℕ) (same : Bool) → encoded ≡ decimal number → number < 2 ^ 32 → same ≡ bytes_eq encoded word
     → ((n : ℕ) → IsNumber word n → number ≡ n) → MatchOption (then_some same number) ((n : ℕ) → ¬ (IsNumber word n)) (IsNumber word)
-number_read word spelled number true spells small is only =
-    let same : spelled ≡ word = bytes_eq-true spelled word (sym is) in
-    record { written = sym same ∙ spells; range = small }
-number_read word spelled number false spells small is only = λ n stands.
-    let same : spelled ≡ word = spells ∙ (ap decimal (only n stands) ∙ sym stands.written) in
-    cc (is ∙ bytes_eq-same spelled word same)
+number_read word encoded number true encodes small is only =
+    let same : encoded ≡ word = bytes_eq-true encoded word (sym is) in
+    record { written = sym same ∙ encodes; range = small }
+number_read word encoded number false encodes small is only = λ n stands.
+    let same : encoded ≡ word = encodes ∙ (ap decimal (only n stands) ∙ sym stands.written) in
+    cc (is ∙ bytes_eq-same encoded word same)
 
 -- a call that answered is not taken for one that did not
 pub refused_ok : {T E : Type 0} (r : Result T E) (o : Option T) (x : T) → is_some o ≡ is_ok r → o ≡ None → r ≡ Ok x → ⊥
@@ -59,20 +59,20 @@ decoded_as : (size : ℕ) (text : List ℕ) (d : Result (List ℕ) FromHexError)
 decoded_as size text (Ok bytes) r new is decodes ok = is ∙ ap Ok (sym decodes.1)
 decoded_as size text (Err e) r new is decodes ok = cc
 
--- what is decoded is spelled so, or the text is of none
-pub hex_found : (size : ℕ) (text spelled : List ℕ) (r : Result Unit FromHexError) (new : List ℕ) → Decodes size text r new → is_err r ≡ false
-    → spelled ≡ encode_lower new → (same : Bool) → same ≡ bytes_eq spelled text → MatchBool same (IsHex size text new) ((xs : List ℕ) → ¬ (IsHex size text xs))
-hex_found size text spelled r new decodes ok spells true is =
-    let same : spelled ≡ text = bytes_eq-true spelled text (sym is) in
+-- what is decoded is encoded so, or the text is of none
+pub hex_found : (size : ℕ) (text encoded : List ℕ) (r : Result Unit FromHexError) (new : List ℕ) → Decodes size text r new → is_err r ≡ false
+    → encoded ≡ encode_lower new → (same : Bool) → same ≡ bytes_eq encoded text → MatchBool same (IsHex size text new) ((xs : List ℕ) → ¬ (IsHex size text xs))
+hex_found size text encoded r new decodes ok encodes true is =
+    let same : encoded ≡ text = bytes_eq-true encoded text (sym is) in
     let decoded = decoded_as size text (decode_sized text size) r new refl decodes ok in
     let len = decode_sized-ok text size new decoded in
     let bytes = (decode_of-ok text new (sym (decode_sized-twice text size len) ∙ decoded)) in
     let count : length new ≡ size = omega (arith, len, bytes.2) in
-    record { written = sym same ∙ spells; count = count; bytes = bytes.3 }
-hex_found size text spelled r new decodes ok spells false is = λ xs stands.
+    record { written = sym same ∙ encodes; count = count; bytes = bytes.3 }
+hex_found size text encoded r new decodes ok encodes false is = λ xs stands.
     let gives = IsHex-gives size text xs r new decodes stands in
-    let same : spelled ≡ text = spells ∙ (ap encode_lower gives.1 ∙ sym stands.written) in
-    cc (is ∙ bytes_eq-same spelled text same)
+    let same : encoded ≡ text = encodes ∙ (ap encode_lower gives.1 ∙ sym stands.written) in
+    cc (is ∙ bytes_eq-same encoded text same)
 
 -- a text writes one number
 pub IsNumber-one : (text : List ℕ) (m n : ℕ) → IsNumber text m → IsNumber text n → m ≡ n

@@ -1,10 +1,11 @@
 -- The arguments, one after another.
 use Rattle.std.proofs.Common.{◌∙◌, ap, ap₂, refl}
 use Rattle.std.proofs.lemmas.Result.{IfOk-weaker}
-use Rattle.ts_cli.specs.Shapes.{needed, with_argument, with_flags}
-use Rattle.ts_cli.proofs.question_shape.with_terms.Goals as goal
+use Rattle.ts_usage.specs.Shapes.{needed, with_argument, with_flags, with_terms}
+use Rattle.ts_usage.proofs.question_shape.with_terms.Goals as goal
 
 pub returns-clause-shape : goal.returns-clause-shape
+unfolding with_terms
 returns-clause-shape c =
     let at = c.in_ok-all.ensures.shape ∙ ap₂ with_argument refl (c.needed.ensures.rule ∙ ap needed c.option-at.ensures.rule) in
     let k = c.in_ok-all-2.ensures.shape ∙ ap₂ with_argument at c.option-k.ensures.rule in

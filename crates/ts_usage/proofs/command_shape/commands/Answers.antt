@@ -2,10 +2,11 @@
 use Rattle.std.proofs.Common.{◌∙◌, ap₂}
 use Rattle.std.proofs.lemmas.Result.{IfOk-weaker}
 use Rattle.clap.specs.Simple.{with_rule}
-use Rattle.ts_cli.specs.Shapes.{among}
-use Rattle.ts_cli.proofs.command_shape.commands.Goals as goal
+use Rattle.ts_usage.specs.Shapes.{among, commands}
+use Rattle.ts_usage.proofs.command_shape.commands.Goals as goal
 
 pub returns : goal.returns
+unfolding commands
 returns c =
     let start = c.in_ok-all-2.ensures ∙ ap₂ with_rule c.in_ok-all.ensures c.option.ensures.rule in
     let with_add = c.in_ok-all-3.ensures ∙ ap₂ among start c.in_ok-add.ensures.0 in

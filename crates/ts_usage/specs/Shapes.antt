@@ -1,7 +1,7 @@
 -- The command lines as `clap` sees them: of the program, of `trustd command` and of `trustd question`.
 use Rattle.std.specs.Prelude.{true, false, List, [], ◌∷◌, ◌++◌, Some, codes, ◌≡◌}
 use Rattle.clap.specs.Walk.{Rule, Text, is_empty}
-use Rattle.clap.specs.Simple.{App, Shape, new_rule, new_shape, shape_of, with_subcommand}
+use Rattle.clap.specs.Simple.{App, Shape, new_rule, new_shape, shape_of, with_rule, with_subcommand}
 use Rattle.clap.specs.declared.builder.action.ArgAction.TheVariants.{Set, Append, SetTrue}
 use Rattle.clap.specs.declared.builder.command.Command.{Command}
 use Rattle.clap.specs.declared.builder.command.Command.TheViews.{out-Command}
@@ -20,7 +20,7 @@ options name = record (new_rule name) { long = Some name; action = Some Append; 
 abbrev pub flag : Text → Rule
 flag name = record (new_rule name) { long = Some name; action = Some SetTrue }
 
--- a word that stands where it is
+-- a word that is where it is
 abbrev pub word : Text → Rule
 word name = record (new_rule name) { action = Some Set; value_names = 1; required = true }
 
@@ -52,6 +52,11 @@ choice name rules subs = record {
 abbrev pub among : App → Shape → App
 among app sub = with_subcommand app sub
 
+-- with subcommands, one after another
+abbrev pub with_tasks : App → List Shape → App
+with_tasks app [] = app
+with_tasks app (sub ∷ subs) = with_tasks (among app sub) subs
+
 -- a command of this shape, no argument of which is that of its subcommands
 abbrev pub HasShape : Shape → Command → Type 0
 HasShape shape command = (shape_of command ≡ shape) × ((out-Command command).has_globals ≡ false)
@@ -62,13 +67,13 @@ reading name = leaf name (word (codes "file") ∷ [])
 
 -- ---- the program
 
-abbrev pub lab : Shape
+unfoldable pub lab : Shape
 lab = leaf (codes "lab") []
 
-abbrev pub format : Shape
+unfoldable pub format : Shape
 format = leaf (codes "format") (word (codes "file") ∷ needed (option (codes "id")) ∷ needed (option (codes "nodes")) ∷ [])
 
-abbrev pub serve : Shape
+unfoldable pub serve : Shape
 serve = leaf (codes "serve") (word (codes "file") ∷ needed (option (codes "listen")) ∷ option (codes "table") ∷ option (codes "connections") ∷ [])
 
 -- an address and a file
@@ -79,7 +84,7 @@ sending name = leaf name (word (codes "address") ∷ word (codes "file") ∷ [])
 abbrev pub reaching : Text → Shape
 reaching name = leaf name (word (codes "address") ∷ [])
 
-abbrev pub carry : Shape
+unfoldable pub carry : Shape
 carry = leaf (codes "carry") (needed (words (codes "addresses")) ∷ needed (option (codes "rounds")) ∷ [])
 
 -- whose words go to another command line
@@ -87,15 +92,15 @@ abbrev pub named : Text → Shape
 named name = leaf name []
 
 -- the tasks of a node
-abbrev pub node_tasks : App
-node_tasks = choice (codes "trustd") [] (lab ∷ format ∷ serve ∷ sending (codes "submit") ∷ sending (codes "ask") ∷ carry ∷ [])
+unfoldable pub node_tasks : App
+node_tasks = with_tasks (choice (codes "trustd") [] []) (lab ∷ format ∷ serve ∷ sending (codes "submit") ∷ sending (codes "ask") ∷ carry ∷ [])
 
--- the tasks of a node's upkeep, behind others
-abbrev pub with_upkeep : App → App
-with_upkeep app = among (among (among app (reaching (codes "status"))) (reaching (codes "catchup"))) (reaching (codes "compact"))
+-- the tasks of a node's upkeep, after others
+unfoldable pub with_upkeep : App → App
+with_upkeep app = with_tasks app (reaching (codes "status") ∷ reaching (codes "catchup") ∷ reaching (codes "compact") ∷ [])
 
-abbrev pub program : App
-program = with_upkeep (choice (codes "trustd") [] (lab ∷ format ∷ serve ∷ sending (codes "submit") ∷ sending (codes "ask") ∷ carry ∷ named (codes "command") ∷ named (codes "question") ∷ reading (codes "id") ∷ reading (codes "show") ∷ []))
+unfoldable pub program : App
+program = with_upkeep (with_tasks node_tasks (named (codes "command") ∷ named (codes "question") ∷ reading (codes "id") ∷ reading (codes "show") ∷ []))
 
 -- ---- `trustd command`
 
@@ -103,11 +108,11 @@ program = with_upkeep (choice (codes "trustd") [] (lab ∷ format ∷ serve ∷ 
 abbrev pub naming : Text → Text → Shape
 naming name argument = leaf name (word argument ∷ [])
 
-abbrev pub purposes : Shape
+unfoldable pub purposes : Shape
 purposes = leaf (codes "purposes") (word (codes "anchor") ∷ words (codes "purposes") ∷ [])
 
-abbrev pub commands : App
-commands = choice (codes "command") (option (codes "id") ∷ []) (
+unfoldable pub commands : App
+commands = with_tasks (with_rule (choice (codes "command") [] []) (option (codes "id"))) (
     reading (codes "add") ∷ naming (codes "withdraw") (codes "anchor") ∷ reading (codes "load") ∷ naming (codes "drop") (codes "list")
     ∷ purposes ∷ leaf (codes "noop") [] ∷ []
     )
@@ -119,20 +124,20 @@ abbrev pub with_arguments : Shape → List Rule → Shape
 with_arguments shape [] = shape
 with_arguments shape (rule ∷ rules) = with_arguments (with_argument shape rule) rules
 
-abbrev pub with_flags : Shape → Shape
+unfoldable pub with_flags : Shape → Shape
 with_flags own = with_arguments own (flag (codes "hard") ∷ flag (codes "deltas") ∷ flag (codes "explicit") ∷ flag (codes "nomap") ∷ flag (codes "noany") ∷ [])
 
--- what both questions take behind arguments of their own
-abbrev pub with_terms : Shape → Shape
+-- what both questions take after arguments of their own
+unfoldable pub with_terms : Shape → Shape
 with_terms own =
     let begun = with_arguments own (needed (option (codes "at")) ∷ option (codes "k") ∷ []) in
     with_arguments (with_flags begun) (options (codes "policy") ∷ option (codes "purpose") ∷ [])
 
-abbrev pub chain : Shape
+unfoldable pub chain : Shape
 chain = with_terms (leaf (codes "chain") (needed (option (codes "anchor")) ∷ needed (words (codes "certificates")) ∷ []))
 
-abbrev pub search : Shape
+unfoldable pub search : Shape
 search = with_terms (leaf (codes "search") (word (codes "leaf") ∷ words (codes "pool") ∷ []))
 
-abbrev pub questions : App
-questions = choice (codes "question") [] (chain ∷ search ∷ [])
+unfoldable pub questions : App
+questions = with_tasks (choice (codes "question") [] []) (chain ∷ search ∷ [])

@@ -1,10 +1,11 @@
 -- The subcommands, one after another.
 use Rattle.std.proofs.Common.{◌∙◌, ap₂}
 use Rattle.std.proofs.lemmas.Result.{IfOk-weaker}
-use Rattle.ts_cli.specs.Shapes.{among}
-use Rattle.ts_cli.proofs.program.node_tasks.Goals as goal
+use Rattle.ts_usage.specs.Shapes.{among, node_tasks, lab}
+use Rattle.ts_usage.proofs.program_shape.node_tasks.Goals as goal
 
 pub returns : goal.returns
+unfolding node_tasks lab
 returns c =
     let start = c.in_ok-program.ensures in
     let with_lab = c.in_ok-program-2.ensures ∙ ap₂ among start c.leaf-lab.ensures.shape in
