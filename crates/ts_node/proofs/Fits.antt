@@ -20,7 +20,7 @@ use Rattle.ts_synod.specs.Proposer.{ProposerState, ProposerStep, after_growth, b
 use Rattle.ts_synod.specs.Store.{Settling, Store, settling}
 use Rattle.ts_synod.specs.Node as world
 use Rattle.ts_synod.proofs.Sets.{by_test}
-use Rattle.ts_record.specs.Facts.{AllFit, IsBallot, IsPosition, spelling, spellings}
+use Rattle.ts_record.specs.Facts.{AllFit, IsBallot, IsPosition, encoding, encodings}
 use Rattle.std.specs.List.{AllByRecursion}
 use Rattle.ts_node.specs.Inputs.{BodyFits, InputFits, IsInput, IsShort, Submits}
 use Rattle.ts_node.specs.declared.input.Input.{Input}
@@ -37,10 +37,10 @@ all_more : {X : Type 0} (P : X → Type 0) (xs ys : List X) → AllByRecursion P
 all_more P [] ys a b = b
 all_more P (x ∷ xs) ys a b = (a.0, all_more P xs ys a.1 b)
 
--- the facts fit, and their spellings have at most so many octets
+-- the facts fit, and their encodings have at most so many octets
 pub record FitIn {C : Type 0} (octets : C → List ℕ) (n : ℕ) (facts : List (Fact C)) : Type 0 where
   pub fit : AllFit octets facts
-  pub short : length (spellings octets facts) ≤ n
+  pub short : length (encodings octets facts) ≤ n
 
 module _ {C : Type 0} (octets : C → List ℕ) where
   pub none : (n : ℕ) → FitIn octets n []
@@ -49,7 +49,7 @@ module _ {C : Type 0} (octets : C → List ℕ) where
   pub more : (m n : ℕ) (xs ys : List (Fact C)) → FitIn octets m xs → FitIn octets n ys → FitIn octets (m + n) (xs ++ ys)
   more m n xs ys a b = record {
     fit = all_more _ xs ys a.fit b.fit;
-    short = let e = ap length (flat_map-append (spelling octets) xs ys) in let f = length-append (spellings octets xs) (spellings octets ys) in let s = a.short in let t = b.short in omega arith;
+    short = let e = ap length (flat_map-append (encoding octets) xs ys) in let f = length-append (encodings octets xs) (encodings octets ys) in let s = a.short in let t = b.short in omega arith;
   }
 
   pub wider : (m n : ℕ) (xs : List (Fact C)) → m ≤ n → FitIn octets m xs → FitIn octets n xs

@@ -9,3 +9,4 @@ pub mod Deliveries
 pub mod Fits
 pub mod Images
 pub mod Simulation
+pub mod FirstOfId

@@ -301,7 +301,7 @@ module _ {C O Q A : Type 0} (octets : C → List ℕ) (id : C → List ℕ) (out
   answers w events at' q k a world.RoundsExhausted most is has (reply, asked) = absurd reply
   answers w events at' q k a world.PositionsExhausted most is has (reply, asked) = absurd reply
 
-  -- the same of an id that is settled
+  -- the same for an id that is settled
   settles : (w : World C O Q (List C)) (events : List (Event C Q)) (wanted : List ℕ) (p : ℕ) (o : O) (r : world.Reply O Q (List C)) → n ≤ 9 → w ≡ after_run n (store_of Q id outcome) events → Has w.replies r
       → IsReply is_answer (replies.Settled p o) r → ((other : List ℕ) (position : ℕ) (out : O) → r ≡ world.Settled other position out → other ≡ wanted) → RightOutcome n (store_of Q id outcome) w.nodes wanted p o
   settles w events wanted p o (world.Settled other position out) most is has reply told =

@@ -36,7 +36,7 @@ IsReply is_answer (replies.Answered k a) (world.Answered at' question commands) 
 IsReply is_answer (replies.Prefix m) (world.Prefix prefix) = m ≡ prefix
 IsReply is_answer reply other = ⊥
 
--- a command has a spelling, which leaves room for the other fields in a record's body
+-- a command has an encoding, which leaves room for the other fields in a record's body
 pub record IsShort (octets : List ℕ) : Type 0 where
   pub some : 1 ≤ length octets
   pub short : length octets ≤ 4194325

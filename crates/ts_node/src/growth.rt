@@ -48,8 +48,8 @@ fn copy_of_fact<C: Command>(alloc: Global, fact: &Fact<C>) -> Result<Fact<C>, Al
     })
 }
 
-/// Copies facts behind others.
-fn push_copies<C: Command>(
+/// Copies facts after others.
+pub(crate) fn push_copies<C: Command>(
     alloc: Global,
     facts: &mut Vec<Fact<C>>,
     more: &[Fact<C>],
@@ -63,7 +63,7 @@ fn push_copies<C: Command>(
 }
 
 /// Two ids have the same octets.
-fn is_same(a: &[u8], b: &[u8]) -> bool
+pub(crate) fn is_same(a: &[u8], b: &[u8]) -> bool
     ensures equal { result ≡ true → a.now ≡ b.now }
     ensures different { result ≡ false → a.now ≢ b.now }
 {

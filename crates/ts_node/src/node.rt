@@ -13,7 +13,7 @@ ghost use Rattle.ts_synod.specs.Node.{initial};
 ghost use Rattle.ts_node.specs.Machine.{store_of};
 ghost use Rattle.ts_node.specs.Inputs.{InputFits, IsInput};
 ghost use Rattle.ts_record.specs.declared.fault.Fault.TheVariants.{Memory, DiskFailed};
-ghost use Rattle.ts_record.specs.Facts.{AllFit, OpensTo, spellings};
+ghost use Rattle.ts_record.specs.Facts.{AllFit, OpensTo, encodings};
 ghost use Rattle.ts_node.specs.Roles.{IsLatest, facts_in, volatile_after};
 ghost use Rattle.ts_record.specs.Record.{OpensToForce};
 ghost use Rattle.ts_synod.specs.Force.{SameForce};
@@ -57,7 +57,7 @@ impl<D: Disk, C: Command + Codec, M: Machine<C>> Node<D, C, M> {
         ensures sound { IfOk result (λ node. IsSound D.state C.octets M.commands node) }
         ensures restarted { IfOk result (λ node. volatile node ≡ initial) }
         ensures whole { IfOk result (λ node. node.kept.broken ≡ false) }
-        // Which node it is stands in the header of the disk in use.
+        // Which node it is is in the header of the disk in use.
         ensures owner { IfOk result (λ node. (choice : Choice) × IsChosen choice (D.state a).read (D.state b).read
             × (config node ≡ record { nodes = choice.owner.nodes; me = choice.owner.node })) }
         // Where what is read opens to facts, these are the node's, or memory or a device failed.
@@ -122,7 +122,7 @@ impl<D: Disk, C: Command + Codec, M: Machine<C>> Node<D, C, M> {
         requires sound { IsSound D.state C.octets M.commands self.old }
         requires latest { IsLatest self.old.roles plan.change }
         requires fit { AllFit C.octets (facts_in plan.change) }
-        requires short { length (spellings C.octets (facts_in plan.change)) ≤ 4194500 }
+        requires short { length (encodings C.octets (facts_in plan.change)) ≤ 4194500 }
         ensures facts { OnOk result (facts self.new ≡ facts self.old ++ facts_in plan.change) }
         ensures volatile { OnOk result (volatile self.new ≡ volatile_after self.old.roles plan.change) }
         ensures messages { IfOk result (λ messages. messages.items ≡ plan.messages.items) }

@@ -38,7 +38,7 @@ join p fs gs r q b d v w c e x y = let h = both p fs gs in let hu = h.used in le
   learned = h.learned ∙ (λ i. first_some (x.learned i) (y.learned i));
 }
 
--- nothing is said of p
+-- nothing is claimed of p
 abbrev Nothing : {C : Type 0} → ℕ → List (Fact C) → Type 0
 Nothing p fs = Sees p fs 0 0 None None
 

@@ -1,9 +1,9 @@
--- A list of facts has one spelling, and no two lists have the same.
+-- A list of facts has one encoding, and no two lists have the same.
 use Rattle.std.proofs.Common.{◌==◌, false, zero, suc, ◌≡◌, ◌≢◌, ◌<◌, ◌≤◌, ◌^◌, ℕ, List, [], ◌∷◌, ◌++◌, length, drop, Option, Some, None, get_or, take, refl, sym, ◌∙◌, ap, arith, append_assoc}
 use Rattle.std.proofs.lemmas.List.{append-nil, drop_at, take_at}
 use Rattle.std.proofs.lemmas.Grind.{flat_map-append}
 use Rattle.std.specs.Int.{to_be_bytes, w64}
-use Rattle.ts_record.specs.Facts.{blob, spelling, spellings, IsPosition, IsBallot, IsBlob, Fits, AllFit, NoFact}
+use Rattle.ts_record.specs.Facts.{blob, encoding, encodings, IsPosition, IsBallot, IsBlob, Fits, AllFit, NoFact}
 use Rattle.ts_synod.specs.declared.message.Fact.{Fact}
 use Rattle.ts_synod.specs.declared.message.Fact.TheVariants.{Used, Promised, Took, Chosen}
 use Rattle.ts_record.proofs.Numbers.{one4, one8}
@@ -12,34 +12,34 @@ use Rattle.ts_record.proofs.Numbers.{one4, one8}
 pub record ReadSoFar {C : Type 0} (octets : C → List ℕ) (before facts : List (Fact C)) (body rest : List ℕ) : Type 0 where
   pub more : List (Fact C)
   pub fit : AllFit octets more
-  pub split : body ≡ spellings octets more ++ rest
+  pub split : body ≡ encodings octets more ++ rest
   pub kept : facts ≡ before ++ more
 
 fit_push : {C : Type 0} (octets : C → List ℕ) (facts : List (Fact C)) (fact : Fact C) → AllFit octets facts → Fits octets fact → AllFit octets (facts ++ fact ∷ [])
 fit_push octets [] fact fit last = (last, tt)
 fit_push octets (f ∷ facts) fact fit last = (fit.0, fit_push octets facts fact fit.1 last)
 
-spellings_push : {C : Type 0} (octets : C → List ℕ) (facts : List (Fact C)) (fact : Fact C) → spellings octets (facts ++ fact ∷ []) ≡ spellings octets facts ++ spelling octets fact
-spellings_push octets facts fact = flat_map-append (spelling octets) facts (fact ∷ []) ∙ ap (λ l. spellings octets facts ++ l) (append-nil (spelling octets fact))
+encodings_push : {C : Type 0} (octets : C → List ℕ) (facts : List (Fact C)) (fact : Fact C) → encodings octets (facts ++ fact ∷ []) ≡ encodings octets facts ++ encoding octets fact
+encodings_push octets facts fact = flat_map-append (encoding octets) facts (fact ∷ []) ∙ ap (λ l. encodings octets facts ++ l) (append-nil (encoding octets fact))
 
 pub starts : {C : Type 0} (octets : C → List ℕ) (before : List (Fact C)) (body : List ℕ) → ReadSoFar octets before before body body
 starts octets before body = record { more = []; fit = tt; split = refl; kept = sym (append-nil before) }
 
-pub one_more : {C : Type 0} (octets : C → List ℕ) (before facts later : List (Fact C)) (body rest after : List ℕ) (fact : Fact C) → ReadSoFar octets before facts body rest → Fits octets fact → rest ≡ spelling octets fact ++ after → later ≡ facts ++ fact ∷ [] → ReadSoFar octets before later body after
+pub one_more : {C : Type 0} (octets : C → List ℕ) (before facts later : List (Fact C)) (body rest after : List ℕ) (fact : Fact C) → ReadSoFar octets before facts body rest → Fits octets fact → rest ≡ encoding octets fact ++ after → later ≡ facts ++ fact ∷ [] → ReadSoFar octets before later body after
 one_more octets before facts later body rest after fact so_far fits is kept = record {
   more = so_far.more ++ fact ∷ [];
   fit = fit_push octets so_far.more fact so_far.fit fits;
-  split = so_far.split ∙ ap (λ l. spellings octets so_far.more ++ l) is ∙ sym (append_assoc (spellings octets so_far.more) (spelling octets fact) after) ∙ ap (λ l. l ++ after) (sym (spellings_push octets so_far.more fact));
+  split = so_far.split ∙ ap (λ l. encodings octets so_far.more ++ l) is ∙ sym (append_assoc (encodings octets so_far.more) (encoding octets fact) after) ∙ ap (λ l. l ++ after) (sym (encodings_push octets so_far.more fact));
   kept = kept ∙ ap (λ l. l ++ fact ∷ []) so_far.kept ∙ append_assoc before so_far.more (fact ∷ []);
 }
 
-module _ {C : Type 0} (octets : C → List ℕ) (one_spelling : (c d : C) → 1 ≤ length (octets c) → octets c ≡ octets d → c ≡ d) where
+module _ {C : Type 0} (octets : C → List ℕ) (one_encoding : (c d : C) → 1 ≤ length (octets c) → octets c ≡ octets d → c ≡ d) where
   -- a blob and what follows it
   blobs : (c d : C) (t u : List ℕ) → IsBlob (octets c) → IsBlob (octets d) → blob (octets c) ++ t ≡ blob (octets d) ++ u → (c ≡ d) × (t ≡ u)
   blobs c d t u small less is =
       let n = one4 (length (octets c)) (length (octets d)) (octets c ++ t) (octets d ++ u) small.short less.short is in
       let k = length (octets c) in (
-        one_spelling c d small.some (sym (take_at (octets c) t k refl) ∙ ap (take k) n.rest ∙ take_at (octets d) u k (sym n.number)),
+        one_encoding c d small.some (sym (take_at (octets c) t k refl) ∙ ap (take k) n.rest ∙ take_at (octets d) u k (sym n.number)),
         sym (drop_at (octets c) t k refl) ∙ ap (drop k) n.rest ∙ drop_at (octets d) u k (sym n.number),
       )
 
@@ -52,7 +52,7 @@ module _ {C : Type 0} (octets : C → List ℕ) (one_spelling : (c d : C) → 1 
   kinds : {P : Type 0} (m n : ℕ) (t u : List ℕ) → m ≢ n → m ∷ t ≡ n ∷ u → P
   kinds m n t u differ is = absurd (differ (ap (λ l. get_or l 0 0) is))
 
-  pub alike : (f g : Fact C) (t u : List ℕ) → Fits octets f → Fits octets g → spelling octets f ++ t ≡ spelling octets g ++ u → (f ≡ g) × (t ≡ u)
+  pub alike : (f g : Fact C) (t u : List ℕ) → Fits octets f → Fits octets g → encoding octets f ++ t ≡ encoding octets g ++ u → (f ≡ g) × (t ≡ u)
   alike (Used r) (Used s) t u x y is = let n = one4 r s t u x.to y.to (ap (drop 1) is) in (ap Used n.number, n.rest)
   alike (Used r) (Promised q d) t u x y is = kinds 1 2 _ _ (omega arith) is
   alike (Used r) (Took q d e) t u x y is = kinds 1 3 _ _ (omega arith) is
@@ -80,31 +80,31 @@ module _ {C : Type 0} (octets : C → List ℕ) (one_spelling : (c d : C) → 1 
       let w = blobs c e t u x.1 y.1 n.rest in
       (λ i. Chosen (n.number i) (w.0 i), w.1)
 
-  longer : (f : Fact C) (t : List ℕ) → spelling octets f ++ t ≡ [] → ⊥
+  longer : (f : Fact C) (t : List ℕ) → encoding octets f ++ t ≡ [] → ⊥
   longer (Used r) t is = absurd (omega (arith, ap length is))
   longer (Promised p b) t is = absurd (omega (arith, ap length is))
   longer (Took p b c) t is = absurd (omega (arith, ap length is))
   longer (Chosen p c) t is = absurd (omega (arith, ap length is))
 
-  -- two lists of facts of one spelling are one
-  pub one_list : (fs gs : List (Fact C)) → AllFit octets fs → AllFit octets gs → spellings octets fs ≡ spellings octets gs → fs ≡ gs
+  -- two lists of facts of one encoding are one
+  pub one_list : (fs gs : List (Fact C)) → AllFit octets fs → AllFit octets gs → encodings octets fs ≡ encodings octets gs → fs ≡ gs
   one_list [] [] x y is = refl
-  one_list [] (g ∷ gs) x y is = absurd (longer g (spellings octets gs) (sym is))
-  one_list (f ∷ fs) [] x y is = absurd (longer f (spellings octets fs) is)
+  one_list [] (g ∷ gs) x y is = absurd (longer g (encodings octets gs) (sym is))
+  one_list (f ∷ fs) [] x y is = absurd (longer f (encodings octets fs) is)
   one_list (f ∷ fs) (g ∷ gs) x y is =
-      let h = alike f g (spellings octets fs) (spellings octets gs) x.0 y.0 is in
+      let h = alike f g (encodings octets fs) (encodings octets gs) x.0 y.0 is in
       λ i. h.0 i ∷ one_list fs gs x.1 y.1 h.1 i
 
   -- where no fact begins, what comes before is no list of facts
-  stuck : (fs gs : List (Fact C)) (rest : List ℕ) → AllFit octets fs → AllFit octets gs → NoFact octets rest → 0 < length rest → spellings octets fs ++ rest ≡ spellings octets gs → ⊥
+  stuck : (fs gs : List (Fact C)) (rest : List ℕ) → AllFit octets fs → AllFit octets gs → NoFact octets rest → 0 < length rest → encodings octets fs ++ rest ≡ encodings octets gs → ⊥
   stuck [] [] rest x y none some is = absurd (omega (arith, some, ap length is))
-  stuck [] (g ∷ gs) rest x y none some is = none g (spellings octets gs) y.0 is
-  stuck (f ∷ fs) [] rest x y none some is = longer f (spellings octets fs ++ rest) (sym (append_assoc (spelling octets f) (spellings octets fs) rest) ∙ is)
+  stuck [] (g ∷ gs) rest x y none some is = none g (encodings octets gs) y.0 is
+  stuck (f ∷ fs) [] rest x y none some is = longer f (encodings octets fs ++ rest) (sym (append_assoc (encoding octets f) (encodings octets fs) rest) ∙ is)
   stuck (f ∷ fs) (g ∷ gs) rest x y none some is =
-      let h = alike f g (spellings octets fs ++ rest) (spellings octets gs) x.0 y.0 (sym (append_assoc (spelling octets f) (spellings octets fs) rest) ∙ is) in
+      let h = alike f g (encodings octets fs ++ rest) (encodings octets gs) x.0 y.0 (sym (append_assoc (encoding octets f) (encodings octets fs) rest) ∙ is) in
       stuck fs gs rest x.1 y.1 none some h.1
 
-  pub no_more : (before facts : List (Fact C)) (body rest : List ℕ) → ReadSoFar octets before facts body rest → NoFact octets rest → 0 < length rest → (more : List (Fact C)) → AllFit octets more → body ≡ spellings octets more → ⊥
+  pub no_more : (before facts : List (Fact C)) (body rest : List ℕ) → ReadSoFar octets before facts body rest → NoFact octets rest → 0 < length rest → (more : List (Fact C)) → AllFit octets more → body ≡ encodings octets more → ⊥
   no_more before facts body rest so_far none some more fit is = stuck so_far.more more rest so_far.fit fit none some (sym so_far.split ∙ is)
 
   -- the vote of a taken command isn't there

@@ -13,13 +13,13 @@ use Rattle.ts_synod.proofs.Same.{same_append}
 use Rattle.ts_synod.specs.declared.message.Fact.{Fact}
 use Rattle.ts_record.specs.declared.ledger.Ledger.{Ledger}
 use Rattle.ts_record.specs.Compacted.{compacted}
-use Rattle.ts_record.specs.Facts.{spelling, spellings, AllFit, AreFacts}
+use Rattle.ts_record.specs.Facts.{encoding, encodings, AllFit, AreFacts}
 use Rattle.ts_record.specs.Kept.{Keeps, rewrite_of}
 use Rattle.ts_record.specs.Record.{OpensToFrom, OpensToForce, ToBeforeOrAfter}
 use Rattle.ts_record.specs.Rewrite.{Rewrite, idle, begun, copying, rewrite_at, with_more, IsReady, IsUnderWay}
 use Rattle.ts_record.proofs.Forces.{same_force}
 use Rattle.ts_record.proofs.Ready.{ready_facts, ready_more, all_more, all_at, all_compacted}
-use Rattle.ts_record.proofs.Spellings.{one_octet, some}
+use Rattle.ts_record.proofs.Encodings.{one_octet, some}
 use Rattle.ts_record.proofs.Walk.{are_more}
 
 pub force_refl : {C : Type 0} (facts : List (Fact C)) → SameForce facts facts
@@ -67,23 +67,23 @@ module _ {D C : Type 0} (state : D → State) (lawful : (d : D) → IsDisk (stat
       subst (λ l. IsUnderWay octets c.facts.items copied (begun l)) (sym is) (same_force c.facts.items, all_compacted (IsReady octets) c.facts.items ready)
 
   pub starts_copying : (facts list : List (Fact C)) (copied : List (List ℕ)) → IsUnderWay octets facts copied (begun list) → IsUnderWay octets facts [] (copying list 0)
-  starts_copying facts list copied way = (way.0, way.1, omega arith, record { groups = []; fit = tt; spelled = refl; joined = refl })
+  starts_copying facts list copied way = (way.0, way.1, omega arith, record { groups = []; fit = tt; encoded = refl; joined = refl })
 
   pub is_ready : (facts list : List (Fact C)) (f : Fact C) (done : ℕ) (copied : List (List ℕ)) → IsUnderWay octets facts copied (copying list done) → done < length list → f ≡ get_or list done f → IsReady octets f
   is_ready facts list f done copied way le is = subst (IsReady octets) (sym is) (all_at (IsReady octets) list done f le way.1)
 
-  pub is_one_body : (f : Fact C) → IsReady octets f → IsBody (spelling octets f)
+  pub is_one_body : (f : Fact C) → IsReady octets f → IsBody (encoding octets f)
   is_one_body f ready = record { some = one_octet octets f; short = ready.1 }
 
   pub one_copied : (facts list : List (Fact C)) (f : Fact C) (done : ℕ) (copied : List (List ℕ)) → IsUnderWay octets facts copied (copying list done) → done < length list → f ≡ get_or list done f
-      → IsUnderWay octets facts (copied ++ spelling octets f ∷ []) (copying list (done + 1))
+      → IsUnderWay octets facts (copied ++ encoding octets f ∷ []) (copying list (done + 1))
   one_copied facts list f done copied way le is =
       let next : take (done + 1) list ≡ take done list ++ f ∷ [] = take_more list done f le ∙ ap (λ x. take done list ++ x ∷ []) (sym is) in (
         way.0,
         way.1,
         omega (arith, le),
-        subst (AreFacts octets (copied ++ spelling octets f ∷ [])) (sym next)
-            (are_more octets copied (take done list) (f ∷ []) (spelling octets f) way.3 ((is_ready facts list f done copied way le is).0, tt) (sym (append-nil (spelling octets f)))),
+        subst (AreFacts octets (copied ++ encoding octets f ∷ [])) (sym next)
+            (are_more octets copied (take done list) (f ∷ []) (encoding octets f) way.3 ((is_ready facts list f done copied way le is).0, tt) (sym (append-nil (encoding octets f)))),
       )
 
   pub all_copied : (facts list : List (Fact C)) (done : ℕ) (copied : List (List ℕ)) → IsUnderWay octets facts copied (copying list done) → done ≡ length list → AreFacts octets copied list
@@ -96,7 +96,7 @@ module _ {D C : Type 0} (state : D → State) (lawful : (d : D) → IsDisk (stat
       (run ca cb left_a left_b)
 
   -- more facts
-  pub more_under_way : (facts more : List (Fact C)) (copied : List (List ℕ)) (r : Rewrite C) → AllFit octets more → length (spellings octets more) ≤ 4194500 → IsUnderWay octets facts copied r → IsUnderWay octets (facts ++ more) copied (with_more r more)
+  pub more_under_way : (facts more : List (Fact C)) (copied : List (List ℕ)) (r : Rewrite C) → AllFit octets more → length (encodings octets more) ≤ 4194500 → IsUnderWay octets facts copied r → IsUnderWay octets (facts ++ more) copied (with_more r more)
   more_under_way facts more copied idle fit short way = tt
   more_under_way facts more copied (begun list) fit short way = (same_append list facts more way.0, all_more (IsReady octets) list more way.1 (ready_more octets more fit short))
   more_under_way facts more copied (copying list done) fit short way = (
@@ -114,16 +114,16 @@ module _ {D C : Type 0} (state : D → State) (lawful : (d : D) → IsDisk (stat
   rewrites_more Copying true list later more done is way = ap (λ l. copying l done) is
   rewrites_more Copying false list later more done is way = ⊎_elim (λ e. absurd (cc e)) (λ e. absurd (cc e)) way
 
-  pub moves_facts : (old new : Journal D) (facts more : List (Fact C)) (bodies copied : List (List ℕ)) (text : List ℕ) → AreFacts octets bodies facts → Holds state bodies copied old → AllFit octets more → IsBody (spellings octets more) → text ≡ entry (spellings octets more)
+  pub moves_facts : (old new : Journal D) (facts more : List (Fact C)) (bodies copied : List (List ℕ)) (text : List ℕ) → AreFacts octets bodies facts → Holds state bodies copied old → AllFit octets more → IsBody (encodings octets more) → text ≡ entry (encodings octets more)
       → ((bodies copied : List (List ℕ)) (body : List ℕ) → IsBody body → text ≡ entry body → Holds state bodies copied old → EveryMoment state (BeforeOrAfter old.swapped bodies body) old new)
       → EveryMoment state (ToBeforeOrAfter octets old.swapped facts more) old new
   moves_facts old new facts more bodies copied text are holds fit body is run ca cb left_a left_b = ⊎_elim
       (λ before. inl (bodies, before, are))
-      (λ after. inr (bodies ++ spellings octets more ∷ [], after, are_more octets bodies facts more (spellings octets more) are fit refl))
-      (run bodies copied (spellings octets more) body is holds ca cb left_a left_b)
+      (λ after. inr (bodies ++ encodings octets more ∷ [], after, are_more octets bodies facts more (encodings octets more) are fit refl))
+      (run bodies copied (encodings octets more) body is holds ca cb left_a left_b)
 
   pub rest_moves : (c : Ledger D C) (more : List (Fact C)) → Keeps state octets c → EveryMoment state (ToBeforeOrAfter octets c.journal.swapped c.facts.items more) c.journal c.journal
   rest_moves c more keeps ca cb left_a left_b = inl (rest_from c keeps ca cb left_a left_b)
 
-  pub is_facts_body : (more : List (Fact C)) → 0 < length more → length (spellings octets more) ≤ 4194500 → IsBody (spellings octets more)
+  pub is_facts_body : (more : List (Fact C)) → 0 < length more → length (encodings octets more) ≤ 4194500 → IsBody (encodings octets more)
   is_facts_body more some_more short = record { some = some octets more some_more; short = short }

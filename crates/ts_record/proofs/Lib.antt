@@ -7,5 +7,5 @@ mod Places
 mod Ready
 mod Records
 mod Reopened
-mod Spellings
+mod Encodings
 mod Walk

@@ -61,11 +61,11 @@ all_facts octets (c ∷ cs) (g ∷ groups) is fit = ((g, fit.0, sym (ap (λ (l :
 behind_gate : (h : Header) (live : ℕ) (bodies : List (List ℕ)) (image : List ℕ) (s : Stands h live bodies image) → drop 25 image ≡ flat_map block s.blocks ++ 0 ∷ s.closed.0
 behind_gate h live bodies image s = ap (drop 25) s.closed.1
 
--- what is read of an image, against what stands on it
+-- what is read of an image, against what is on it
 met : {C : Type 0} (octets : C → List ℕ) (image : List ℕ) (facts others : List (Fact C)) (at : ℕ) (h : Header) (live : ℕ) (bodies : List (List ℕ)) → (read : ReadTo octets image facts at) → (s : Stands h live bodies image) → AreFacts octets bodies others
     → ((bodies_in read.blocks ≡ bodies_in s.blocks) × (drop at image ≡ 0 ∷ s.closed.0)) ⊎ GoesOn octets (drop at image)
 met octets image facts others at h live bodies read s are =
-    meet octets read.blocks s.blocks (drop at image) s.closed.0 read.whole s.whole (all_facts octets s.blocks are.groups (are.spelled ∙ sym s.are) are.fit) (sym read.split ∙ behind_gate h live bodies image s)
+    meet octets read.blocks s.blocks (drop at image) s.closed.0 read.whole s.whole (all_facts octets s.blocks are.groups (are.encoded ∙ sym s.are) are.fit) (sym read.split ∙ behind_gate h live bodies image s)
 
 not_at_gate : {C : Type 0} (octets : C → List ℕ) (image rest : List ℕ) (from at : ℕ) → Stops octets image from at → drop from image ≡ 0 ∷ rest → ⊥
 not_at_gate octets image rest _ _ (no_gate p is) closed = absurd (omega (arith, ap length (sym is ∙ closed)))
@@ -86,20 +86,20 @@ pub not_unreadable : {C : Type 0} (octets : C → List ℕ) (image : List ℕ) (
 not_unreadable octets image facts at h live bodies bad s are =
     ⊎_elim (λ e. not_at_gate octets image s.closed.0 bad.1 at bad.3 e.1) (λ g. not_at_block octets image bad.1 at bad.3 g) (met octets image bad.0 facts bad.1 h live bodies bad.2 s are)
 
-module _ {C : Type 0} (octets : C → List ℕ) (one_spelling : (c d : C) → 1 ≤ length (octets c) → octets c ≡ octets d → c ≡ d) where
+module _ {C : Type 0} (octets : C → List ℕ) (one_encoding : (c d : C) → 1 ≤ length (octets c) → octets c ≡ octets d → c ≡ d) where
   one_grouping : (gs hs : List (List (Fact C))) → AllByRecursion (AllFit octets) gs → AllByRecursion (AllFit octets) hs → bodies_of octets gs ≡ bodies_of octets hs → gs ≡ hs
   one_grouping [] [] x y is = refl
   one_grouping [] (h ∷ hs) x y is = absurd (omega (arith, ap length is))
   one_grouping (g ∷ gs) [] x y is = absurd (omega (arith, ap length is))
   one_grouping (g ∷ gs) (h ∷ hs) x y is =
-      λ i. one_list octets one_spelling g h x.0 y.0 (ap (λ (l : List (List ℕ)). get_or l 0 []) is) i ∷ one_grouping gs hs x.1 y.1 (ap (drop 1) is) i
+      λ i. one_list octets one_encoding g h x.0 y.0 (ap (λ (l : List (List ℕ)). get_or l 0 []) is) i ∷ one_grouping gs hs x.1 y.1 (ap (drop 1) is) i
 
   -- bodies hold one list of facts
   pub one_meaning : (bodies others : List (List ℕ)) (facts more : List (Fact C)) → AreFacts octets bodies facts → AreFacts octets others more → bodies ≡ others → facts ≡ more
   one_meaning bodies others facts more are too is =
-      sym are.joined ∙ ap (λ gs. flat_map (λ (group : List (Fact C)). group) gs) (one_grouping are.groups too.groups are.fit too.fit (are.spelled ∙ is ∙ sym too.spelled)) ∙ too.joined
+      sym are.joined ∙ ap (λ gs. flat_map (λ (group : List (Fact C)). group) gs) (one_grouping are.groups too.groups are.fit too.fit (are.encoded ∙ is ∙ sym too.encoded)) ∙ too.joined
 
-  -- what is read is what stands there
+  -- what is read is what is there
   pub read_is : (image : List ℕ) (facts more : List (Fact C)) (end : ℕ) (h : Header) (live : ℕ) (bodies : List (List ℕ)) → IsRead octets image facts end → Stands h live bodies image → AreFacts octets bodies more → facts ≡ more
   read_is image facts more end h live bodies read s are =
       ⊎_elim (λ e. one_meaning (bodies_in read.0.blocks) bodies facts more read.0.are are (e.0 ∙ s.are))
@@ -129,7 +129,7 @@ not_other Closed k bodies image other live shut u = live_not_shut u.header other
 not_other Begun k bodies image other live none u = none
 not_other Copying k bodies image other live none u = none
 
--- the bodies stand on the disk that is chosen
+-- the bodies are on the disk that is chosen
 pub stands_chosen : (swapped : Bool) (owner : Owner) (stage : Stage) (bodies : List (List ℕ)) (a b : List ℕ) → IsLive (header_of_owner owner) (cond swapped b a) → IsOther stage owner.generation (cond swapped a b) → Opens bodies a b → (h : Header) × (live : ℕ) × Stands h live bodies (cond swapped b a)
 stands_chosen true owner stage bodies a b live other (inl u) = absurd (not_other stage (header_of_owner owner) bodies b a live other u)
 stands_chosen true owner stage bodies a b live other (inr u) = (u.header, u.live, u.stands)

@@ -9,7 +9,7 @@ use Rattle.ts_synod.specs.declared.message.Fact.{Fact}
 use Rattle.ts_synod.specs.declared.message.Fact.TheVariants.{Used, Promised, Took, Chosen}
 use Rattle.ts_synod.specs.declared.message.Vote.{Vote}
 use Rattle.ts_record.specs.Compacted.{last_position, promise_at, greatest_promise, used_fact, promise_fact, vote_fact, learned_fact, facts_at, facts_from, compacted}
-use Rattle.ts_record.specs.Facts.{spelling, spellings, AllFit, AreFacts}
+use Rattle.ts_record.specs.Facts.{encoding, encodings, AllFit, AreFacts}
 use Rattle.ts_record.specs.Rewrite.{IsReady}
 
 pub all_more : {X : Type 0} (P : X → Type 0) (xs ys : List X) → AllByRecursion P xs → AllByRecursion P ys → AllByRecursion P (xs ++ ys)
@@ -23,25 +23,25 @@ all_at P (x ∷ xs) (suc i) d le each = all_at P xs i d (omega (arith, le)) each
 
 module _ {C : Type 0} (octets : C → List ℕ) where
   -- the facts of one body
-  pub ready_more : (more : List (Fact C)) → AllFit octets more → length (spellings octets more) ≤ 4194500 → AllByRecursion (IsReady octets) more
+  pub ready_more : (more : List (Fact C)) → AllFit octets more → length (encodings octets more) ≤ 4194500 → AllByRecursion (IsReady octets) more
   ready_more [] fit short = tt
   ready_more (f ∷ fs) fit short =
-      let all = length-append (spelling octets f) (spellings octets fs) in
+      let all = length-append (encoding octets f) (encodings octets fs) in
       ((fit.0, omega (arith, short, all)), ready_more fs fit.1 (omega (arith, short, all)))
 
-  of_groups : (groups : List (List (Fact C))) (blocks : List Block) → AllByRecursion (AllFit octets) groups → AllByRecursion IsWhole blocks → map (spellings octets) groups ≡ map (λ (b : Block). b.body) blocks
+  of_groups : (groups : List (List (Fact C))) (blocks : List Block) → AllByRecursion (AllFit octets) groups → AllByRecursion IsWhole blocks → map (encodings octets) groups ≡ map (λ (b : Block). b.body) blocks
       → AllByRecursion (IsReady octets) (flat_map (λ group. group) groups)
   of_groups [] blocks fit whole is = tt
   of_groups (g ∷ groups) [] fit whole is = absurd (omega (arith, ap length is))
   of_groups (g ∷ groups) (b ∷ blocks) fit whole is =
-      let same : spellings octets g ≡ b.body = ap (λ l. get_or l 0 []) is in
+      let same : encodings octets g ≡ b.body = ap (λ l. get_or l 0 []) is in
       all_more (IsReady octets) g (flat_map (λ group. group) groups)
       (ready_more g fit.0 (omega (arith, ap length same, whole.0.fits.short)))
       (of_groups groups blocks fit.1 whole.1 (ap (drop 1) is))
 
   -- the facts of whole blocks
   pub ready_facts : (facts : List (Fact C)) (bodies : List (List ℕ)) (blocks : List Block) → AllByRecursion IsWhole blocks → map (λ (b : Block). b.body) blocks ≡ bodies → AreFacts octets bodies facts → AllByRecursion (IsReady octets) facts
-  ready_facts facts bodies blocks whole is are = subst (AllByRecursion (IsReady octets)) are.joined (of_groups are.groups blocks are.fit whole (are.spelled ∙ sym is))
+  ready_facts facts bodies blocks whole is are = subst (AllByRecursion (IsReady octets)) are.joined (of_groups are.groups blocks are.fit whole (are.encoded ∙ sym is))
 
 -- what is copied is among the facts
 module _ {C : Type 0} (P : Fact C → Type 0) where

@@ -36,7 +36,7 @@ spare_of Closed state j durable other = (durable, other)
 spare_of Begun state j durable other = absurd other
 spare_of Copying state j durable other = absurd other
 
--- what was read stands on the disk in use
+-- what was read is on the disk in use
 pub keeps_of : {D C : Type 0} (state : D → State) (octets : C → List ℕ) (j : Journal D) (facts : List (Fact C)) → IsLive (header_of j) (state j.current).read → IsOther j.stage j.generation (state j.spare).read
     → IsDurable (state j.current) → IsDurable (state j.spare) → IsRead octets (state j.current).read facts j.end → (bodies copied : List (List ℕ)) × Holds state bodies copied j × AreFacts octets bodies facts
 keeps_of state octets j facts live other durable still read =
@@ -66,12 +66,12 @@ keeps_of state octets j facts live other durable still read =
       read.0.are,
     )
 
-module _ {C : Type 0} (octets : C → List ℕ) (one_spelling : (c d : C) → 1 ≤ length (octets c) → octets c ≡ octets d → c ≡ d) where
+module _ {C : Type 0} (octets : C → List ℕ) (one_encoding : (c d : C) → 1 ≤ length (octets c) → octets c ≡ octets d → c ≡ d) where
   -- where the pair opens to facts, these are read
   pub read_all : (choice : Choice) (a b : List ℕ) (facts others : List (Fact C)) (end : ℕ) → IsChosen choice a b → IsRead octets (cond choice.swapped b a) facts end → OpensTo octets others a b → facts ≡ others
   read_all choice a b facts others end chosen read opens =
       let s = stands_chosen choice.swapped choice.owner choice.stage opens.0 a b chosen.live chosen.other opens.1 in
-      read_is octets one_spelling (cond choice.swapped b a) facts others end s.0 s.1 opens.0 read s.2 opens.2
+      read_is octets one_encoding (cond choice.swapped b a) facts others end s.0 s.1 opens.0 read s.2 opens.2
 
 -- where the pair opens to facts, no fault but those of memory and device comes
 pub no_fault : {C : Type 0} (octets : C → List ℕ) (old_a old_b new_a new_b : State) (fault : Fault) (facts : List (Fact C)) → IsFault octets old_a old_b new_a new_b fault → OpensTo octets facts old_a.read old_b.read → (fault ≡ Memory) ⊎ (fault ≡ DiskFailed)

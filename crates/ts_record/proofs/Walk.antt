@@ -6,7 +6,7 @@ use Rattle.std.specs.List.{flat_map, AllByRecursion}
 use Rattle.std.specs.Int.{to_be_bytes, w32}
 use Rattle.ts_journal.specs.Images.{Block, block, IsWhole}
 use Rattle.ts_synod.specs.declared.message.Fact.{Fact}
-use Rattle.ts_record.specs.Facts.{spellings, AllFit, AreFacts}
+use Rattle.ts_record.specs.Facts.{encodings, AllFit, AreFacts}
 use Rattle.ts_record.specs.Blocks.{IsLength, ReadTo, IsFacts, Stops, no_gate, no_length, no_body}
 
 all_push : {X : Type 0} (P : X → Type 0) (xs : List X) (x : X) → AllByRecursion P xs → P x → AllByRecursion P (xs ++ x ∷ [])
@@ -14,11 +14,11 @@ all_push P [] x each last = (last, tt)
 all_push P (y ∷ xs) x each last = (each.0, all_push P xs x each.1 last)
 
 -- a body more, of more facts
-pub are_more : {C : Type 0} (octets : C → List ℕ) (bodies : List (List ℕ)) (facts more : List (Fact C)) (body : List ℕ) → AreFacts octets bodies facts → AllFit octets more → body ≡ spellings octets more → AreFacts octets (bodies ++ body ∷ []) (facts ++ more)
+pub are_more : {C : Type 0} (octets : C → List ℕ) (bodies : List (List ℕ)) (facts more : List (Fact C)) (body : List ℕ) → AreFacts octets bodies facts → AllFit octets more → body ≡ encodings octets more → AreFacts octets (bodies ++ body ∷ []) (facts ++ more)
 are_more {C} octets bodies facts more body are fit is = record {
   groups = are.groups ++ more ∷ [];
   fit = all_push (AllFit octets) are.groups more are.fit fit;
-  spelled = map-append (spellings octets) are.groups (more ∷ []) ∙ ap (λ l. l ++ spellings octets more ∷ []) are.spelled ∙ ap (λ b. bodies ++ b ∷ []) (sym is);
+  encoded = map-append (encodings octets) are.groups (more ∷ []) ∙ ap (λ l. l ++ encodings octets more ∷ []) are.encoded ∙ ap (λ b. bodies ++ b ∷ []) (sym is);
   joined = flat_map-append (λ (group : List (Fact C)). group) are.groups (more ∷ []) ∙ ap (λ l. l ++ (more ++ [])) are.joined ∙ ap (λ l. facts ++ l) (append-nil more);
 }
 
@@ -39,8 +39,8 @@ opening image part at n more wide is fits split =
     }
 
 pub one_block : {C : Type 0} (octets : C → List ℕ) (image : List ℕ) (facts later more : List (Fact C)) (at n : ℕ) (body : List ℕ) → ReadTo octets image facts at → Opening image at n → n ≤ length (drop (at + 5) image)
-    → body ≡ take n (drop (at + 5) image) → AllFit octets more → body ≡ spellings octets more → later ≡ facts ++ more → ReadTo octets image later (at + 5 + n)
-one_block {C} octets image facts later more at n body read o room body_is fit spelled later_is =
+    → body ≡ take n (drop (at + 5) image) → AllFit octets more → body ≡ encodings octets more → later ≡ facts ++ more → ReadTo octets image later (at + 5 + n)
+one_block {C} octets image facts later more at n body read o room body_is fit encoded later_is =
     let b : Block = record { gate = o.gate; body = body } in
     let sized : length body ≡ n = omega (arith, ap length body_is, length-take n (drop (at + 5) image), room) in
     let rest : List ℕ = drop (at + 5 + n) image in
@@ -51,7 +51,7 @@ one_block {C} octets image facts later more at n body read o room body_is fit sp
       blocks = read.blocks ++ b ∷ [];
       whole = all_push IsWhole read.blocks b read.whole (record { is_open = o.wide; fits = record { some = omega (arith, sized, o.fits.from); short = omega (arith, sized, o.fits.to) } });
       are = subst (λ fs. AreFacts octets (map (λ (x : Block). x.body) (read.blocks ++ b ∷ [])) fs) (sym later_is)
-          (subst (λ bs. AreFacts octets bs (facts ++ more)) (sym (map-append (λ (x : Block). x.body) read.blocks (b ∷ []))) (are_more octets (map (λ (x : Block). x.body) read.blocks) facts more body read.are fit spelled));
+          (subst (λ bs. AreFacts octets bs (facts ++ more)) (sym (map-append (λ (x : Block). x.body) read.blocks (b ∷ []))) (are_more octets (map (λ (x : Block). x.body) read.blocks) facts more body read.are fit encoded));
       within = omega (arith, room, length-drop (at + 5) image, o.fits.from);
       split = read.split ∙ ap (λ l. flat_map block read.blocks ++ l) here ∙ sym (append_assoc (flat_map block read.blocks) (block b) rest) ∙ ap (λ l. l ++ rest) (sym joined);
       ends = omega (arith, read.ends, sized, ap length joined, length-append (flat_map block read.blocks) (block b));
@@ -67,5 +67,5 @@ stop_at_length octets image part at more wide is none = no_length at (get_or ima
 pub stop_at_body : {C : Type 0} (octets : C → List ℕ) (image : List ℕ) (at n : ℕ) → Opening image at n → (length (drop (at + 5) image) < n ⊎ (IsFacts octets (take n (drop (at + 5) image)) → ⊥)) → Stops octets image at (at + 5)
 stop_at_body octets image at n o bad = no_body at o.gate n o.wide o.fits o.split bad
 
-pub no_facts : {C : Type 0} (octets : C → List ℕ) (body other : List ℕ) → body ≡ other → ((more : List (Fact C)) → AllFit octets more → body ≡ spellings octets more → ⊥) → IsFacts octets other → ⊥
+pub no_facts : {C : Type 0} (octets : C → List ℕ) (body other : List ℕ) → body ≡ other → ((more : List (Fact C)) → AllFit octets more → body ≡ encodings octets more → ⊥) → IsFacts octets other → ⊥
 no_facts octets body other is none facts = none facts.0 facts.1 (is ∙ facts.2)

@@ -1,18 +1,18 @@
--- What stands behind the live gate of an image: blocks whose bodies are facts, and then a closed gate, or something that
+-- What follows the live gate of an image: blocks whose bodies are facts, and then a closed gate, or something that
 -- can't be read.
 use Rattle.std.specs.Prelude.{◌≡◌, ◌≢◌, ◌⊎◌, ◌≤◌, ◌<◌, ◌+◌, ℕ, List, [], ◌∷◌, ◌++◌, length, map, take, drop}
 use Rattle.std.specs.List.{flat_map, AllByRecursion}
 use Rattle.std.specs.Int.{to_be_bytes, w32}
 use Rattle.ts_journal.specs.Images.{Block, block, IsWhole}
 use Rattle.ts_synod.specs.declared.message.Fact.{Fact}
-use Rattle.ts_record.specs.Facts.{AreFacts, AllFit, spellings}
+use Rattle.ts_record.specs.Facts.{AreFacts, AllFit, encodings}
 
 -- 1 to 4,194,500
 pub record IsLength (n : ℕ) : Type 0 where
   pub from : 1 ≤ n
   pub to : n ≤ 4194500
 
--- up to this offset whole blocks of these facts stand behind the live gate
+-- up to this offset whole blocks of these facts follow the live gate
 pub record ReadTo {C : Type 0} (octets : C → List ℕ) (image : List ℕ) (facts : List (Fact C)) (at : ℕ) : Type 0 where
   pub blocks : List Block
   pub whole : AllByRecursion IsWhole blocks
@@ -27,7 +27,7 @@ IsRead octets image facts end = ReadTo octets image facts end × (drop end image
 
 -- a body is a list of facts
 abbrev pub IsFacts : {C : Type 0} → (C → List ℕ) → List ℕ → Type 0
-IsFacts {C} octets body = (facts : List (Fact C)) × AllFit octets facts × (body ≡ spellings octets facts)
+IsFacts {C} octets body = (facts : List (Fact C)) × AllFit octets facts × (body ≡ encodings octets facts)
 
 -- The gate, length or body that begins at an offset can't be read: there is no gate; four octets of a length that a body may
 -- have aren't there; or as many octets as the length says aren't there, or are no facts.

@@ -1,4 +1,4 @@
--- Facts, how they are spelled, and which have a spelling. A command's spelling is its codec's.
+-- Facts, how they are encoded, and which have an encoding. A command's encoding is its codec's.
 use Rattle.std.specs.Prelude.{◌≡◌, ◌≤◌, ◌<◌, ◌^◌, ◌%◌, ℕ, List, ◌∷◌, ◌++◌, length, map, drop, Option, MatchOption}
 use Rattle.std.specs.List.{flat_map, AllByRecursion}
 use Rattle.std.specs.Int.{to_be_bytes, w32, w64}
@@ -11,15 +11,15 @@ abbrev pub blob : List ℕ → List ℕ
 blob octets = to_be_bytes w32 (length octets) ++ octets
 
 -- a kind octet, and the fields
-abbrev pub spelling : {C : Type 0} → (C → List ℕ) → Fact C → List ℕ
-spelling octets (Used round) = 1 ∷ to_be_bytes w32 round
-spelling octets (Promised position ballot) = 2 ∷ (to_be_bytes w32 position ++ to_be_bytes w64 ballot)
-spelling octets (Took position ballot command) = 3 ∷ (to_be_bytes w32 position ++ (to_be_bytes w64 ballot ++ blob (octets command)))
-spelling octets (Chosen position command) = 4 ∷ (to_be_bytes w32 position ++ blob (octets command))
+abbrev pub encoding : {C : Type 0} → (C → List ℕ) → Fact C → List ℕ
+encoding octets (Used round) = 1 ∷ to_be_bytes w32 round
+encoding octets (Promised position ballot) = 2 ∷ (to_be_bytes w32 position ++ to_be_bytes w64 ballot)
+encoding octets (Took position ballot command) = 3 ∷ (to_be_bytes w32 position ++ (to_be_bytes w64 ballot ++ blob (octets command)))
+encoding octets (Chosen position command) = 4 ∷ (to_be_bytes w32 position ++ blob (octets command))
 
 -- the facts of a body, one after the other
-abbrev pub spellings : {C : Type 0} → (C → List ℕ) → List (Fact C) → List ℕ
-spellings octets facts = flat_map (spelling octets) facts
+abbrev pub encodings : {C : Type 0} → (C → List ℕ) → List (Fact C) → List ℕ
+encodings octets facts = flat_map (encoding octets) facts
 
 -- 1 to 1,000,000
 pub record IsPosition (position : ℕ) : Type 0 where
@@ -54,25 +54,25 @@ AllFit octets facts = AllByRecursion (Fits octets) facts
 
 -- one body for each list of facts
 abbrev pub bodies_of : {C : Type 0} → (C → List ℕ) → List (List (Fact C)) → List (List ℕ)
-bodies_of octets groups = map (spellings octets) groups
+bodies_of octets groups = map (encodings octets) groups
 
 -- these bodies hold these facts
 pub record AreFacts {C : Type 0} (octets : C → List ℕ) (bodies : List (List ℕ)) (facts : List (Fact C)) : Type 0 where
   pub groups : List (List (Fact C))
   pub fit : AllByRecursion (AllFit octets) groups
-  pub spelled : bodies_of octets groups ≡ bodies
+  pub encoded : bodies_of octets groups ≡ bodies
   pub joined : flat_map (λ group. group) groups ≡ facts
 
 -- no fact begins here
 abbrev pub NoFact : {C : Type 0} → (C → List ℕ) → List ℕ → Type 0
-NoFact {C} octets rest = (fact : Fact C) (after : List ℕ) → Fits octets fact → rest ≡ spelling octets fact ++ after → ⊥
+NoFact {C} octets rest = (fact : Fact C) (after : List ℕ) → Fits octets fact → rest ≡ encoding octets fact ++ after → ⊥
 
 -- the fact that begins here, and the length of its octets; or no fact begins here
 abbrev pub Begins : {C : Type 0} → (C → List ℕ) → List ℕ → Option (Fact C × ℕ) → Type 0
 Begins octets rest found = MatchOption found (NoFact octets rest)
-    (λ read. Fits octets read.0 × (1 ≤ read.1) × (read.1 ≤ length rest) × (rest ≡ spelling octets read.0 ++ drop read.1 rest))
+    (λ read. Fits octets read.0 × (1 ≤ read.1) × (read.1 ≤ length rest) × (rest ≡ encoding octets read.0 ++ drop read.1 rest))
 
--- the same behind the octet of its kind
+-- the same after the octet of its kind
 abbrev pub FactOrNot : {C : Type 0} → (C → List ℕ) → ℕ → List ℕ → Option (Fact C × ℕ) → Type 0
 FactOrNot octets kind fields found = Begins octets (kind ∷ fields) found
 

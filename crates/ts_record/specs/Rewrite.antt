@@ -8,7 +8,7 @@ use Rattle.ts_synod.specs.declared.message.Fact.{Fact}
 use Rattle.ts_record.specs.declared.progress.Progress.{Progress}
 use Rattle.ts_record.specs.declared.progress.Progress.TheVariants.{Working, Switched}
 use Rattle.ts_record.specs.Compacted.{compacted}
-use Rattle.ts_record.specs.Facts.{spelling, Fits, AreFacts}
+use Rattle.ts_record.specs.Facts.{encoding, Fits, AreFacts}
 
 -- None is begun; the other disk is shut, and these facts are to be copied; or its header is written, and so many of them
 -- are copied.
@@ -65,7 +65,7 @@ Steps old answer new = StepsFrom old.rewrite old answer new
 
 -- it can be written as a body of its own
 abbrev pub IsReady : {C : Type 0} → (C → List ℕ) → Fact C → Type 0
-IsReady octets fact = Fits octets fact × (length (spelling octets fact) ≤ 4194500)
+IsReady octets fact = Fits octets fact × (length (encoding octets fact) ≤ 4194500)
 
 -- the facts to be copied are of the force of all, and those copied stand on the other disk
 abbrev pub IsUnderWay : {C : Type 0} → (C → List ℕ) → List (Fact C) → List (List ℕ) → Rewrite C → Type 0

@@ -24,14 +24,14 @@ fn length_at(rest: &[u8]) -> Option<usize>
     Some(size)
 }
 
-// A fact list, and the offset of the closed gate behind it.
+// A fact list, and the offset of the closed gate after it.
 #[derive(Drop)]
 pub(crate) struct Contents<C> {
     pub facts: Vec<Fact<C>>,
     pub end: usize,
 }
 
-// Reads the blocks behind a live gate, up to the closed gate behind the last.
+// Reads the blocks after a live gate, up to the closed gate after the last.
 pub(crate) fn read_blocks<C: Codec>(alloc: Global, octets: &[u8]) -> Result<Contents<C>, Fault>
     requires { 25 ≤ length octets.now }
     ensures read { IfOk result (λ contents. IsRead C.octets octets.now contents.facts.items contents.end) }

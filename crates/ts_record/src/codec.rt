@@ -3,16 +3,16 @@ ghost use Rattle.std.specs.Prelude.{◌≡◌, ◌≤◌, ◌++◌, ℕ, List, l
 
 use std::alloc::{AllocError, Global};
 
-/// A command that facts hold: it has one spelling, and nothing else is read as it.
+/// A command that facts hold: it has one encoding, and nothing else is read as it.
 pub trait Codec: Drop {
-    /// The octets of a command, at least one; none where it has no spelling.
+    /// The octets of a command, at least one; none where it has no encoding.
     ghost octets: { Self → List ℕ };
 
     /// A copy, which equals the command.
     fn try_copy(&self, alloc: Global) -> Result<Self, AllocError>
         ensures { IfOk result (λ copy. copy ≡ self.now) };
 
-    /// Writes the command's octets behind those of `out`.
+    /// Writes the command's octets after those of `out`.
     fn write(&self, out: &mut Vec<u8>) -> Result<(), AllocError>
         ensures { OnOk result (out.new.items ≡ out.old.items ++ octets self.now) };
 
@@ -21,7 +21,7 @@ pub trait Codec: Drop {
         ensures found { IfOk result (λ read. IfSome read (λ command. (1 ≤ length (octets command)) × (source.now ≡ octets command))) }
         ensures none { IfOk result (λ read. IfNone read ((command : Self) → 1 ≤ length (octets command) → source.now ≡ octets command → ⊥)) };
 
-    /// No two commands have one spelling. It does nothing.
-    fn one_spelling()
+    /// No two commands have one encoding. It does nothing.
+    fn one_encoding()
         ensures { (command other : Self) → 1 ≤ length (octets command) → octets command ≡ octets other → command ≡ other };
 }

@@ -5,7 +5,7 @@ ghost use Rattle.ts_journal.specs.declared.journal.Stage.TheVariants.{Live, Clos
 ghost use Rattle.ts_record.specs.declared.fault.Fault.TheVariants.{Memory, DiskFailed};
 ghost use Rattle.ts_record.specs.declared.progress.Progress.TheVariants.{Working, Switched};
 ghost use Rattle.ts_record.specs.Compacted.{compacted};
-ghost use Rattle.ts_record.specs.Facts.{AllFit, spellings};
+ghost use Rattle.ts_record.specs.Facts.{AllFit, encodings};
 ghost use Rattle.ts_record.specs.Kept.{Keeps, rewrite_of, course_of};
 ghost use Rattle.ts_record.specs.Record.{OpensToFrom, OpensToForce, ToBeforeOrAfter};
 ghost use Rattle.ts_record.specs.Rewrite.{idle, begun, copying, with_more, on, switched, IsLast, Steps};
@@ -137,7 +137,7 @@ pub(crate) fn append<D: Disk, C: Codec>(
     requires keeps { Keeps D.state C.octets c.old }
     requires some { 0 < length facts.now }
     requires fit { AllFit C.octets facts.now }
-    requires short { length (spellings C.octets facts.now) ≤ 4194500 }
+    requires short { length (encodings C.octets facts.now) ≤ 4194500 }
     ensures keeps { OnOk result (Keeps D.state C.octets c.new) }
     ensures kept { OnOk result (c.new.facts.items ≡ c.old.facts.items ++ facts.now) }
     ensures rewrite { OnOk result (rewrite_of c.new ≡ with_more (rewrite_of c.old) facts.now) }

@@ -13,7 +13,7 @@ use std::alloc::Global;
 use ts_disk::Disk;
 use ts_journal::{Choice, Look, choose, look_at};
 
-// The disk in use, and what stands on it.
+// The disk in use, and what is on it.
 #[derive(Drop)]
 pub(crate) struct Found<C> {
     pub choice: Choice,

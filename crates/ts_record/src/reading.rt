@@ -1,7 +1,7 @@
 // Facts are read from a body.
 ghost use Rattle.std.specs.Prelude.{◌≡◌, ◌⊎◌, ◌≤◌, ◌<◌, ◌+◌, ◌^◌, ◌++◌, ◌∷◌, [], ℕ, List, length, drop, take, MatchOption, MatchResult, IfSome, IfOk, OnOk, Option, true, false};
 ghost use Rattle.std.specs.Int.{to_be_bytes, w32, w64};
-ghost use Rattle.ts_record.specs.Facts.{IsPosition, IsRound, IsBallot, IsBlob, blob, spelling, spellings, Fits, AllFit, Begins, FactOrNot};
+ghost use Rattle.ts_record.specs.Facts.{IsPosition, IsRound, IsBallot, IsBlob, blob, encoding, encodings, Fits, AllFit, Begins, FactOrNot};
 ghost use Rattle.ts_synod.specs.declared.message.Fact.{Fact};
 
 use crate::Codec;
@@ -129,7 +129,7 @@ fn vote_at<C: Codec>(alloc: Global, rest: &[u8]) -> Result<Option<(u64, C, usize
 fn took_at<C: Codec>(alloc: Global, fields: &[u8]) -> Result<Option<(Fact<C>, usize)>, AllocError>
     ensures { IfOk result (λ found. FactOrNot C.octets 3 fields.now found) }
 {
-    C::one_spelling();
+    C::one_encoding();
     let Some(position) = position_at(fields) else {
         return Ok(None);
     };
@@ -174,18 +174,18 @@ fn fact_at<C: Codec>(alloc: Global, rest: &[u8]) -> Result<Option<(Fact<C>, usiz
     }
 }
 
-/// Reads the facts of a whole body behind those that are there. False where the body is not a list of facts;
-/// then what is there behind those has no meaning.
+/// Reads the facts of a whole body after those that are there. False where the body is not a list of facts;
+/// then what is there after those has no meaning.
 pub(crate) fn read_facts<C: Codec>(
     alloc: Global,
     body: &[u8],
     facts: &mut Vec<Fact<C>>,
 ) -> Result<bool, AllocError>
     ensures found { IfOk result (λ found. found ≡ true → (more : List (Fact C)) × AllFit C.octets more
-        × (body.now ≡ spellings C.octets more) × (facts.new.items ≡ facts.old.items ++ more)) }
-    ensures none { IfOk result (λ found. found ≡ false → (more : List (Fact C)) → AllFit C.octets more → body.now ≡ spellings C.octets more → ⊥) }
+        × (body.now ≡ encodings C.octets more) × (facts.new.items ≡ facts.old.items ++ more)) }
+    ensures none { IfOk result (λ found. found ≡ false → (more : List (Fact C)) → AllFit C.octets more → body.now ≡ encodings C.octets more → ⊥) }
 {
-    C::one_spelling();
+    C::one_encoding();
     let mut rest = body;
     while !rest.is_empty() {
         let Some((fact, size)) = fact_at(alloc, rest)? else {

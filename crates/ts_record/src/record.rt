@@ -3,7 +3,7 @@ ghost use Rattle.std.specs.Prelude.{◌≡◌, ◌≤◌, ◌⊎◌, ◌++◌, �
 ghost use Rattle.ts_disk.specs.Disk.{IsDurable, DeviceFailed};
 ghost use Rattle.ts_journal.specs.Images.{head, AnyPair, EveryPair};
 ghost use Rattle.ts_record.specs.declared.fault.Fault.TheVariants.{Memory, DiskFailed, Broken, GenerationsExhausted};
-ghost use Rattle.ts_record.specs.Facts.{AllFit, spellings, OpensTo};
+ghost use Rattle.ts_record.specs.Facts.{AllFit, encodings, OpensTo};
 ghost use Rattle.ts_journal.specs.Choice.{header_of_owner, IsLive, IsOther, IsChosen};
 ghost use Rattle.ts_journal.specs.declared.choice.Choice.{Choice};
 ghost use Rattle.ts_synod.specs.declared.message.Fact.{Fact};
@@ -141,7 +141,7 @@ impl<D: Disk, C: Codec> Record<D, C> {
     {
         let mut a = a;
         let mut b = b;
-        C::one_spelling();
+        C::one_encoding();
         match opened(alloc, &mut a, &mut b) {
             Ok(found) => {
                 if found.choice.swapped {
@@ -206,7 +206,7 @@ impl<D: Disk, C: Codec> Record<D, C> {
     /// them. Of no facts it makes no call.
     pub fn append(&mut self, alloc: Global, facts: &[Fact<C>]) -> Result<(), Fault>
         requires fit { AllFit C.octets facts.now }
-        requires short { length (spellings C.octets facts.now) ≤ 4194500 }
+        requires short { length (encodings C.octets facts.now) ≤ 4194500 }
 
         ensures kept { OnOk result (self.new.facts ≡ self.old.facts ++ facts.now) }
 

@@ -20,7 +20,7 @@ fn greatest(facts: &[Fact<Word>]) -> u32 {
 }
 
 // Rewrites a record of two facts, to which a third is appended after so many steps, until a call fails or the record
-// is switched. The number of steps, the rounds that were kept, and the two disks.
+// is switched; then a fourth is appended on the other disk. The number of steps, the rounds that were kept, and the two disks.
 fn rewritten(
     alloc: Global,
     fuse: (u64, u64),
@@ -50,6 +50,9 @@ fn rewritten(
             Ok(Progress::Working) => steps = step + 1,
             Ok(Progress::Switched) => {
                 steps = step + 1;
+                if record.append(alloc, &[Fact::Used { round: 4 }]).is_ok() {
+                    kept = 4;
+                }
                 break;
             }
             Err(_) => break,
@@ -63,7 +66,7 @@ fn rewritten(
 fn a_rewrite_keeps_the_force(rt: HostRuntime) -> Result<(), Fail> {
     let alloc = rt.alloc();
     let far = (1000, 1000);
-    for (third, steps, first, second) in [(9, 4, 46, 36), (3, 5, 56, 46)] {
+    for (third, steps, first, second) in [(9, 4, 46, 46), (3, 5, 56, 56)] {
         let Some((made, kept, a, b)) = rewritten(alloc, far, third)? else {
             panic!(&rt; "not opened");
         };
@@ -93,16 +96,26 @@ fn stopped(alloc: Global, fuse: (u64, u64), torn: (Torn, Torn)) -> Result<(u32, 
 
 const TORN: [Torn; 4] = [Torn::Old, Torn::New, Torn::Byte(0), Torn::Byte(0xff)];
 
+// Whether a crash at these fuses keeps what was kept, and no more than the round of an append that failed, whatever is left of the
+// second disk.
+fn keeps_the_force(alloc: Global, fuse: (u64, u64), first: Torn) -> Result<bool, Fail> {
+    let mut all = true;
+    for second in TORN {
+        let (kept, found) = stopped(alloc, fuse, (first, second))?;
+        let may_be_more = fuse.0 < fuse.1 || kept == 3;
+        all &= found == kept || (may_be_more && found == kept.saturating_add(1));
+    }
+    Ok(all)
+}
+
 #[test]
 fn a_crash_in_a_rewrite_keeps_the_force(rt: HostRuntime) -> Result<(), Fail> {
     let alloc = rt.alloc();
-    for k in 0..20 {
+    for k in 0..24 {
         for torn in TORN {
-            for fuse in [(k, 1000), (1000, k)] {
-                let (kept, found) = stopped(alloc, fuse, (torn, torn))?;
-                let is_kept = found == kept || (fuse.0 == k && found == kept.saturating_add(1));
-                assert!(rt; is_kept);
-            }
+            let on_first = keeps_the_force(alloc, (k, 1000), torn)?;
+            let on_second = keeps_the_force(alloc, (1000, k), torn)?;
+            assert!(rt; on_first && on_second, "{k}");
         }
     }
     Ok(())

@@ -41,7 +41,7 @@ impl Codec for Word {
         }))
     }
 
-    fn one_spelling() {}
+    fn one_encoding() {}
 }
 
 const HEAD_A: [u8; 26] = [
@@ -230,7 +230,7 @@ fn stopped(alloc: Global, calls: u64, torn: Torn) -> Result<(usize, Option<Fault
     let answer = record.append(alloc, &[Fact::Used { round: 1 }]);
     let again = record.append(alloc, &[Fact::Used { round: 2 }]);
     let (a, b) = record.close();
-    let Ok(record) = Record::<MemDisk, Word>::open(alloc, a.crash(torn)?, b) else {
+    let Ok(record) = Record::<MemDisk, Word>::open(alloc, a.crash(torn)?, b.crash(torn)?) else {
         return Ok((98, None));
     };
     let fault = match (answer, again) {
@@ -301,15 +301,26 @@ fn is_named(fault: Option<Fault>) -> bool {
     )
 }
 
-// Whether opening answers facts or a fault that names the image, with each of these octets at a place.
-fn answers(alloc: Global, whole: &[u8], b: &[u8], at: usize) -> Result<bool, AllocError> {
+// Whether opening answers facts or a fault that names the image, with each of these octets at a place of one of the disks.
+fn answers(
+    alloc: Global,
+    disks: (&[u8], &[u8]),
+    second: bool,
+    at: usize,
+) -> Result<bool, AllocError> {
+    let (a, b) = disks;
     let mut all = true;
     for octet in [0, 0x7f, 0x80, 0xff] {
-        let mut image = whole.to_vec(alloc)?;
+        let mut image = if second { b } else { a }.to_vec(alloc)?;
         if let Some(place) = image.get_mut(at) {
             *place = octet;
         }
-        all &= is_named(fault_of(alloc, &image, b)?);
+        let fault = if second {
+            fault_of(alloc, a, &image)?
+        } else {
+            fault_of(alloc, &image, b)?
+        };
+        all &= is_named(fault);
     }
     Ok(all)
 }
@@ -325,7 +336,17 @@ fn any_octet_may_be_another_and_any_end_missing(rt: HostRuntime) -> Result<(), F
     for at in 0..whole.len() {
         let cut = fault_of(alloc, &whole[..at], shut)?;
         let is_refused = cut.is_some() && is_named(cut);
-        assert!(rt; is_refused && answers(alloc, whole, shut, at)?, "{at}");
+        assert!(rt;
+            is_refused && answers(alloc, (whole, shut), false, at)?,
+            "{at}"
+        );
+    }
+    for at in 0..shut.len() {
+        let cut = fault_of(alloc, whole, &shut[..at])?;
+        assert!(rt;
+            is_named(cut) && answers(alloc, (whole, shut), true, at)?,
+            "{at}"
+        );
     }
     Ok(())
 }

@@ -2,7 +2,7 @@
 ghost use Rattle.std.specs.Prelude.{◌≡◌, ◌≤◌, ◌+◌, ◌^◌, ◌<◌, ◌++◌, length, IfOk, OnOk, cond, [], ◌∷◌, vec_len, vec_capacity};
 ghost use Rattle.std.specs.Int.{to_be_bytes, w32};
 ghost use Rattle.ts_journal.specs.Images.{entry};
-ghost use Rattle.ts_record.specs.Facts.{blob, spelling, spellings};
+ghost use Rattle.ts_record.specs.Facts.{blob, encoding, encodings};
 
 use crate::Codec;
 use std::alloc::{AllocError, Global};
@@ -60,7 +60,7 @@ pub(crate) fn copies_if<C: Codec>(
     }
 }
 
-// Moves facts behind others, for which there is room.
+// Moves facts after others, for which there is room.
 pub(crate) fn move_behind<C: Codec>(facts: &mut Vec<Fact<C>>, more: &mut Vec<Fact<C>>)
     requires { vec_len facts.old + vec_len more.old ≤ vec_capacity facts.old }
     ensures { facts.new.items ≡ facts.old.items ++ more.old.items }
@@ -95,13 +95,13 @@ fn push_kind(out: &mut Vec<u8>, kind: u8, number: u32) -> Result<(), AllocError>
     Ok(())
 }
 
-fn push_spelling<C: Codec>(
+fn push_encoding<C: Codec>(
     alloc: Global,
     out: &mut Vec<u8>,
     fact: &Fact<C>,
 ) -> Result<(), AllocError>
-    requires { length (spelling C.octets fact.now) < 2 ^ 32 }
-    ensures { OnOk result (out.new.items ≡ out.old.items ++ spelling C.octets fact.now) }
+    requires { length (encoding C.octets fact.now) < 2 ^ 32 }
+    ensures { OnOk result (out.new.items ≡ out.old.items ++ encoding C.octets fact.now) }
 {
     match fact {
         Fact::Used { round } => push_kind(out, 1, *round)?,
@@ -126,18 +126,18 @@ fn push_spelling<C: Codec>(
     Ok(())
 }
 
-fn spelled<C: Codec>(alloc: Global, facts: &[Fact<C>]) -> Result<Vec<u8>, AllocError>
-    requires { length (spellings C.octets facts.now) < 2 ^ 32 }
-    ensures { IfOk result (λ octets. octets.items ≡ spellings C.octets facts.now) }
+fn encoded<C: Codec>(alloc: Global, facts: &[Fact<C>]) -> Result<Vec<u8>, AllocError>
+    requires { length (encodings C.octets facts.now) < 2 ^ 32 }
+    ensures { IfOk result (λ octets. octets.items ≡ encodings C.octets facts.now) }
 {
     let mut octets = Vec::new(alloc);
     for fact in facts {
-        push_spelling(alloc, &mut octets, fact)?;
+        push_encoding(alloc, &mut octets, fact)?;
     }
     Ok(octets)
 }
 
-// What stands behind the gate of a body.
+// What follows the gate of a body.
 fn framed(alloc: Global, body: &[u8]) -> Result<Vec<u8>, AllocError>
     requires { length body.now ≤ 4194500 }
     ensures { IfOk result (λ octets. octets.items ≡ entry body.now) }
@@ -148,23 +148,23 @@ fn framed(alloc: Global, body: &[u8]) -> Result<Vec<u8>, AllocError>
     Ok(out)
 }
 
-// What stands behind the gate of a body of these facts.
+// What follows the gate of a body of these facts.
 pub(crate) fn entry_of<C: Codec>(alloc: Global, facts: &[Fact<C>]) -> Result<Vec<u8>, AllocError>
-    requires { length (spellings C.octets facts.now) ≤ 4194500 }
-    ensures { IfOk result (λ octets. octets.items ≡ entry (spellings C.octets facts.now)) }
+    requires { length (encodings C.octets facts.now) ≤ 4194500 }
+    ensures { IfOk result (λ octets. octets.items ≡ entry (encodings C.octets facts.now)) }
 {
-    let body = spelled(alloc, facts)?;
+    let body = encoded(alloc, facts)?;
     let out = framed(alloc, &body)?;
     Ok(out)
 }
 
-// The same of one fact.
+// The same for one fact.
 pub(crate) fn entry_of_one<C: Codec>(alloc: Global, fact: &Fact<C>) -> Result<Vec<u8>, AllocError>
-    requires { length (spelling C.octets fact.now) ≤ 4194500 }
-    ensures { IfOk result (λ octets. octets.items ≡ entry (spelling C.octets fact.now)) }
+    requires { length (encoding C.octets fact.now) ≤ 4194500 }
+    ensures { IfOk result (λ octets. octets.items ≡ entry (encoding C.octets fact.now)) }
 {
     let mut body = Vec::new(alloc);
-    push_spelling(alloc, &mut body, fact)?;
+    push_encoding(alloc, &mut body, fact)?;
     let out = framed(alloc, &body)?;
     Ok(out)
 }

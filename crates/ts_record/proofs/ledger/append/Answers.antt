@@ -1,5 +1,5 @@
 use Rattle.std.proofs.Common.{rules, ◌≡◌, ◌++◌, ◌∷◌, [], ◌∙◌, ap, refl, sym, subst}
-use Rattle.ts_record.specs.Facts.{spellings, AreFacts}
+use Rattle.ts_record.specs.Facts.{encodings, AreFacts}
 use Rattle.ts_record.specs.Rewrite.{with_more, rewrite_at, IsUnderWay}
 use Rattle.ts_record.proofs.Ledgers.{rest_moves, moves_facts, keeps_as, more_under_way, is_facts_body}
 use Rattle.ts_record.proofs.Walk.{are_more}
@@ -43,10 +43,10 @@ returns-clause-keeps g c =
     let body = is_facts_body g.D.Disk.state g.D.Disk.lawful octets more c.requires.some c.requires.short in
     let later : c.move_behind.new.facts.items ≡ old.facts.items ++ more = c.move_behind.ensures ∙ ap (λ l. l ++ c.in_ok-more.more.items) c.reserve.ensures.items ∙ ap (λ l. old.facts.items ++ l) c.in_ok-more.ensures in
     let kept : rewrite_at c.append.new.self.stage c.move_behind-2.new.facts.items old.done ≡ with_more (rewrite_at old.journal.stage old.copy.items old.done) more = search rules in
-    keeps_as g.D.Disk.state g.D.Disk.lawful octets c.append.new.self c.move_behind.new.facts.items (rewrite_at c.append.new.self.stage c.move_behind-2.new.facts.items old.done) (k.0 ++ spellings octets more ∷ []) k.1
+    keeps_as g.D.Disk.state g.D.Disk.lawful octets c.append.new.self c.move_behind.new.facts.items (rewrite_at c.append.new.self.stage c.move_behind-2.new.facts.items old.done) (k.0 ++ encodings octets more ∷ []) k.1
     (with_more (rewrite_at old.journal.stage old.copy.items old.done) more)
-    (c.in_ok-append.ensures.holds k.0 k.1 (spellings octets more) body (c.deref.ensures.value ∙ c.in_ok-octets.ensures) k.2)
-    (subst (AreFacts octets (k.0 ++ spellings octets more ∷ [])) (sym later) (are_more octets k.0 old.facts.items more (spellings octets more) k.3 c.requires.fit refl))
+    (c.in_ok-append.ensures.holds k.0 k.1 (encodings octets more) body (c.deref.ensures.value ∙ c.in_ok-octets.ensures) k.2)
+    (subst (AreFacts octets (k.0 ++ encodings octets more ∷ [])) (sym later) (are_more octets k.0 old.facts.items more (encodings octets more) k.3 c.requires.fit refl))
     kept
     (subst (λ fs. IsUnderWay octets fs k.1 (with_more (rewrite_at old.journal.stage old.copy.items old.done) more)) (sym later)
     (more_under_way g.D.Disk.state g.D.Disk.lawful octets old.facts.items more k.1 (rewrite_at old.journal.stage old.copy.items old.done) c.requires.fit c.requires.short k.4))

@@ -4,4 +4,4 @@ use Rattle.ts_record.proofs.reading.took_at.Goals as goal
 
 pub returns-in-None : goal.returns-in-None
 returns-in-None g c =
-    no_took g.C.Codec.octets c.one_spelling.ensures c.args.fields.now _ (take_rest c.args.fields.now 4) (rw c.in-None.is at c.in_ok-ballot.ensures)
+    no_took g.C.Codec.octets c.one_encoding.ensures c.args.fields.now _ (take_rest c.args.fields.now 4) (rw c.in-None.is at c.in_ok-ballot.ensures)

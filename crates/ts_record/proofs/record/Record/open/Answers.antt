@@ -6,13 +6,13 @@ pub returns-then-found-clause-only : goal.returns-then-found-clause-only
 returns-then-found-clause-only g c = λ facts opens.
     let state = g.D.Disk.state in
     let found = c.in-Ok.found in
-    c.record_of.ensures.facts ∙ read_all g.C.Codec.octets c.one_spelling.ensures found.choice (state c.args.a).read (state c.args.b).read found.contents.facts.items facts found.contents.end c.in-Ok.ensures.chosen c.in-Ok.ensures.read opens
+    c.record_of.ensures.facts ∙ read_all g.C.Codec.octets c.one_encoding.ensures found.choice (state c.args.a).read (state c.args.b).read found.contents.facts.items facts found.contents.end c.in-Ok.ensures.chosen c.in-Ok.ensures.read opens
 
 pub returns-else-found-clause-only : goal.returns-else-found-clause-only
 returns-else-found-clause-only g c = λ facts opens.
     let state = g.D.Disk.state in
     let found = c.in-Ok.found in
-    c.record_of-else-found.ensures.facts ∙ read_all g.C.Codec.octets c.one_spelling.ensures found.choice (state c.args.a).read (state c.args.b).read found.contents.facts.items facts found.contents.end c.in-Ok.ensures.chosen c.in-Ok.ensures.read opens
+    c.record_of-else-found.ensures.facts ∙ read_all g.C.Codec.octets c.one_encoding.ensures found.choice (state c.args.a).read (state c.args.b).read found.contents.facts.items facts found.contents.end c.in-Ok.ensures.chosen c.in-Ok.ensures.read opens
 
 pub returns-in-Err-clause-only : goal.returns-in-Err-clause-only
 returns-in-Err-clause-only g c = λ facts opens.
