@@ -13,7 +13,7 @@ use Rattle.ts_lab.specs.Scanner.{IsScanOf}
 use Rattle.ts_script.specs.Wrong.{text_of, status_of}
 use Rattle.ts_lab.specs.Script.{lines_of, Run}
 
--- a script was answered up to its first wrong line, behind what a writer held, with the answers of the lines before it
+-- a script was answered up to its first wrong line, after what a writer held, with the answers of the lines before it
 abbrev pub IsRead : List ℕ → Option (List ℕ) → Option (List ℕ) → Option WrongLine → Type 0
 IsRead script before after wrong = (text : List ℕ) × Run 1 [] (lines_of script) text wrong × Appends before after text
 

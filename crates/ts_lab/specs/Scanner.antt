@@ -10,12 +10,12 @@ use Rattle.ts_script.specs.Known.{Entry, known_in}
 use Rattle.ts_lab.specs.Says.{Says, Refuses}
 use Rattle.ts_lab.specs.Script.{lines_of, Run}
 
--- lines of which the first has begun with these octets are answered as a run may answer them, behind what a writer held
+-- lines of which the first has begun with these octets are answered as a run may answer them, after what a writer held
 unfoldable pub Ends : ℕ → List Entry → List ℕ → Option (List ℕ) → List ℕ → Option (List ℕ) → Option WrongLine → Type 0
 Ends n known line before rest whole wrong =
     (text : List ℕ) × Run n known (all_onto_first line (lines_of rest)) text wrong × Appends before whole text
 
--- the same of a scanner, if these octets are the rest of the script
+-- the same for a scanner, if these octets are the rest of the script
 abbrev pub Owes : Scanner → Option (List ℕ) → List ℕ → Option (List ℕ) → Option WrongLine → Type 0
 Owes s before rest whole wrong = Ends s.number (known_in s.known) s.line.items before rest whole wrong
 

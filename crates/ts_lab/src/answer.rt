@@ -8,7 +8,7 @@ use crate::network::Network;
 use crate::node_answer::answer_nodes;
 use std::alloc::Global;
 use ts_script::words::{SPACE, first_piece};
-use ts_script::{COMMENT, LineFault, Named, answer_cert, answer_check, answer_crl};
+use ts_script::{COMMENT, LineFault, Symbols, answer_cert, answer_check, answer_crl};
 
 /// The text that answers a line, none for an empty one and a comment.
 ///
@@ -17,7 +17,7 @@ use ts_script::{COMMENT, LineFault, Named, answer_cert, answer_check, answer_crl
 /// Why the line is refused.
 pub(crate) fn answer_line(
     alloc: Global,
-    known: &mut Named,
+    known: &mut Symbols,
     nodes: &mut Option<Network>,
     line: &[u8],
 ) -> Result<String, LineFault>

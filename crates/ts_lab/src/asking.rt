@@ -10,7 +10,7 @@ use std::alloc::{AllocError, Global};
 use ts_node::{Input, Reply};
 use ts_question::{Flags, OctetStrings, Oids, Question, Reply as Words, Terms};
 use ts_script::words::{SPACE, first_piece};
-use ts_script::{LineFault, Named, Options};
+use ts_script::{LineFault, Options, Symbols};
 use ts_time::Moment;
 
 /// The first word of the answer to a question.
@@ -40,10 +40,10 @@ fn terms_of(alloc: Global, moment: Moment, options: Options) -> Terms {
     }
 }
 
-/// Puts copies of the certificates of these names behind others. A name that has none is refused as `Name`.
+/// Puts copies of the certificates of these names after others. A name that has none is refused as `Name`.
 fn push_named(
     alloc: Global,
-    known: &Named,
+    known: &Symbols,
     names: Option<&[u8]>,
     certificates: &mut Vec<Vec<u8>>,
 ) -> Result<(), LineFault> {
@@ -64,7 +64,7 @@ fn push_named(
 /// `Name` for a name that has no certificate; `Limit` outside the limits of a question; `Memory`.
 pub(crate) fn question_of(
     alloc: Global,
-    known: &Named,
+    known: &Symbols,
     moment: Moment,
     options: Options,
     asked: &Asked<'_>,
@@ -103,7 +103,7 @@ fn name_at<'a>(asked: &Asked<'a>, place: u8) -> Option<&'a [u8]> {
     Some(name)
 }
 
-/// The names at places, each behind a space.
+/// The names at places, each after a space.
 fn names_text(alloc: Global, asked: &Asked<'_>, places: &[u8]) -> Result<String, AllocError> {
     let mut text = String::new(alloc);
     for place in places {
@@ -117,7 +117,7 @@ fn names_text(alloc: Global, asked: &Asked<'_>, places: &[u8]) -> Result<String,
 /// The words of an answer, with the names that the script has.
 fn words_of(
     alloc: Global,
-    known: &Named,
+    known: &Symbols,
     asked: &Asked<'_>,
     reply: &Words,
 ) -> Result<String, AllocError> {
@@ -142,7 +142,7 @@ fn words_of(
 /// The answer to a question: its k, and the words of the reply.
 pub(crate) fn answer_text(
     alloc: Global,
-    known: &Named,
+    known: &Symbols,
     asked: &Asked<'_>,
     reply: &NodeReply,
 ) -> Result<String, AllocError> {

@@ -3,7 +3,7 @@
 use crate::node_line::Wanted;
 use sha2::{Digest, Sha256};
 use std::alloc::Global;
-use ts_script::{LineFault, Named};
+use ts_script::{LineFault, Symbols};
 use ts_store::{Command, Purposes};
 
 /// The id of a command: 15 octets of 0, and this one.
@@ -19,7 +19,7 @@ pub(crate) fn digest_of(octets: &[u8]) -> [u8; 32] {
 }
 
 /// The octets of the certificate of a name.
-pub(crate) fn certificate<'a>(known: &'a Named, name: &[u8]) -> Result<&'a [u8], LineFault> {
+pub(crate) fn certificate<'a>(known: &'a Symbols, name: &[u8]) -> Result<&'a [u8], LineFault> {
     match known.find_cert(name) {
         Some(one) => Ok(&one.octets),
         None => Err(LineFault::Name),
@@ -27,8 +27,8 @@ pub(crate) fn certificate<'a>(known: &'a Named, name: &[u8]) -> Result<&'a [u8],
 }
 
 /// The octets of the list of a name.
-fn list<'a>(known: &'a Named, name: &[u8]) -> Result<&'a [u8], LineFault> {
-    match known.find_list(name) {
+fn list<'a>(known: &'a Symbols, name: &[u8]) -> Result<&'a [u8], LineFault> {
+    match known.find_crl(name) {
         Some(octets) => Ok(octets),
         None => Err(LineFault::Name),
     }
@@ -38,7 +38,7 @@ fn list<'a>(known: &'a Named, name: &[u8]) -> Result<&'a [u8], LineFault> {
 /// have as `Limit`.
 pub(crate) fn command_of(
     alloc: Global,
-    known: &Named,
+    known: &Symbols,
     last: u8,
     wanted: Wanted<'_>,
 ) -> Result<Command, LineFault> {

@@ -1,4 +1,4 @@
-//! Laws about what a script says. Each stands on a function that does nothing.
+//! Laws about what a script says. Each is the contract of a function that does nothing.
 
 ghost use Rattle.std.specs.Prelude.{◌≡◌, ◌≢◌, ℕ, List};
 ghost use Rattle.ts_script.specs.declared.script.LineFault.{LineFault};

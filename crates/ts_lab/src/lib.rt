@@ -19,14 +19,12 @@
 mod answer;
 mod asking;
 mod commands;
+#[cfg(test)]
+mod crl_count_tests;
+#[cfg(test)]
+mod crl_tests;
 mod cursor;
-#[cfg(test)]
-mod example_tests;
 pub mod laws;
-#[cfg(test)]
-mod list_count_tests;
-#[cfg(test)]
-mod list_tests;
 mod member;
 mod network;
 mod node_answer;

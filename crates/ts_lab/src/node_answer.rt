@@ -15,7 +15,7 @@ use std::alloc::Global;
 use ts_node::{Input, Reply};
 use ts_record::Progress;
 use ts_script::words::{SPACE, first_piece, number_of};
-use ts_script::{LineFault, Named, Options};
+use ts_script::{LineFault, Options, Symbols};
 use ts_time::Moment;
 
 /// Answers a line about nodes, which there may not be yet.
@@ -25,7 +25,7 @@ use ts_time::Moment;
 /// Why the line is refused.
 pub(crate) fn answer_nodes(
     alloc: Global,
-    known: &Named,
+    known: &Symbols,
     nodes: &mut Option<Network>,
     line: &[u8],
 ) -> Result<String, LineFault>
@@ -51,7 +51,7 @@ pub(crate) fn answer_nodes(
     }
 }
 
-/// Answers a `nodes` line, which may stand once.
+/// Answers a `nodes` line, which may occur once.
 fn begin(alloc: Global, nodes: &mut Option<Network>, count: u32) -> Result<String, Trouble> {
     if nodes.is_some() {
         return Err(Trouble::Wrong(LineFault::Form));
@@ -63,7 +63,7 @@ fn begin(alloc: Global, nodes: &mut Option<Network>, count: u32) -> Result<Strin
 /// Answers a line where there are nodes.
 fn answer(
     alloc: Global,
-    known: &Named,
+    known: &Symbols,
     network: &mut Network,
     line: NodeLine<'_>,
 ) -> Result<String, Trouble> {
@@ -100,7 +100,7 @@ fn answer(
 /// Answers a `submit` line.
 fn submit(
     alloc: Global,
-    known: &Named,
+    known: &Symbols,
     network: &mut Network,
     node: u32,
     id: u8,
@@ -147,7 +147,7 @@ fn outcome(alloc: Global, network: &mut Network, node: u32, id: u8) -> Result<St
 /// Answers an `ask` or a `search` line.
 fn ask(
     alloc: Global,
-    known: &Named,
+    known: &Symbols,
     network: &mut Network,
     node: u32,
     moment: Moment,

@@ -100,7 +100,7 @@ fn read_short<'a>(word: &[u8], words: &mut Cursor<'a>) -> Result<NodeLine<'a>, L
     Ok(line)
 }
 
-/// A `submit` line behind its first word.
+/// A `submit` line after its first word.
 fn read_submit<'a>(alloc: Global, words: &mut Cursor<'a>) -> Result<NodeLine<'a>, LineFault> {
     let node = words.number()?;
     let id = words.id()?;
@@ -154,7 +154,7 @@ fn place_of(oids: &[Oid], oid: &Oid) -> usize
     oids.len()
 }
 
-/// A `deliver` line behind its first word.
+/// A `deliver` line after its first word.
 fn read_deliver<'a>(words: &mut Cursor<'a>) -> Result<NodeLine<'a>, LineFault> {
     let Some(numbers) = words.left() else {
         return Err(LineFault::Form);
@@ -168,7 +168,7 @@ fn read_deliver<'a>(words: &mut Cursor<'a>) -> Result<NodeLine<'a>, LineFault> {
     Ok(NodeLine::Deliver(numbers))
 }
 
-/// An `ask` line behind its first word.
+/// An `ask` line after its first word.
 fn read_ask<'a>(alloc: Global, words: &mut Cursor<'a>) -> Result<NodeLine<'a>, LineFault> {
     let node = words.number()?;
     let anchor = words.name()?;
@@ -189,7 +189,7 @@ fn read_ask<'a>(alloc: Global, words: &mut Cursor<'a>) -> Result<NodeLine<'a>, L
     })
 }
 
-/// A `search` line behind its first word.
+/// A `search` line after its first word.
 fn read_search<'a>(alloc: Global, words: &mut Cursor<'a>) -> Result<NodeLine<'a>, LineFault> {
     let node = words.number()?;
     words.keyword(b"at")?;

@@ -24,7 +24,7 @@ crl D0 issuer CN=R this 20260501000000Z next 20260701000000Z signer 61 base=1
 /// How many lines that makes.
 const MADE_LINES: usize = 15;
 
-/// Lines behind those, with what they print.
+/// Lines after those, with what they print.
 const AGREED: [(&str, &str); 7] = [
     // An outcome before the command, and after it.
     (
@@ -72,7 +72,7 @@ const AGREED: [(&str, &str); 7] = [
     ),
 ];
 
-/// Lists that are loaded behind the anchor R, with the options of a question on the chain L, and its answer.
+/// Lists that are loaded after the anchor R, with the options of a question on the chain L, and its answer.
 const STATUSES: [(&[&str], &str, &str); 14] = [
     (&["X", "Y"], " hard", "ask 3 invalid 1 Revoked 1"),
     (&["Y", "X"], " hard", "ask 3 invalid 1 Revoked 1"),
@@ -95,7 +95,7 @@ const BEGUN: &str = "nodes 1\nsubmit 1 01 add R\nsettle\n";
 
 const BEGUN_TEXT: &str = "submit 1 started 1 17\nsettle 4\n";
 
-/// Lines behind those, with what they print.
+/// Lines after those, with what they print.
 const ASKED: [(&str, &str); 4] = [
     (
         "ask 1 R at 20260601000000Z chain L\nask 1 R at 20260601000000Z k=0 chain L\nask 1 R at 20260601000000Z k=2 chain L\n\
@@ -118,7 +118,7 @@ const ASKED: [(&str, &str); 4] = [
     ),
 ];
 
-/// Lines behind those that make certificates, with the word for the last one.
+/// Lines after those that make certificates, with the word for the last one.
 const REFUSED: [(&str, &str); 16] = [
     ("settle", "form"),
     ("show", "form"),
@@ -151,7 +151,7 @@ cert L 138
 cert S 138
 ";
 
-/// Whether lines behind those that make certificates and lists print this, and end with this status.
+/// Whether lines after those that make certificates and lists print this, and end with this status.
 fn prints(alloc: Global, parts: &[&str], text: &str, status: u8) -> Result<bool, AllocError> {
     let mut script = String::from_str(alloc, MADE)?;
     for part in parts {
@@ -162,7 +162,7 @@ fn prints(alloc: Global, parts: &[&str], text: &str, status: u8) -> Result<bool,
     Ok(ended == status && is_behind_made(&written, text.as_bytes()))
 }
 
-/// Whether the text behind what the lines that make certificates and lists print is this.
+/// Whether the text after what the lines that make certificates and lists print is this.
 fn is_behind_made(written: &[u8], text: &[u8]) -> bool {
     let mut rest = written;
     for _ in 0..MADE_LINES {

@@ -329,7 +329,7 @@ const WRONG: [(&str, &str); 8] = [
     ),
 ];
 
-/// Whether the lab ends at a line behind the root's with this text.
+/// Whether the lab ends at a line after the root's with this text.
 fn refuses(alloc: Global, line: &str, text: &str) -> Option<bool> {
     let mut script = String::from_str(
         alloc,

@@ -10,7 +10,7 @@ use crate::network::Network;
 use std::alloc::Global;
 use std::io;
 use std::io::Write;
-use ts_script::{LINE_FEED, LineFault, Named, WrongLine};
+use ts_script::{LINE_FEED, LineFault, Symbols, WrongLine};
 
 /// Where a script that comes in pieces has been answered up to.
 #[derive(Drop)]
@@ -20,7 +20,7 @@ pub(crate) struct Scanner {
     /// What has come of that line.
     line: Vec<u8>,
     /// What the lines before it have named.
-    known: Named,
+    known: Symbols,
     /// The nodes that they have begun and changed.
     nodes: Option<Network>,
 }
@@ -44,7 +44,7 @@ impl Scanner {
         Scanner {
             number: 1,
             line: Vec::new(alloc),
-            known: Named::new(alloc),
+            known: Symbols::new(alloc),
             nodes: None,
         }
     }

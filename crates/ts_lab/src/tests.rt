@@ -153,7 +153,7 @@ cert S serial 2 issuer CN=S subject CN=L from 20260101000000Z to 20270101000000Z
 /// What is printed for them.
 const NAMED_TEXT: &str = "cert R 138\ncert L 138\ncert F 138\ncert S 138\n";
 
-/// A line behind them, and what is printed for it.
+/// A line after them, and what is printed for it.
 const LINES: [(&str, &str); 42] = [
     ("check R at 20260601000000Z chain L", "check valid -"),
     ("check R at 20260101000000Z chain L", "check valid -"),
@@ -259,7 +259,7 @@ const LINES: [(&str, &str); 42] = [
     ),
 ];
 
-/// Whether the lab answers a line behind the certificates so, and refuses the one behind it if that is read.
+/// Whether the lab answers a line after the certificates so, and refuses the one after it if that is read.
 fn answers_line(alloc: Global, line: &str, answer: &str) -> Result<bool, AllocError> {
     let script = format!(in alloc; "{NAMED}{line}\ncheck\n")?;
     let is_wrong = answer.starts_with("line");

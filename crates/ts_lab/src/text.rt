@@ -171,7 +171,7 @@ pub fn not_yet_text(alloc: Global, prefix: u32) -> Result<String, AllocError> {
     format!(in alloc; "NotYet {prefix}")
 }
 
-/// Numbers, each behind a space.
+/// Numbers, each after a space.
 fn numbers_text(alloc: Global, numbers: &[u8]) -> Result<String, AllocError> {
     let mut text = String::new(alloc);
     for number in numbers {

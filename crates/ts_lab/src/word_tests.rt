@@ -1,4 +1,4 @@
-//! What is said of words that say extensions: one line for each form that is refused.
+//! What words that describe extensions answer: one line for each form that is refused.
 
 use crate::tests::{answers, answers_words};
 use std::alloc::{AllocError, Global};
@@ -88,7 +88,7 @@ const REFUSED: [&[u8]; 78] = [
     b" map=1.2.3>1",
     b" map=1.2.3>>1.2.4",
     b" map=1.2.3>1.2.4>1.2.5",
-    // Words that stand once.
+    // Words that occur once.
     b" ca ca",
     b" ca usage=5 ca=0",
     b" require=0 require=0",
@@ -113,7 +113,7 @@ fn answers_again(alloc: Global, words: &[u8], text: &[u8]) -> Result<bool, Alloc
     answers_words(alloc, lines.as_slice(), words, 2, text)
 }
 
-/// Words of a line whose name is taken, and what answers it behind the line that took the name.
+/// Words of a line whose name is taken, and what answers it after the line that took the name.
 const AGAIN: [(&[u8], &[u8]); 5] = [
     (b"", b"cert A 138\nline 2: name\n"),
     (b" ca", b"cert A 138\nline 2: name\n"),

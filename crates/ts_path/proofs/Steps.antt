@@ -55,7 +55,7 @@ pub begin : (x : Site) → MeetsBelow 1 x
 unfolding MeetsBelow
 begin x k low = absurd (none_between 0 (number_of k) (positive k) low)
 
--- a condition that is met, behind those before it
+-- a condition that is met, after those before it
 pub next : (x : Site) (m : Condition) → MeetsBelow (number_of m) x → Meets m x → MeetsBelow (suc (number_of m)) x
 unfolding MeetsBelow
 next x m before is k low =

@@ -55,7 +55,7 @@ pub data Condition : Type 0 where
 abbrev pub is_trusted : TrustAnchor → Option (List ℕ) → State → Bool
 is_trusted anchor wanted s = not (s.passed == 0) || allow wanted anchor.purposes
 
--- the path may go on behind a certificate: it is self-issued, or max_path_length is above 0
+-- the path may go on after a certificate: it is self-issued, or max_path_length is above 0
 abbrev pub may_go_on : State → Certificate → Bool
 may_go_on s c = is_self_issued c || nat_lt 0 s.counters.max_path_length
 

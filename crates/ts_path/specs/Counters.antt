@@ -12,7 +12,7 @@ abbrev pub all_counted : List Certificate → ℕ
 all_counted [] = 0
 all_counted (c ∷ cs) = counted c + all_counted cs
 
--- a number before others, if there is one: what a bound leaves behind some certificates
+-- a number before others, if there is one: what a bound leaves after some certificates
 abbrev pub with_bound : Option ℕ → ℕ → List ℕ → List ℕ
 with_bound None passed others = others
 with_bound (Some bound) passed others = (bound - passed) ∷ others

@@ -6,7 +6,7 @@ use Rattle.ts_der.specs.Dotted.{dotted}
 use Rattle.ts_path.specs.declared.reason.Reason.{Reason}
 use Rattle.ts_path.specs.declared.reason.Reason.TheVariants.{AnchorPurpose, Signature, TooEarly, Expired, Revoked, Undetermined, IssuerName, UnsupportedConstraint, NotPermitted, Excluded, PolicyRequired, MapsAny, NotCa, PathLength, KeyUsage, CriticalExtension, FinalPolicy, Purpose}
 
--- the name of the reason, and behind a space the number of a revocation's reason or the object identifier of an extension
+-- the name of the reason, and after a space the number of a revocation's reason or the object identifier of an extension
 abbrev pub reason_text : Reason → List ℕ
 reason_text AnchorPurpose = codes "AnchorPurpose"
 reason_text Signature = codes "Signature"

@@ -1,4 +1,4 @@
--- The state variables of path validation (RFC 5280 6.1.2) at a certificate, each said of the certificates above it.
+-- The state variables of path validation (RFC 5280 6.1.2) at a certificate, each as a statement about the certificates above it.
 use Rattle.std.specs.Prelude.{ℕ, suc, ◌==◌, Bool, true, false, List, [], ◌∷◌, ◌++◌, length, Option, Some, None, if◌then◌else◌}
 use Rattle.ts_name.specs.Canon.{Attr}
 use Rattle.ts_sig.specs.Key.{Key}
@@ -17,7 +17,7 @@ use Rattle.ts_path.specs.Extensions.{path_length_of, explicit_policy_of, policy_
 use Rattle.ts_path.specs.WorkingKey.{working_key}
 
 pub record State : Type 0 where
-  -- how many certificates stand above
+  -- how many certificates are above
   pub passed : ℕ
   -- working_issuer_name (j)
   pub name : List (List Attr)

@@ -48,7 +48,7 @@ site_of q l = record {
 unfoldable pub Holds : Condition → Question → ℕ → Type 0
 Holds k q i = (l : Link) → Stands q.chain i l → Meets k (site_of q l)
 
--- a condition at a position comes before another: it stands at a lesser position, or has a lesser number at the same
+-- a condition at a position comes before another: it is at a lesser position, or has a lesser number at the same
 abbrev pub Precedes : ℕ → Condition → ℕ → Condition → Type 0
 Precedes i k j m = (i < j) ⊎ ((i ≡ j) × (number_of k < number_of m))
 

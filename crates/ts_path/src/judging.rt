@@ -63,7 +63,7 @@ impl<'a> State<'a> {
         self.passed != 0 || is_trusted_for(inputs.purpose, anchor.purposes)
     }
 
-    /// Whether the path may go on behind the certificate.
+    /// Whether the path may go on after the certificate.
     fn may_go_on(&self, cert: &Cert<'a>) -> bool
         ensures { result ≡ may_go_on_of self.now (cert_in cert.now) }
     {

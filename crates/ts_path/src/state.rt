@@ -23,7 +23,7 @@ use ts_sig::WorkingKey;
 /// The state variables at a certificate (RFC 5280 6.1.2), without the valid policy tree.
 #[derive(Drop)]
 pub(crate) struct State<'a> {
-    /// How many certificates stand above.
+    /// How many certificates are above.
     pub(crate) passed: u8,
     /// The subject of the certificate before, or of the anchor.
     pub(crate) name: Name<'a>,

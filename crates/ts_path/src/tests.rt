@@ -50,25 +50,21 @@ const FIRST: i64 = 1_767_225_600;
 /// 2027-01-01, its last.
 const LAST: i64 = 1_798_761_600;
 
+/// The verdict on one certificate under a root, both in DER, at a moment. `None`: octets that are no certificate, or want of memory.
+fn verdict<'a>(alloc: Global, root: &'a [u8], leaf: &'a [u8], at: Moment) -> Option<Verdict<'a>> {
+    let anchor = Anchor::of(&Cert::read(root).ok()?);
+    let chain = [Cert::read(leaf).ok()?];
+    let inputs = Inputs::at(at);
+    validate(alloc, &anchor, &chain, &inputs, &Crls::none(), &DigestCheck).ok()
+}
+
 /// The position of the certificate and the number of the reason, none where a chain of one certificate is valid. The outer `None` is
 /// want of memory, or that octets are no certificate.
 fn judge(alloc: Global, anchor: &[u8], cert: &[u8], moment: i64) -> Option<Option<(u8, u8)>> {
-    let root = Cert::read(anchor).ok()?;
-    let chain = [Cert::read(cert).ok()?];
-    let inputs = Inputs::at(Moment(moment));
-    let verdict = validate(
-        alloc,
-        &Anchor::of(&root),
-        &chain,
-        &inputs,
-        &Crls::none(),
-        &DigestCheck,
-    )
-    .ok()?;
-    Some(answer(&verdict))
+    Some(answer(&verdict(alloc, anchor, cert, Moment(moment))?))
 }
 
-/// The same of a chain of three with this CA in the middle, whose signatures are listed in a table.
+/// The same for a chain of three with this CA in the middle, whose signatures are listed in a table.
 fn judge_three(alloc: Global, middle: &'static [u8]) -> Option<Option<(u8, u8)>> {
     let table = TableCheck::read(alloc, CHECKED).ok()?;
     let root = Cert::read(KEYED).ok()?;

@@ -1,4 +1,4 @@
--- No certificate stands above the first.
+-- No certificate is above the first.
 use Rattle.std.proofs.Common.{◌≡◌, sym, ◌∙◌, None}
 use Rattle.ts_name.specs.NameView.{rdns_in}
 use Rattle.ts_path.specs.Extensions.{path_length_of, explicit_policy_of, policy_mapping_of, any_policy_of}

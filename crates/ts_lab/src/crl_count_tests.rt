@@ -1,6 +1,6 @@
 //! What a list's words come to: the octets of the lists that they make, as another program counts them.
 
-use crate::list_tests::LINE;
+use crate::crl_tests::LINE;
 use crate::tests::answers_words;
 
 /// Words, and how many octets the list has that they describe.

@@ -1,4 +1,4 @@
-//! What is said of `crl` lines: one line for each form that is refused, and the names that lists take.
+//! What `crl` lines answer: one line for each form that is refused, and the names that lists take.
 
 use crate::tests::{answers, answers_words};
 use std::alloc::{AllocError, Global};
@@ -6,7 +6,7 @@ use std::alloc::{AllocError, Global};
 /// A line to which words are added.
 pub const LINE: &[u8] = b"crl L issuer CN=L this 20260501000000Z next 20260701000000Z signer 61";
 
-/// Words of which one has no form, or stands twice.
+/// Words of which one has no form, or occurs twice.
 const REFUSED: [&[u8]; 52] = [
     b" ",
     b"  number=1",
@@ -76,7 +76,7 @@ const NAMED: &str =
 crl L issuer CN=R this 20260501000000Z next 20260701000000Z signer 61 number=1
 ";
 
-/// A line behind them, and what is printed for it.
+/// A line after them, and what is printed for it.
 const LINES: [(&str, &str); 24] = [
     (
         "crl M issuer CN=R this 20260501000000Z next 20260701000000Z signer 61 number=2",
@@ -152,7 +152,7 @@ const LINES: [(&str, &str); 24] = [
     ),
 ];
 
-/// Whether the lab answers a line behind the certificate and the list so, and refuses the one behind it if that is read.
+/// Whether the lab answers a line after the certificate and the list so, and refuses the one after it if that is read.
 fn answers_line(alloc: Global, line: &str, answer: &str) -> Result<bool, AllocError> {
     let script = format!(in alloc; "{NAMED}{line}\ncheck\n")?;
     let is_wrong = answer.starts_with("line");
