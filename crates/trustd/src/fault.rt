@@ -39,7 +39,7 @@ pub enum Fault {
     Cut,
     /// A node answered this fault.
     Node(NodeFault),
-    /// This stands in a frame's place, or a server answered it.
+    /// This is in a frame's place, or a server answered it.
     Frame(FrameFault),
 }
 

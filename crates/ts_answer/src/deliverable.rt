@@ -20,11 +20,11 @@ fn is_ballot(ballot: Ballot) -> bool
     16 <= ballot && ballot < 1 << 36 && 1 <= ballot % 16 && ballot % 16 <= 9
 }
 
-/// A command's spelling has 17 to 4,194,325 octets.
+/// A command's encoding has 17 to 4,194,325 octets.
 fn is_short(command: &Command)
     ensures { IsShort (octets_of command.now) }
 {
-    command.has_spelling();
+    command.has_encoding();
 }
 
 /// Whether a node takes a message: its position is 1 to 1,000,000, and its ballot has a round of 1 to 4,294,967,295 and a node of 1 to 9,

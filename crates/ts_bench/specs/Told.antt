@@ -1,4 +1,4 @@
--- What is told of a reading in numbers.
+-- A reading in numbers.
 use Rattle.std.specs.Prelude.{ℕ, Bool, false, List, Option, Some, None, Result, Ok, Err}
 use Rattle.ts_shape.specs.declared.fault.CertFault.{CertFault}
 use Rattle.ts_shape.specs.Fault.{code_of}
@@ -16,7 +16,7 @@ abbrev pub place_of : Option CertFault → ℕ
 place_of None = 0
 place_of (Some fault) = fault.at
 
--- the same of a list of revoked certificates, some of whose rules have no place
+-- the same for a list of revoked certificates, some of whose rules have no place
 abbrev pub list_rule_number : Option ListFault → ℕ
 list_rule_number None = 0
 list_rule_number (Some fault) = fault_code fault

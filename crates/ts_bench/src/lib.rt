@@ -1,5 +1,5 @@
 //! What the benchmark in `bench/` calls: the readers of certificates and of lists, as a static library for programs that
-//! are not Rattle. No other crate stands on this one.
+//! are not Rattle. No other crate depends on this one.
 #![tactic(auto)]
 
 ghost use Rattle.std.specs.Prelude.{◌≡◌, Some};

@@ -1,16 +1,16 @@
 -- An algorithm identifier that has the octets of one that was read.
 use Rattle.std.proofs.Common.{◌≡◌, ℕ, List, [], ◌++◌, Ok, sym, ap, subst, ◌∙◌}
-use Rattle.ts_der.specs.Element.{Tlv, Fits, spell}
+use Rattle.ts_der.specs.Element.{Tlv, Fits, encode}
 use Rattle.ts_der.proofs.Unique.{one-element}
 use Rattle.ts_shape.specs.Fields.{Within}
 use Rattle.ts_cert.specs.Certificate.{Algorithm}
 use Rattle.ts_cert.specs.Reading.{algorithm_of}
-use Rattle.ts_cert.specs.Spelling.{IsAlgorithm}
+use Rattle.ts_cert.specs.Encoding.{IsAlgorithm}
 use Rattle.ts_cert.proofs.KeyParts.{algorithm-value}
 
-pub beside : (e : Tlv) (a : Algorithm) (octets : List ℕ) → Fits 0x30 e.content → e.whole ≡ spell 0x30 e.content → Within 0x30 IsAlgorithm octets a → e.whole ≡ a.whole → algorithm_of e ≡ Ok a
-beside e a octets fits spelled within same =
+pub beside : (e : Tlv) (a : Algorithm) (octets : List ℕ) → Fits 0x30 e.content → e.whole ≡ encode 0x30 e.content → Within 0x30 IsAlgorithm octets a → e.whole ≡ a.whole → algorithm_of e ≡ Ok a
+beside e a octets fits encoded within same =
     let is : IsAlgorithm within.content a = within.value in
-    let both : spell 0x30 e.content ++ [] ≡ spell 0x30 within.content ++ [] = ap (λ (w : List ℕ). w ++ []) (sym spelled ∙ (same ∙ is.whole)) in
+    let both : encode 0x30 e.content ++ [] ≡ encode 0x30 within.content ++ [] = ap (λ (w : List ℕ). w ++ []) (sym encoded ∙ (same ∙ is.whole)) in
     let content : e.content ≡ within.content = (one-element 0x30 0x30 e.content within.content [] [] fits within.fits both).1 in
-    algorithm-value.again e a spelled (subst (λ (c : List ℕ). IsAlgorithm c a) (sym content) is)
+    algorithm-value.again e a encoded (subst (λ (c : List ℕ). IsAlgorithm c a) (sym content) is)

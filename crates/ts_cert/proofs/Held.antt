@@ -5,7 +5,7 @@ use Rattle.std.specs.Result.{result_ok, result_unwrap_or}
 use Rattle.std.proofs.lemmas.Bool.{false≢true}
 use Rattle.ts_der.specs.declared.fault.Fault.{Fault}
 use Rattle.ts_der.specs.Answer.{◌>>=◌, refusal}
-use Rattle.ts_der.specs.Element.{Place, Tlv, Fits, StandsAt, spell, spelled_at, inside}
+use Rattle.ts_der.specs.Element.{Place, Tlv, Fits, StandsAt, encode, encoded_at, inside}
 use Rattle.ts_der.specs.Reading.{begins_with, optional_at, many}
 use Rattle.ts_der.specs.View.{now}
 use Rattle.ts_der.specs.declared.reader.Element.{Element}
@@ -14,109 +14,109 @@ use Rattle.ts_der.proofs.Laws.{bind_ok, ok_is, err_not_ok, element-only}
 use Rattle.ts_name.specs.Canon.{Attr}
 use Rattle.ts_shape.specs.Fields.{Within, IfAny, IsInteger, IsBits, optional_of}
 use Rattle.ts_shape.specs.Items.{items_at}
-use Rattle.ts_name.specs.NameSpelling.{IsName}
+use Rattle.ts_name.specs.NameEncoding.{IsName}
 use Rattle.ts_name.specs.Names.{name_of, rdn_at}
 use Rattle.ts_shape.proofs.ItemParts.{some-walked}
 use Rattle.ts_name.proofs.Shapes.{name-again}
 use Rattle.ts_shape.proofs.OptionalParts.{begins-within, begins-other, begins-if-any, optional-again}
 use Rattle.ts_shape.proofs.Parts.{Value, Part}
-use Rattle.ts_ext.specs.Extension.{Extension, Standing, said, standing_in, standings_of, AreExtensions, AreExplicit}
+use Rattle.ts_ext.specs.Extension.{Extension, Located, unlocated, located_in, all_located_of, AreExtensions, AreExplicit}
 use Rattle.ts_ext.proofs.ExtensionParts.{extensions-format}
-use Rattle.ts_ext.proofs.Said.{extensions-see}
+use Rattle.ts_ext.proofs.Unlocated.{extensions-see}
 use Rattle.ts_cert.specs.declared.layout.Layout.{Layout}
 use Rattle.ts_cert.specs.Certificate.{Certificate}
 use Rattle.ts_cert.specs.CertView.{certificate_in, no_certificate}
 use Rattle.ts_cert.specs.Layout.{Lies, AreLaidOut, Holds, HoldsIfAny}
 use Rattle.ts_cert.specs.Reading.{certificate_of}
-use Rattle.ts_cert.specs.Standings.{standings_within}
-use Rattle.ts_cert.specs.Spelling.{IsAlgorithm, IsValidity, IsKeyInfo, IsUniqueIdentifier, IsCertificate}
+use Rattle.ts_cert.specs.AllLocated.{all_located_within}
+use Rattle.ts_cert.specs.Encoding.{IsAlgorithm, IsValidity, IsKeyInfo, IsUniqueIdentifier, IsCertificate}
 use Rattle.ts_shape.specs.declared.fault.CertFault.{CertFault}
 use Rattle.ts_cert.proofs.Certificates.{certificate-again}
 use Rattle.ts_cert.proofs.Spanned.{part-ordered, part-between}
 
 -- ---- what is read of a part
 
--- where the spelling of a value begins, that is read
-pub read-there : {A E : Type 0} {read : Place → Result (A × Place) E} {Spells : List ℕ → A → Type 0} → Part read Spells → (octets : List ℕ) (at : ℕ) (x : A) → Holds Spells octets at x
+-- where the encoding of a value begins, that is read
+pub read-there : {A E : Type 0} {read : Place → Result (A × Place) E} {Encodes : List ℕ → A → Type 0} → Part read Encodes → (octets : List ℕ) (at : ℕ) (x : A) → Holds Encodes octets at x
     → (after : Place) × (read (record { rest = drop at octets; at = at }) ≡ Ok (x, after))
-read-there part octets at x h = (record { rest = h.rest; at = at + length h.part }, part.again (record { rest = drop at octets; at = at }) x h.part h.rest h.spelled h.here)
+read-there part octets at x h = (record { rest = h.rest; at = at + length h.part }, part.again (record { rest = drop at octets; at = at }) x h.part h.rest h.encoded h.here)
 
 -- and nothing else
-pub only-there : {A E : Type 0} {read : Place → Result (A × Place) E} {Spells : List ℕ → A → Type 0} → Part read Spells → (octets : List ℕ) (at : ℕ) (place : Place) → place ≡ record { rest = drop at octets; at = at }
-    → (y : A) (after : Place) → read place ≡ Ok (y, after) → (x : A) → Holds Spells octets at x → y ≡ x
+pub only-there : {A E : Type 0} {read : Place → Result (A × Place) E} {Encodes : List ℕ → A → Type 0} → Part read Encodes → (octets : List ℕ) (at : ℕ) (place : Place) → place ≡ record { rest = drop at octets; at = at }
+    → (y : A) (after : Place) → read place ≡ Ok (y, after) → (x : A) → Holds Encodes octets at x → y ≡ x
 only-there {A} {E} {read} part octets at place is y after taken x h =
     let there = read-there part octets at x h in
     ap (λ (p : A × Place). p.0) (ok_is {A = A × Place} {E = E} (y, after) (x, there.0) (sym taken ∙ (ap read is ∙ there.1)))
 
 -- it is not refused
-pub never-refused : {A E : Type 0} {read : Place → Result (A × Place) E} {Spells : List ℕ → A → Type 0} → Part read Spells → (octets : List ℕ) (at : ℕ) (place : Place) → place ≡ record { rest = drop at octets; at = at }
-    → (f : E) → read place ≡ Err f → (x : A) → Holds Spells octets at x → ⊥
+pub never-refused : {A E : Type 0} {read : Place → Result (A × Place) E} {Encodes : List ℕ → A → Type 0} → Part read Encodes → (octets : List ℕ) (at : ℕ) (place : Place) → place ≡ record { rest = drop at octets; at = at }
+    → (f : E) → read place ≡ Err f → (x : A) → Holds Encodes octets at x → ⊥
 never-refused {A} {E} {read} part octets at place is f refused x h = err_not_ok {E = E} (sym refused ∙ (ap read is ∙ (read-there part octets at x h).1))
 
--- the same of a field that may be absent
-pub read-if-there : {A : Type 0} {tag : ℕ} {value : Tlv → Result A Fault} {Spells : List ℕ → A → Type 0} → Value tag value Spells → (octets : List ℕ) (at : ℕ) (place : Place) → place ≡ record { rest = drop at octets; at = at }
-    → (x : Option A) → HoldsIfAny tag Spells octets at x → (after : Place) × (optional_of tag value place ≡ Ok (x, after))
-read-if-there {A} {tag} {value} {Spells} v octets at place is x h =
-    (record { rest = h.rest; at = at + length h.part }, ap (optional_of tag value) is ∙ optional-again tag value Spells v (record { rest = drop at octets; at = at }) x h.part h.rest h.spelled h.other h.here)
+-- the same for a field that may be absent
+pub read-if-there : {A : Type 0} {tag : ℕ} {value : Tlv → Result A Fault} {Encodes : List ℕ → A → Type 0} → Value tag value Encodes → (octets : List ℕ) (at : ℕ) (place : Place) → place ≡ record { rest = drop at octets; at = at }
+    → (x : Option A) → HoldsIfAny tag Encodes octets at x → (after : Place) × (optional_of tag value place ≡ Ok (x, after))
+read-if-there {A} {tag} {value} {Encodes} v octets at place is x h =
+    (record { rest = h.rest; at = at + length h.part }, ap (optional_of tag value) is ∙ optional-again tag value Encodes v (record { rest = drop at octets; at = at }) x h.part h.rest h.encoded h.other h.here)
 
-pub only-if-there : {A : Type 0} {tag : ℕ} {value : Tlv → Result A Fault} {Spells : List ℕ → A → Type 0} → Value tag value Spells → (octets : List ℕ) (at : ℕ) (place : Place) → place ≡ record { rest = drop at octets; at = at }
-    → (y : Option A) (after : Place) → optional_of tag value place ≡ Ok (y, after) → (x : Option A) → HoldsIfAny tag Spells octets at x → y ≡ x
+pub only-if-there : {A : Type 0} {tag : ℕ} {value : Tlv → Result A Fault} {Encodes : List ℕ → A → Type 0} → Value tag value Encodes → (octets : List ℕ) (at : ℕ) (place : Place) → place ≡ record { rest = drop at octets; at = at }
+    → (y : Option A) (after : Place) → optional_of tag value place ≡ Ok (y, after) → (x : Option A) → HoldsIfAny tag Encodes octets at x → y ≡ x
 only-if-there {A} v octets at place is y after taken x h =
     let there = read-if-there v octets at place is x h in
     ap (λ (p : Option A × Place). p.0) (ok_is {A = Option A × Place} {E = Fault} (y, after) (x, there.0) (sym taken ∙ there.1))
 
-pub never-refused-if : {A : Type 0} {tag : ℕ} {value : Tlv → Result A Fault} {Spells : List ℕ → A → Type 0} → Value tag value Spells → (octets : List ℕ) (at : ℕ) (place : Place) → place ≡ record { rest = drop at octets; at = at }
-    → (f : Fault) → optional_of tag value place ≡ Err f → (x : Option A) → HoldsIfAny tag Spells octets at x → ⊥
+pub never-refused-if : {A : Type 0} {tag : ℕ} {value : Tlv → Result A Fault} {Encodes : List ℕ → A → Type 0} → Value tag value Encodes → (octets : List ℕ) (at : ℕ) (place : Place) → place ≡ record { rest = drop at octets; at = at }
+    → (f : Fault) → optional_of tag value place ≡ Err f → (x : Option A) → HoldsIfAny tag Encodes octets at x → ⊥
 never-refused-if v octets at place is f refused x h = err_not_ok {E = Fault} (sym refused ∙ (read-if-there v octets at place is x h).1)
 
 -- a name, of which only the element is read
-pub name-there : (e : Tlv) (octets : List ℕ) (at : ℕ) (x : List (List Attr)) (h : Holds (Within 0x30 IsName) octets at x) (start : ℕ) → e ≡ spelled_at start 0x30 h.spelled.content → many rdn_at (inside e) ≡ Ok x
+pub name-there : (e : Tlv) (octets : List ℕ) (at : ℕ) (x : List (List Attr)) (h : Holds (Within 0x30 IsName) octets at x) (start : ℕ) → e ≡ encoded_at start 0x30 h.encoded.content → many rdn_at (inside e) ≡ Ok x
 unfolding name_of
-name-there e octets at x h start is = name-again e x (subst (λ (o : List ℕ). IsName o x) (sym (ap (λ (t : Tlv). t.content) is)) h.spelled.value)
+name-there e octets at x h start is = name-again e x (subst (λ (o : List ℕ). IsName o x) (sym (ap (λ (t : Tlv). t.content) is)) h.encoded.value)
 
 -- the extensions within their SEQUENCE
-pub extensions-there : (e : Tlv) (xs : List Extension) → AreExtensions e.content xs → map said (items_at standing_in (inside e)) ≡ xs
+pub extensions-there : (e : Tlv) (xs : List Extension) → AreExtensions e.content xs → map unlocated (items_at located_in (inside e)) ≡ xs
 extensions-there e xs are =
-    let seen : (standings_of e >>= λ ys. Ok (map said ys)) ≡ Ok xs = sym (extensions-see e) ∙ extensions-format.again e xs are in
-    let s = bind_ok (standings_of e) (λ ys. Ok (map said ys)) xs seen in
-    let walked = some-walked standing_in e (sym (ap (λ (r : Result (List Standing) Fault). refusal r) s.1)) in
-    ap (λ (ys : List Standing). map said ys) (ok_is {A = List Standing} {E = Fault} (items_at standing_in (inside e)) s.0 (sym walked ∙ s.1)) ∙ ok_is {A = List Extension} {E = Fault} (map said s.0) xs s.2
+    let seen : (all_located_of e >>= λ ys. Ok (map unlocated ys)) ≡ Ok xs = sym (extensions-see e) ∙ extensions-format.again e xs are in
+    let s = bind_ok (all_located_of e) (λ ys. Ok (map unlocated ys)) xs seen in
+    let walked = some-walked located_in e (sym (ap (λ (r : Result (List Located) Fault). refusal r) s.1)) in
+    ap (λ (ys : List Located). map unlocated ys) (ok_is {A = List Located} {E = Fault} (items_at located_in (inside e)) s.0 (sym walked ∙ s.1)) ∙ ok_is {A = List Extension} {E = Fault} (map unlocated s.0) xs s.2
 
--- where no explicit tag stands there are none
+-- where no explicit tag is there are none
 pub none-there : (octets : List ℕ) (at : ℕ) (x : Option (List Extension)) → HoldsIfAny 0xA3 AreExplicit octets at x → begins_with 0xA3 (drop at octets) ≡ false → x ≡ None
 none-there octets at None h other = refl
-none-there octets at (Some xs) h other = absurd (false≢true (sym other ∙ (ap (λ (o : List ℕ). begins_with 0xA3 o) h.here ∙ begins-within h.spelled h.rest)))
+none-there octets at (Some xs) h other = absurd (false≢true (sym other ∙ (ap (λ (o : List ℕ). begins_with 0xA3 o) h.here ∙ begins-within h.encoded h.rest)))
 
--- what stands behind the tag that stands there
+-- what follows the tag that is there
 pub explicit-there : (octets : List ℕ) (at : ℕ) (place : Place) (e : Tlv) (after : Place) → place.rest ≡ drop at octets → StandsAt place e after → e.tag ≡ 0xA3
     → (x : Option (List Extension)) → HoldsIfAny 0xA3 AreExplicit octets at x → (xs : List Extension) × (x ≡ Some xs) × AreExplicit e.content xs
-explicit-there octets at place e after is stands tag x h = by_cases x h.spelled (sym h.here ∙ (sym is ∙ (stands.whole ∙ ap (λ (w : List ℕ). w ++ after.rest) (stands.spelled ∙ ap (λ (t : ℕ). spell t e.content) tag))))
+explicit-there octets at place e after is stands tag x h = by_cases x h.encoded (sym h.here ∙ (sym is ∙ (stands.whole ∙ ap (λ (w : List ℕ). w ++ after.rest) (stands.encoded ∙ ap (λ (t : ℕ). encode t e.content) tag))))
   where
-    by_cases : (x : Option (List Extension)) → IfAny 0xA3 AreExplicit h.part x → h.part ++ h.rest ≡ spell 0xA3 e.content ++ after.rest → (xs : List Extension) × (x ≡ Some xs) × AreExplicit e.content xs
+    by_cases : (x : Option (List Extension)) → IfAny 0xA3 AreExplicit h.part x → h.part ++ h.rest ≡ encode 0xA3 e.content ++ after.rest → (xs : List Extension) × (x ≡ Some xs) × AreExplicit e.content xs
     by_cases None none whole =
         let other : begins_with 0xA3 (h.part ++ h.rest) ≡ false = ap (λ (p : List ℕ). begins_with 0xA3 (p ++ h.rest)) none ∙ h.other in
         absurd (false≢true (sym other ∙ ap (λ (o : List ℕ). begins_with 0xA3 o) whole))
     by_cases (Some xs) within whole =
-        let same = one-element 0xA3 0xA3 within.content e.content h.rest after.rest within.fits (subst (λ (t : ℕ). Fits t e.content) tag stands.fits) (ap (λ (w : List ℕ). w ++ h.rest) (sym within.spelled) ∙ whole) in
+        let same = one-element 0xA3 0xA3 within.content e.content h.rest after.rest within.fits (subst (λ (t : ℕ). Fits t e.content) tag stands.fits) (ap (λ (w : List ℕ). w ++ h.rest) (sym within.encoded) ∙ whole) in
         (xs, refl, subst (λ (o : List ℕ). AreExplicit o xs) same.1 within.value)
 
 -- it is not refused
 pub explicit-never-refused : (octets : List ℕ) (at : ℕ) (place : Place) → place ≡ record { rest = drop at octets; at = at } → (f : Fault) → optional_at 0xA3 place ≡ Err f → (x : Option (List Extension)) → HoldsIfAny 0xA3 AreExplicit octets at x → ⊥
 unfolding optional_at
 explicit-never-refused octets at place is f refused None h =
-    let other : begins_with 0xA3 (drop at octets) ≡ false = ap (λ (o : List ℕ). begins_with 0xA3 o) h.here ∙ (ap (λ (p : List ℕ). begins_with 0xA3 (p ++ h.rest)) h.spelled ∙ h.other) in
+    let other : begins_with 0xA3 (drop at octets) ≡ false = ap (λ (o : List ℕ). begins_with 0xA3 o) h.here ∙ (ap (λ (p : List ℕ). begins_with 0xA3 (p ++ h.rest)) h.encoded ∙ h.other) in
     let read : optional_at 0xA3 (record { rest = drop at octets; at = at }) ≡ Ok (None, record { rest = drop at octets; at = at }) = rw other refl in
     err_not_ok {E = Fault} (sym refused ∙ (ap (optional_at 0xA3) is ∙ read))
 explicit-never-refused octets at place is f refused (Some xs) h =
-    let begins : begins_with 0xA3 (drop at octets) ≡ true = ap (λ (o : List ℕ). begins_with 0xA3 o) h.here ∙ begins-within h.spelled h.rest in
-    let one = element-only (record { rest = drop at octets; at = at }) 0xA3 h.spelled.content h.rest h.spelled.fits (h.here ∙ ap (λ (p : List ℕ). p ++ h.rest) h.spelled.spelled) in
-    let after : Place = record { rest = h.rest; at = at + length (spell 0xA3 h.spelled.content) } in
-    let read : optional_at 0xA3 (record { rest = drop at octets; at = at }) ≡ Ok (Some (spelled_at at 0xA3 h.spelled.content), after) = rw (begins, one) refl in
+    let begins : begins_with 0xA3 (drop at octets) ≡ true = ap (λ (o : List ℕ). begins_with 0xA3 o) h.here ∙ begins-within h.encoded h.rest in
+    let one = element-only (record { rest = drop at octets; at = at }) 0xA3 h.encoded.content h.rest h.encoded.fits (h.here ∙ ap (λ (p : List ℕ). p ++ h.rest) h.encoded.encoded) in
+    let after : Place = record { rest = h.rest; at = at + length (encode 0xA3 h.encoded.content) } in
+    let read : optional_at 0xA3 (record { rest = drop at octets; at = at }) ≡ Ok (Some (encoded_at at 0xA3 h.encoded.content), after) = rw (begins, one) refl in
     err_not_ok {E = Fault} (sym refused ∙ (ap (optional_at 0xA3) is ∙ read))
 
--- the SEQUENCE behind it
-pub list-there : (r : Result Element Fault) (start : ℕ) (content : List ℕ) (xs : List Extension) → IsOkAnd r (λ e. now e ≡ spelled_at start 0x30 content) → AreExtensions content xs
-    → option_map (map said) (option_map standings_within (result_ok r)) ≡ Some xs
+-- the SEQUENCE after it
+pub list-there : (r : Result Element Fault) (start : ℕ) (content : List ℕ) (xs : List Extension) → IsOkAnd r (λ e. now e ≡ encoded_at start 0x30 content) → AreExtensions content xs
+    → option_map (map unlocated) (option_map all_located_within (result_ok r)) ≡ Some xs
 list-there (Ok e) start content xs is are =
     let here : AreExtensions e.content.now xs = subst (λ (o : List ℕ). AreExtensions o xs) (sym (ap (λ (t : Tlv). t.content) is)) are in
     ap (λ (ys : List Extension). Some ys) (extensions-there (now e) xs here)
@@ -135,8 +135,8 @@ is-certificate octets l laid = subst (λ (c : Certificate). IsCertificate octets
 pub is-read : (octets : List ℕ) (l : Layout) → AreLaidOut octets l → certificate_of octets ≡ Ok (certificate_in octets)
 is-read octets l laid = certificate-again octets (certificate_in octets) (is-certificate octets l laid)
 
-holds : {A : Type 0} {Spells : List ℕ → A → Type 0} {octets part : List ℕ} {at to : ℕ} {x : A} → Lies octets at part to → Spells part x → Holds Spells octets at x
-holds {A} {Spells} {octets} {part} {at} {to} lies is = record { part = part; rest = drop to octets; here = lies.here; spelled = is; begins = lies.begins }
+holds : {A : Type 0} {Encodes : List ℕ → A → Type 0} {octets part : List ℕ} {at to : ℕ} {x : A} → Lies octets at part to → Encodes part x → Holds Encodes octets at x
+holds {A} {Encodes} {octets} {part} {at} {to} lies is = record { part = part; rest = drop to octets; here = lies.here; encoded = is; begins = lies.begins }
 
 -- what holds of the certificate that was read holds of the one that the octets are
 of_octets : (octets : List ℕ) (l : Layout) (P : Certificate → Type 0) (laid : AreLaidOut octets l) → P laid.0 → P (certificate_in octets)
@@ -179,7 +179,7 @@ signature_value octets l laid = of_octets octets l (λ c. Holds (Within 0x03 IsB
 
 -- ---- those that may be absent
 
--- behind the extensions stands the algorithm of the signature
+-- after the extensions stands the algorithm of the signature
 no-other-algorithm : (octets : List ℕ) (l : Layout) (laid : AreLaidOut octets l) (tag : ℕ) → eqb 0x30 tag ≡ false → begins_with tag (drop l.signature_algorithm octets) ≡ false
 no-other-algorithm octets l laid tag differs =
     ap (λ (o : List ℕ). begins_with tag o) laid.2.signature_algorithm.here ∙ begins-other laid.1.whole.value.signatureAlgorithm tag differs (drop l.signature_value octets)
@@ -196,8 +196,8 @@ no-other-subject octets l laid =
     ap (λ (o : List ℕ). begins_with 0x81 o) laid.2.fields.subject_unique_id.here
     ∙ begins-if-any 0x82 IsUniqueIdentifier f.subject_id laid.0.tbsCertificate.subjectUniqueID f.subjectUniqueID 0x81 refl (drop l.extensions octets) (no-other-extensions octets l laid 0x81 refl refl)
 
-holds-if-any : {A : Type 0} {tag : ℕ} {Spells : List ℕ → A → Type 0} {octets part : List ℕ} {at to : ℕ} {x : Option A} → Lies octets at part to → IfAny tag Spells part x → begins_with tag (drop to octets) ≡ false → HoldsIfAny tag Spells octets at x
-holds-if-any {A} {tag} {Spells} {octets} {part} {at} {to} lies is other = record { part = part; rest = drop to octets; here = lies.here; spelled = is; other = other; begins = lies.begins }
+holds-if-any : {A : Type 0} {tag : ℕ} {Encodes : List ℕ → A → Type 0} {octets part : List ℕ} {at to : ℕ} {x : Option A} → Lies octets at part to → IfAny tag Encodes part x → begins_with tag (drop to octets) ≡ false → HoldsIfAny tag Encodes octets at x
+holds-if-any {A} {tag} {Encodes} {octets} {part} {at} {to} lies is other = record { part = part; rest = drop to octets; here = lies.here; encoded = is; other = other; begins = lies.begins }
 
 pub issuer_unique_id : (octets : List ℕ) (l : Layout) → AreLaidOut octets l → HoldsIfAny 0x81 IsUniqueIdentifier octets l.issuer_unique_id (certificate_in octets).tbsCertificate.issuerUniqueID
 issuer_unique_id octets l laid =

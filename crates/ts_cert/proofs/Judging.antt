@@ -10,7 +10,7 @@ use Rattle.ts_der.specs.declared.fault.DerFault.TheVariants.{WrongTag, TimeForm,
 use Rattle.ts_der.specs.declared.fault.Fault.{Fault}
 use Rattle.ts_der.specs.Answer.{◌>>=◌, Answers, refusal}
 use Rattle.ts_der.specs.Rules.{first_broken}
-use Rattle.ts_der.specs.Element.{Place, Tlv, inside, spell, length_octets}
+use Rattle.ts_der.specs.Element.{Place, Tlv, inside, encode, length_octets}
 use Rattle.ts_der.specs.Header.{tag_of, header_size, length_of, header_rules}
 use Rattle.ts_der.specs.Reading.{fault_at, is_end, element_of, behind, next_at, element_at, optional_at, value_at, end_at, begins_with, located}
 use Rattle.ts_der.specs.BitString.{bits_rules}
@@ -30,14 +30,14 @@ use Rattle.ts_cert.specs.declared.version.Version.{Version}
 use Rattle.ts_cert.specs.declared.version.Version.TheVariants.{V1, V2, V3}
 use Rattle.ts_cert.specs.Version.{version_named, number_of, not_default, version_of, version_if, version_at}
 use Rattle.ts_cert.specs.Time.{time_of, time_at, validity_of}
-use Rattle.ts_cert.specs.Reading.{parameters_at, algorithm_of, algorithm_at, validity_at, key_of, key_at, unique_identifier_of, late_fields_at, tbs_of, Unagreed, signed_of, agreed, unless_broken, whole_of, certificate_of}
+use Rattle.ts_cert.specs.Reading.{parameters_at, algorithm_of, algorithm_at, validity_at, key_of, key_at, unique_identifier_of, optional_fields_at, tbs_of, Unagreed, signed_of, agreed, unless_broken, whole_of, certificate_of}
 use Rattle.ts_cert.specs.Certificate.{Certificate}
-use Rattle.ts_cert.specs.Rules.{LateFields, TbsStanding, extensions_fault}
+use Rattle.ts_cert.specs.Rules.{OptionalFields, LocatedTbs, extensions_fault}
 use Rattle.ts_cert.specs.Table.{algorithm_identifier, time, validity, subject_public_key_info, is_version, version_rules, version_number, default_rules, version, unique_identifier, tbs_certificate, certificate, nth, from_front, signature_element, signature_algorithm_element, algorithms_fault, fields_fault, certificate_fault}
 use Rattle.ts_shape.specs.Shape.{any, optional, tagged, no_other, Shape, nothing, plain, ◌then◌, ◌or_else◌, header_fault, row_fault, judge, der_rules, no_rules, one_rule}
 use Rattle.ts_shape.proofs.OptionalParts.{optional-judged}
-use Rattle.ts_ext.specs.Extension.{explicit_extensions, explicit_standings_of}
-use Rattle.ts_ext.proofs.ExtensionParts.{explicit_standings-judged}
+use Rattle.ts_ext.specs.Extension.{explicit_extensions, explicit_all_located_of}
+use Rattle.ts_ext.proofs.ExtensionParts.{explicit_all_located-judged}
 use Rattle.ts_cert.proofs.KeyParts.{unique_identifier-format}
 use Rattle.ts_shape.proofs.Judging.{Judged, refusal-judged, bind, no_more, no_less, Headed, next-judged, element-judged, Reads, within-reads, then-judged, end-judged, under, ends, value-judged, Whatever, oid-reads, integer-reads, bits-reads, next-reads, regroup}
 use Rattle.ts_name.proofs.NameJudging.{name-reads}
@@ -130,11 +130,11 @@ key-reads = within-reads 0x30 (algorithm_identifier then bit_string then nothing
 -- ---- the version
 
 -- the content of [0] where the version within is the default
-default-spelled : (o : List ℕ) (at : ℕ) → first_broken header_rules o ≡ None
+default-encoded : (o : List ℕ) (at : ℕ) → first_broken header_rules o ≡ None
     → (element_of (record { rest = o; at = at })).tag ≡ 0x02 → (element_of (record { rest = o; at = at })).content ≡ 0 ∷ [] → (behind (record { rest = o; at = at })).rest ≡ []
-    → o ≡ spell 0x02 (0 ∷ [])
+    → o ≡ encode 0x02 (0 ∷ [])
 unfolding element_of behind length_of length_octets
-default-spelled o at e t c b = by_octets o (has_header o e) t c b
+default-encoded o at e t c b = by_octets o (has_header o e) t c b
   where
     by_rest : (a : ℕ) (rest : List ℕ) → a ≡ 2 → take 1 rest ≡ 0 ∷ [] → drop 1 rest ≡ [] → a ∷ 1 ∷ rest ≡ 2 ∷ 1 ∷ 0 ∷ []
     by_rest a [] t c b = absurd cc
@@ -157,7 +157,7 @@ default-spelled o at e t c b = by_octets o (has_header o e) t c b
         (subst (λ (x : ℕ). take (length_of (a ∷ x ∷ rest)) (drop (header_size (a ∷ x ∷ rest)) (a ∷ x ∷ rest)) ≡ 0 ∷ []) is c)
         (subst (λ (x : ℕ). drop (header_size (a ∷ x ∷ rest) + length_of (a ∷ x ∷ rest)) (a ∷ x ∷ rest) ≡ []) is b))
 
-default-content : (o : List ℕ) (at : ℕ) → o ≡ spell 0x02 (0 ∷ []) → (element_of (record { rest = o; at = at })).content ≡ 0 ∷ []
+default-content : (o : List ℕ) (at : ℕ) → o ≡ encode 0x02 (0 ∷ []) → (element_of (record { rest = o; at = at })).content ≡ 0 ∷ []
 unfolding element_of length_of length_octets
 default-content o at e = rw e refl
 
@@ -203,18 +203,18 @@ default-judged : (e : Tlv) (v : Version) → Headed (inside e) → (element_of (
     → Judged (not_default e v) (option_map (breaks e.at) (default_rules e.content)) (λ v. Unit {0})
 default-judged e v h t n b = by_version v n
   where
-    is_default : version_named (element_of (inside e)).at (element_of (inside e)).content ≡ Ok V1 → bytes_eq e.content (spell 0x02 (0 ∷ [])) ≡ true
-    is_default n = (bytes_eq-Decides e.content (spell 0x02 (0 ∷ []))).1 (default-spelled e.content e.start h t (named-first _ _ n) b)
+    is_default : version_named (element_of (inside e)).at (element_of (inside e)).content ≡ Ok V1 → bytes_eq e.content (encode 0x02 (0 ∷ [])) ≡ true
+    is_default n = (bytes_eq-Decides e.content (encode 0x02 (0 ∷ []))).1 (default-encoded e.content e.start h t (named-first _ _ n) b)
 
-    names_first : bytes_eq e.content (spell 0x02 (0 ∷ [])) ≡ true → version_named (element_of (inside e)).at (element_of (inside e)).content ≡ Ok V1
-    names_first same = rw (default-content e.content e.start ((bytes_eq-Decides e.content (spell 0x02 (0 ∷ []))).0 same)) refl
+    names_first : bytes_eq e.content (encode 0x02 (0 ∷ [])) ≡ true → version_named (element_of (inside e)).at (element_of (inside e)).content ≡ Ok V1
+    names_first same = rw (default-content e.content e.start ((bytes_eq-Decides e.content (encode 0x02 (0 ∷ []))).0 same)) refl
 
-    other : (b : Bool) → bytes_eq e.content (spell 0x02 (0 ∷ [])) ≡ b → (w : Version) → (let r : Result Version CertFault = Ok V1 in r ≡ Ok w → ⊥) → version_named (element_of (inside e)).at (element_of (inside e)).content ≡ Ok w → b ≡ false
+    other : (b : Bool) → bytes_eq e.content (encode 0x02 (0 ∷ [])) ≡ b → (w : Version) → (let r : Result Version CertFault = Ok V1 in r ≡ Ok w → ⊥) → version_named (element_of (inside e)).at (element_of (inside e)).content ≡ Ok w → b ≡ false
     other true same w differs n = absurd (differs (sym (names_first same) ∙ n))
     other false same w differs n = refl
 
     by_version : (v : Version) → version_named (element_of (inside e)).at (element_of (inside e)).content ≡ Ok v
-        → Judged (not_default e v) (option_map (breaks e.at) (cond (bytes_eq e.content (spell 0x02 (0 ∷ []))) (Some (Der DefaultEncoded)) None)) (λ v. Unit {0})
+        → Judged (not_default e v) (option_map (breaks e.at) (cond (bytes_eq e.content (encode 0x02 (0 ∷ []))) (Some (Der DefaultEncoded)) None)) (λ v. Unit {0})
     by_version V1 n = rw (is_default n) refl
     by_version V2 n = rw (other _ refl V2 (λ e. cc) n) (refl, tt)
     by_version V3 n = rw (other _ refl V3 (λ e. cc) n) (refl, tt)
@@ -234,7 +234,7 @@ beside after v = Ok (v, after)
 abbrev that_stands : Tlv × Place → Result (Option Tlv × Place) Fault
 that_stands x = Ok (Some x.0, x.1)
 
--- a version, where one stands
+-- a version, where one is
 version-then : {B : Type 0} (others : Shape) (here : Place) (f : Version × Place → Result B CertFault) (Q : B → Type 0)
     → ((v : Version) (after : Place) → after ≡ cond (begins_with 0xA0 here.rest) (behind here) here → Judged (f (v, after)) (judge others after) Q)
     → Judged (version_at here >>= f) (judge (optional version then others) here) Q
@@ -274,28 +274,28 @@ tbs_fields = optional version then integer then algorithm_identifier then name t
 abbrev certificate_fields : Shape
 certificate_fields = tbs_certificate then algorithm_identifier then bit_string then nothing
 
--- the algorithm identifier stands behind the serial number
+-- the algorithm identifier follows the serial number
 identifier-place : (b : Bool) (here after : Place) → after ≡ cond b (behind here) here → element_of (behind after) ≡ nth (cond b 2 1) here
 identifier-place true here after e = ap (λ (p : Place). element_of (behind p)) e
 identifier-place false here after e = ap (λ (p : Place). element_of (behind p)) e
 
 -- the algorithm identifier within what is signed
-abbrev SignedWith : Tlv → TbsStanding → Type 0
+abbrev SignedWith : Tlv → LocatedTbs → Type 0
 SignedWith e t = t.fields.signature.whole ≡ (nth (cond (begins_with 0xA0 e.content) 2 1) (inside e)).whole
 
 -- a unique identifier
 unique-judged : (e : Tlv) → Judged (der (unique_identifier_of e)) (judge plain (inside e) or_else option_map (breaks e.at) (der_rules bits_rules e.content)) (λ u. Unit {0})
 unique-judged e = unique_identifier-format.judged e
 
-late-judged : (here : Place) → Judged (der (late_fields_at here)) (judge last_fields here) (λ l. Unit {0})
-unfolding late_fields_at
-late-judged here =
+optional_fields-judged : (here : Place) → Judged (der (optional_fields_at here)) (judge last_fields here) (λ l. Unit {0})
+unfolding optional_fields_at
+optional_fields-judged here =
     under (optional_of 0x81 unique_identifier_of here) _ _ _
     (optional-judged 0x81 plain (der_rules bits_rules) (optional (unique_identifier 0x82) then optional (tagged 0xA3 explicit_extensions no_rules no_other) then nothing) here unique_identifier_of _ Whatever _ unique-judged (λ issuer second.
     under (optional_of 0x82 unique_identifier_of second) _ _ _
     (optional-judged 0x82 plain (der_rules bits_rules) (optional (tagged 0xA3 explicit_extensions no_rules no_other) then nothing) second unique_identifier_of _ Whatever _ unique-judged (λ subject third.
-    under (optional_of 0xA3 explicit_standings_of third) _ _ _
-    (optional-judged 0xA3 explicit_extensions no_rules nothing third explicit_standings_of _ Whatever _ explicit_standings-judged (λ extensions after. ends after _ _ (λ h. tt)))))))
+    under (optional_of 0xA3 explicit_all_located_of third) _ _ _
+    (optional-judged 0xA3 explicit_extensions no_rules nothing third explicit_all_located_of _ Whatever _ explicit_all_located-judged (λ extensions after. ends after _ _ (λ h. tt)))))))
 
 tbs-judged : (e : Tlv) → Judged (tbs_of e) (judge tbs_fields (inside e) or_else None) (SignedWith e)
 unfolding tbs_of
@@ -314,10 +314,10 @@ tbs-judged e =
     then-judged name (subject_public_key_info then last_fields) at5 (λ here. der (name_at here)) _ Whatever (SignedWith e) refl name-reads (λ subject p5.
     then-judged subject_public_key_info last_fields at6 (λ here. der (key_at here)) _ Whatever (SignedWith e) refl key-reads (λ key p6.
     no_less _ _ _
-    (bind (der (late_fields_at (behind at6))) _ (judge last_fields (behind at6)) None Whatever_read (SignedWith e) (late-judged (behind at6)) (λ late h.
+    (bind (der (optional_fields_at (behind at6))) _ (judge last_fields (behind at6)) None Whatever_read (SignedWith e) (optional_fields-judged (behind at6)) (λ optional_fields h.
     (refl, same ∙ ap (λ (x : Tlv). x.whole) (identifier-place (begins_with 0xA0 e.content) (inside e) at1 place))))))))))))
   where
-    Whatever_read : LateFields → Type 0
+    Whatever_read : OptionalFields → Type 0
     Whatever_read l = Unit {0}
 
 -- both algorithm identifiers, and the place of the outer one
@@ -368,8 +368,8 @@ whole-judged octets =
     (element-judged 0x30 certificate_fields no_rules (from_front octets) signed_of (λ e shape. der (end_at e.1) >>= λ done. rest shape) _ IsRead (λ c. Unit {0})
     (itself (signed_of front) _ (Identified front) (signed-judged front)) (λ shape h t same.
     end-judged (behind (from_front octets)) (λ done. rest shape) (algorithms_fault octets or_else fields) (λ c. Unit {0}) (λ e.
-    bind (agreed shape) (λ c. unless_broken (extensions_fault shape.certificate.tbsCertificate.version shape.late) c) (algorithms_fault octets) fields (λ c. Unit {0}) (λ c. Unit {0}) (agreed-judged octets shape same.0) (λ c p.
-    subst (λ (r : Result Unagreed CertFault). Judged (unless_broken (extensions_fault shape.certificate.tbsCertificate.version shape.late) c) (fields_fault r) (λ c. Unit {0})) (sym same.1) (rules-judged _ c)))))
+    bind (agreed shape) (λ c. unless_broken (extensions_fault shape.certificate.tbsCertificate.version shape.optional_fields) c) (algorithms_fault octets) fields (λ c. Unit {0}) (λ c. Unit {0}) (agreed-judged octets shape same.0) (λ c p.
+    subst (λ (r : Result Unagreed CertFault). Judged (unless_broken (extensions_fault shape.certificate.tbsCertificate.version shape.optional_fields) c) (fields_fault r) (λ c. Unit {0})) (sym same.1) (rules-judged _ c)))))
   where
     front : Tlv
     front = element_of (from_front octets)
@@ -381,7 +381,7 @@ whole-judged octets =
     IsRead s = Identified front s × (signed_of front ≡ Ok s)
 
     rest : Unagreed → Result Certificate CertFault
-    rest shape = agreed shape >>= λ c. unless_broken (extensions_fault shape.certificate.tbsCertificate.version shape.late) c
+    rest shape = agreed shape >>= λ c. unless_broken (extensions_fault shape.certificate.tbsCertificate.version shape.optional_fields) c
 
     grouped : (a b c d : Option CertFault) → (a or_else b or_else c or_else d) ≡ (a or_else (b or_else (c or_else d)))
     grouped (Some x) b c d = refl
@@ -398,7 +398,7 @@ judged octets = by_size (nat_lt 65536 (length octets))
     by_size true = refl
     by_size false = refusal-judged (whole_of octets) _ (λ c. Unit {0}) (whole-judged octets)
 
--- the same of a call that answers what reading gives
+-- the same for a call that answers what reading gives
 pub fault-judged : {X : Type 0} (view : X → Certificate) (result : Result X CertFault) (octets : List ℕ) → Answers view result (certificate_of octets) → refusal result ≡ certificate_fault octets
 fault-judged view (Ok x) octets a = ap (λ (r : Result Certificate CertFault). refusal r) (sym a) ∙ judged octets
 fault-judged view (Err f) octets a = ap (λ (r : Result Certificate CertFault). refusal r) (sym a) ∙ judged octets

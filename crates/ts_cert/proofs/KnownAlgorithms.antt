@@ -1,25 +1,25 @@
--- Algorithm identifiers that are told by their first octets.
+-- Algorithm identifiers that are recognised by their first octets.
 use Rattle.std.proofs.Common.{◌≡◌, ℕ, ◌+◌, ◌<◌, ◌≤◌, true, false, eqb, ltb, List, [], ◌∷◌, ◌++◌, length, take, drop, get_or, Some, None, refl, sym, ap, ◌∙◌, arith}
 use Rattle.std.specs.List.{list_all}
 use Rattle.std.proofs.lemmas.Bool.{lt-ltb, ne_eqb}
 use Rattle.std.proofs.lemmas.List.{drop-drop, length-drop, length-take-le, take-append-drop}
 use Rattle.ts_der.specs.Between.{lie_between}
-use Rattle.ts_der.specs.Element.{spell, length_octets}
+use Rattle.ts_der.specs.Element.{encode, length_octets}
 use Rattle.ts_der.specs.ObjectIdentifier.{series_of, is_subidentifier, is_oid}
 use Rattle.ts_der.proofs.FewOctets.{goes, goes_all}
 use Rattle.ts_der.proofs.Lengths.{length_octets-short}
-use Rattle.ts_der.proofs.Standing.{spelled-out}
+use Rattle.ts_der.proofs.Standing.{encoded-out}
 use Rattle.ts_shape.specs.Fields.{Within}
 use Rattle.ts_der.proofs.Lanes.{between-at}
 use Rattle.ts_cert.specs.Certificate.{Algorithm}
 use Rattle.ts_cert.specs.Layout.{Spans}
-use Rattle.ts_cert.specs.Spelling.{IsAlgorithm}
+use Rattle.ts_cert.specs.Encoding.{IsAlgorithm}
 
 -- an octet between two bounds that are one
 same : (low high r : List ℕ) → lie_between low high r ≡ true → (i octet : ℕ) → get_or low i 0 ≡ octet → get_or high i 0 ≡ octet → i < length low → get_or r i 0 ≡ octet
 same low high r h i octet least most lt = let b = between-at low high r i h lt in omega (arith, b.0, b.1, least, most)
 
--- a number of one octet, behind others that go
+-- a number of one octet, after others that go
 goes-last : (n : ℕ) → n < 128 → goes false (n ∷ []) ≡ true
 goes-last n lt =
     let other : eqb n 128 ≡ false = ne_eqb n 128 (λ e. omega arith) in
@@ -47,7 +47,7 @@ unfolding rsa_oid
 rsa_content n = 0x06 ∷ 0x09 ∷ (rsa_oid n ++ 0x05 ∷ 0x00 ∷ [])
 
 rsa_algorithm : ℕ → Algorithm
-rsa_algorithm n = record { algorithm = rsa_oid n; parameters = Some (0x05 ∷ 0x00 ∷ []); whole = spell 0x30 (rsa_content n) }
+rsa_algorithm n = record { algorithm = rsa_oid n; parameters = Some (0x05 ∷ 0x00 ∷ []); whole = encode 0x30 (rsa_content n) }
 
 is-rsa : (n : ℕ) → n < 128 → Within 0x30 IsAlgorithm (rsa_part n) (rsa_algorithm n)
 unfolding rsa_oid rsa_part rsa_content rsa_algorithm
@@ -56,20 +56,20 @@ is-rsa n lt =
     record {
       content = content;
       fits = record { octet = omega arith; low = λ e. omega arith; short = omega arith };
-      spelled = ap (λ (o : List ℕ). 0x30 ∷ (o ++ content)) (sym (length_octets-short 13 (omega arith)));
+      encoded = ap (λ (o : List ℕ). 0x30 ∷ (o ++ content)) (sym (length_octets-short 13 (omega arith)));
       value = record {
         oid = 0x06 ∷ 0x09 ∷ rsa_oid n;
         algorithm = record {
           content = rsa_oid n;
           fits = record { octet = omega arith; low = λ e. omega arith; short = omega arith };
-          spelled = ap (λ (o : List ℕ). 0x06 ∷ (o ++ rsa_oid n)) (sym (length_octets-short 9 (omega arith)));
+          encoded = ap (λ (o : List ℕ). 0x06 ∷ (o ++ rsa_oid n)) (sym (length_octets-short 9 (omega arith)));
           value = (refl, rsa-oid n lt);
         };
         parameters = record {
           tag = 0x05;
           content = [];
           fits = record { octet = omega arith; low = λ e. omega arith; short = omega arith };
-          spelled = ap (λ (o : List ℕ). 0x05 ∷ (o ++ [])) (sym (length_octets-short 0 (omega arith)));
+          encoded = ap (λ (o : List ℕ). 0x05 ∷ (o ++ [])) (sym (length_octets-short 0 (omega arith)));
         };
         fields = refl;
         whole = refl;
@@ -104,8 +104,8 @@ rsa-spans octets r at is long h =
     record {
       value = rsa_algorithm n;
       part = rsa_part n;
-      here = sym is ∙ (spelled-out r 0 15 15 refl (omega arith) ∙ rw (e0, e1, e2, e3, e4, e5, e6, e7, e8, e9, e10, e11, e13, e14) (ap (λ (o : List ℕ). rsa_part n ++ o) behind));
-      spelled = is-rsa n few;
+      here = sym is ∙ (encoded-out r 0 15 15 refl (omega arith) ∙ rw (e0, e1, e2, e3, e4, e5, e6, e7, e8, e9, e10, e11, e13, e14) (ap (λ (o : List ℕ). rsa_part n ++ o) behind));
+      encoded = is-rsa n few;
       ends = omega (arith, long, ap (λ (o : List ℕ). length o) is, length-drop at octets);
     }
 
@@ -128,7 +128,7 @@ ecdsa_content : ℕ → List ℕ
 ecdsa_content n = 0x06 ∷ 0x08 ∷ ecdsa_oid n
 
 ecdsa_algorithm : ℕ → Algorithm
-ecdsa_algorithm n = record { algorithm = ecdsa_oid n; parameters = None; whole = spell 0x30 (ecdsa_content n) }
+ecdsa_algorithm n = record { algorithm = ecdsa_oid n; parameters = None; whole = encode 0x30 (ecdsa_content n) }
 
 is-ecdsa : (n : ℕ) → n < 128 → Within 0x30 IsAlgorithm (ecdsa_part n) (ecdsa_algorithm n)
 unfolding ecdsa_oid ecdsa_part ecdsa_content ecdsa_algorithm
@@ -137,13 +137,13 @@ is-ecdsa n lt =
     record {
       content = content;
       fits = record { octet = omega arith; low = λ e. omega arith; short = omega arith };
-      spelled = ap (λ (o : List ℕ). 0x30 ∷ (o ++ content)) (sym (length_octets-short 10 (omega arith)));
+      encoded = ap (λ (o : List ℕ). 0x30 ∷ (o ++ content)) (sym (length_octets-short 10 (omega arith)));
       value = record {
         oid = content;
         algorithm = record {
           content = ecdsa_oid n;
           fits = record { octet = omega arith; low = λ e. omega arith; short = omega arith };
-          spelled = ap (λ (o : List ℕ). 0x06 ∷ (o ++ ecdsa_oid n)) (sym (length_octets-short 8 (omega arith)));
+          encoded = ap (λ (o : List ℕ). 0x06 ∷ (o ++ ecdsa_oid n)) (sym (length_octets-short 8 (omega arith)));
           value = (refl, ecdsa-oid n lt);
         };
         parameters = tt;
@@ -152,7 +152,7 @@ is-ecdsa n lt =
       };
     }
 
--- the bounds of its octets, and of four behind them
+-- the bounds of its octets, and of four after them
 abbrev ecdsa_bound : ℕ → ℕ → List ℕ
 ecdsa_bound n more = 0x30 ∷ 0x0A ∷ 0x06 ∷ 0x08 ∷ 0x2A ∷ 0x86 ∷ 0x48 ∷ 0xCE ∷ 0x3D ∷ 0x04 ∷ 0x03 ∷ n ∷ more ∷ more ∷ more ∷ more ∷ []
 
@@ -177,8 +177,8 @@ ecdsa-spans octets r at is long h =
     record {
       value = ecdsa_algorithm n;
       part = ecdsa_part n;
-      here = sym is ∙ (spelled-out r 0 12 12 refl (omega arith) ∙ rw (e0, e1, e2, e3, e4, e5, e6, e7, e8, e9, e10) (ap (λ (o : List ℕ). ecdsa_part n ++ o) behind));
-      spelled = is-ecdsa n few;
+      here = sym is ∙ (encoded-out r 0 12 12 refl (omega arith) ∙ rw (e0, e1, e2, e3, e4, e5, e6, e7, e8, e9, e10) (ap (λ (o : List ℕ). ecdsa_part n ++ o) behind));
+      encoded = is-ecdsa n few;
       ends = omega (arith, long, ap (λ (o : List ℕ). length o) is, length-drop at octets);
     }
 
@@ -203,7 +203,7 @@ unfolding curve_oid
 curve_content m curve = 0x06 ∷ 0x07 ∷ (curve_oid ++ 0x06 ∷ m ∷ curve)
 
 curve_algorithm : ℕ → List ℕ → Algorithm
-curve_algorithm m curve = record { algorithm = curve_oid; parameters = Some (0x06 ∷ m ∷ curve); whole = spell 0x30 (curve_content m curve) }
+curve_algorithm m curve = record { algorithm = curve_oid; parameters = Some (0x06 ∷ m ∷ curve); whole = encode 0x30 (curve_content m curve) }
 
 is-curve : (size m : ℕ) (curve : List ℕ) → length curve ≡ m → m + 11 ≡ size → size < 128 → Within 0x30 IsAlgorithm (curve_part size m curve) (curve_algorithm m curve)
 unfolding curve_oid curve_part curve_content curve_algorithm
@@ -213,20 +213,20 @@ is-curve size m curve count whole few =
     record {
       content = content;
       fits = record { octet = omega arith; low = λ e. omega arith; short = omega (arith, long, few) };
-      spelled = ap (λ (o : List ℕ). 0x30 ∷ (o ++ content)) (sym (ap length_octets long ∙ length_octets-short size few));
+      encoded = ap (λ (o : List ℕ). 0x30 ∷ (o ++ content)) (sym (ap length_octets long ∙ length_octets-short size few));
       value = record {
         oid = 0x06 ∷ 0x07 ∷ curve_oid;
         algorithm = record {
           content = curve_oid;
           fits = record { octet = omega arith; low = λ e. omega arith; short = omega arith };
-          spelled = ap (λ (o : List ℕ). 0x06 ∷ (o ++ curve_oid)) (sym (length_octets-short 7 (omega arith)));
+          encoded = ap (λ (o : List ℕ). 0x06 ∷ (o ++ curve_oid)) (sym (length_octets-short 7 (omega arith)));
           value = (refl, curve-oid);
         };
         parameters = record {
           tag = 0x06;
           content = curve;
           fits = record { octet = omega arith; low = λ e. omega arith; short = omega (arith, count, whole, few) };
-          spelled = ap (λ (o : List ℕ). 0x06 ∷ (o ++ curve)) (sym (ap length_octets count ∙ length_octets-short m (omega (arith, whole, few))));
+          encoded = ap (λ (o : List ℕ). 0x06 ∷ (o ++ curve)) (sym (ap length_octets count ∙ length_octets-short m (omega (arith, whole, few))));
         };
         fields = refl;
         whole = refl;
@@ -263,7 +263,7 @@ curve-spans octets r at size is long h size_is whole enough =
     record {
       value = curve_algorithm m curve;
       part = curve_part size m curve;
-      here = sym is ∙ (spelled-out r 0 13 13 refl (omega arith) ∙ rw (e0, sym size_is, e2, e3, e4, e5, e6, e7, e8, e9, e10, e11) (ap (λ (o : List ℕ). 0x30 ∷ size ∷ 0x06 ∷ 0x07 ∷ 0x2A ∷ 0x86 ∷ 0x48 ∷ 0xCE ∷ 0x3D ∷ 0x02 ∷ 0x01 ∷ 0x06 ∷ m ∷ o) (split ∙ ap (λ (o : List ℕ). curve ++ o) behind)));
-      spelled = is-curve size m curve count whole few;
+      here = sym is ∙ (encoded-out r 0 13 13 refl (omega arith) ∙ rw (e0, sym size_is, e2, e3, e4, e5, e6, e7, e8, e9, e10, e11) (ap (λ (o : List ℕ). 0x30 ∷ size ∷ 0x06 ∷ 0x07 ∷ 0x2A ∷ 0x86 ∷ 0x48 ∷ 0xCE ∷ 0x3D ∷ 0x02 ∷ 0x01 ∷ 0x06 ∷ m ∷ o) (split ∙ ap (λ (o : List ℕ). curve ++ o) behind)));
+      encoded = is-curve size m curve count whole few;
       ends = omega (arith, enough, ap (λ (o : List ℕ). length o) is, length-drop at octets);
     }

@@ -6,10 +6,10 @@ pub mod Certificates
 pub mod Layouts
 pub mod Spanned
 pub mod KnownAlgorithms
-pub mod UsualLayout
+pub mod FastLayout
 pub mod Sets
 pub mod Held
-pub mod OneSpelling
+pub mod OneEncoding
 pub mod Judging
 pub mod StatedValues
 pub mod StatedReaders

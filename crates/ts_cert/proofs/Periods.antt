@@ -1,4 +1,4 @@
--- Versions and times, as they are read and spelled.
+-- Versions and times, as they are read and encoded.
 use Rattle.std.proofs.Common.{◌≡◌, ℕ, ◌+◌, Bool, true, false, cond, not, eqb, List, [], ◌∷◌, ◌++◌, length, Option, Some, None, Result, Ok, Err, refl, sym, ap, subst, ◌∙◌, arith}
 use Rattle.std.specs.Prelude.{ℤ, ok_or}
 use Rattle.std.proofs.lemmas.Bool.{eqb-true}
@@ -7,7 +7,7 @@ use Rattle.ts_der.specs.declared.fault.DerFault.TheVariants.{TimeForm as TimeRul
 use Rattle.ts_der.specs.declared.fault.Fault.{Fault}
 use Rattle.ts_der.specs.Octets.{AreOctets}
 use Rattle.ts_der.specs.Answer.{◌>>=◌}
-use Rattle.ts_der.specs.Element.{Place, Tlv, Fits, spell, length_octets, inside, spelled_at}
+use Rattle.ts_der.specs.Element.{Place, Tlv, Fits, encode, length_octets, inside, encoded_at}
 use Rattle.ts_der.specs.Integer.{is_shortest, integer_rules}
 use Rattle.ts_der.specs.Reading.{begins_with, fault_at, located, value_at, next_at, element_at, optional_at, end_at}
 use Rattle.ts_der.specs.View.{StandsIfAny}
@@ -27,7 +27,7 @@ use Rattle.ts_cert.specs.declared.time.Time.{Time}
 use Rattle.ts_cert.specs.declared.time.Validity.{Validity}
 use Rattle.ts_shape.specs.Fault.{der, breaks}
 use Rattle.ts_shape.specs.Fields.{Within}
-use Rattle.ts_cert.specs.Spelling.{IsTimeIn, IsTime, IsValidity, version_octets}
+use Rattle.ts_cert.specs.Encoding.{IsTimeIn, IsTime, IsValidity, version_octets}
 use Rattle.ts_cert.specs.Time.{time_of, time_at, validity_of}
 use Rattle.ts_cert.specs.Version.{version_named, number_of, not_default, version_of, version_if, version_at}
 use Rattle.ts_cert.specs.Reading.{validity_at}
@@ -41,28 +41,28 @@ moment-ok (Some n) at m e = ap (λ (z : ℤ). Some z) (ok_is {E = Fault} n m e)
 moment-ok None at m e = absurd cc
 
 -- the content of an element of this tag
-at_tag : {A : Type 0} (tag : ℕ) (Spells : List ℕ → A → Type 0) (e : Tlv) (x : A) → e.tag ≡ tag → Fits e.tag e.content → e.whole ≡ spell e.tag e.content → Spells e.content x → Within tag Spells e.whole x
-at_tag tag Spells e x t fits spelled is =
-    record { content = e.content; fits = subst (λ (u : ℕ). Fits u e.content) t fits; spelled = spelled ∙ ap (λ (u : ℕ). spell u e.content) t; value = is }
+at_tag : {A : Type 0} (tag : ℕ) (Encodes : List ℕ → A → Type 0) (e : Tlv) (x : A) → e.tag ≡ tag → Fits e.tag e.content → e.whole ≡ encode e.tag e.content → Encodes e.content x → Within tag Encodes e.whole x
+at_tag tag Encodes e x t fits encoded is =
+    record { content = e.content; fits = subst (λ (u : ℕ). Fits u e.content) t fits; encoded = encoded ∙ ap (λ (u : ℕ). encode u e.content) t; value = is }
 
 abbrev time_by : Bool → Bool → Tlv → Result Time Fault
 time_by utc general e =
     cond utc (located e.at (utc_value e.content) >>= λ m. Ok (record { form = Utc; moment = m }))
     (cond general (located e.at (general_value e.content) >>= λ m. Ok (record { form = General; moment = m })) (Err (fault_at e.at WrongTag)))
 
-pub time_of-found : (e : Tlv) (t : Time) → Fits e.tag e.content → e.whole ≡ spell e.tag e.content → time_of e ≡ Ok t → IsTime e.whole t
+pub time_of-found : (e : Tlv) (t : Time) → Fits e.tag e.content → e.whole ≡ encode e.tag e.content → time_of e ≡ Ok t → IsTime e.whole t
 unfolding time_of
-time_of-found e t fits spelled read = by_tag (eqb e.tag 0x17) (eqb e.tag 0x18) refl refl read
+time_of-found e t fits encoded read = by_tag (eqb e.tag 0x17) (eqb e.tag 0x18) refl refl read
   where
     by_tag : (b c : Bool) → eqb e.tag 0x17 ≡ b → eqb e.tag 0x18 ≡ c → time_by b c e ≡ Ok t → IsTime e.whole t
     by_tag true c u g r =
         let m = bind_ok (located e.at (utc_value e.content)) (λ m. Ok (record { form = Utc; moment = m })) t r in
         let value = utc_in-found e.content m.0 (moment-ok (utc_in e.content) e.at m.0 m.1) in
-        subst (λ (x : Time). IsTime e.whole x) (ok_is {A = Time} {E = Fault} (record { form = Utc; moment = m.0 }) t m.2) (at_tag 0x17 IsUtc e m.0 (eqb-true e.tag 0x17 u) fits spelled value)
+        subst (λ (x : Time). IsTime e.whole x) (ok_is {A = Time} {E = Fault} (record { form = Utc; moment = m.0 }) t m.2) (at_tag 0x17 IsUtc e m.0 (eqb-true e.tag 0x17 u) fits encoded value)
     by_tag false true u g r =
         let m = bind_ok (located e.at (general_value e.content)) (λ m. Ok (record { form = General; moment = m })) t r in
         let value = general_in-found e.content m.0 (moment-ok (general_in e.content) e.at m.0 m.1) in
-        subst (λ (x : Time). IsTime e.whole x) (ok_is {A = Time} {E = Fault} (record { form = General; moment = m.0 }) t m.2) (at_tag 0x18 IsGeneral e m.0 (eqb-true e.tag 0x18 g) fits spelled value)
+        subst (λ (x : Time). IsTime e.whole x) (ok_is {A = Time} {E = Fault} (record { form = General; moment = m.0 }) t m.2) (at_tag 0x18 IsGeneral e m.0 (eqb-true e.tag 0x18 g) fits encoded value)
     by_tag false false u g r = absurd cc
 
 time-found : (here : Place) (t : Time) (after : Place) → AreOctets here.rest → time_at here ≡ Ok (t, after) → (w : List ℕ) × IsTime w t × (here.rest ≡ w ++ after.rest)
@@ -71,23 +71,23 @@ time-found here t after fits read =
     let b = bind_ok (next_at here) (λ e. time_of e.0 >>= λ time. Ok (time, e.1)) (t, after) read in
     let y = bind_ok (time_of b.0.0) (λ time. Ok (time, b.0.1)) (t, after) b.2 in
     let s = next-found here b.0.0 b.0.1 fits b.1 in
-    let is = time_of-found b.0.0 y.0 s.fits s.spelled y.1 in
+    let is = time_of-found b.0.0 y.0 s.fits s.encoded y.1 in
     subst (λ (p : Time × Place). (w : List ℕ) × IsTime w p.0 × (here.rest ≡ w ++ p.1.rest)) (ok_is {A = Time × Place} {E = Fault} (y.0, b.0.1) (t, after) y.2) (b.0.0.whole, is, s.whole)
 
 again_in : (f : TimeForm) (m : ℤ) (here : Place) (w rest : List ℕ) → IsTimeIn f w m → here.rest ≡ w ++ rest
     → time_at here ≡ Ok (record { form = f; moment = m }, record { rest = rest; at = here.at + length w })
 unfolding time_at time_of
 again_in Utc m here w rest is e =
-    let one = next-only here 0x17 is.content rest is.fits (e ∙ ap (λ (o : List ℕ). o ++ rest) is.spelled) in
-    rw (one, utc_in-only is.content m is.value) (ap (λ (o : List ℕ). Ok (record { form = Utc; moment = m }, record { rest = rest; at = here.at + length o })) (sym is.spelled))
+    let one = next-only here 0x17 is.content rest is.fits (e ∙ ap (λ (o : List ℕ). o ++ rest) is.encoded) in
+    rw (one, utc_in-only is.content m is.value) (ap (λ (o : List ℕ). Ok (record { form = Utc; moment = m }, record { rest = rest; at = here.at + length o })) (sym is.encoded))
 again_in General m here w rest is e =
-    let one = next-only here 0x18 is.content rest is.fits (e ∙ ap (λ (o : List ℕ). o ++ rest) is.spelled) in
-    rw (one, general_in-only is.content m is.value) (ap (λ (o : List ℕ). Ok (record { form = General; moment = m }, record { rest = rest; at = here.at + length o })) (sym is.spelled))
+    let one = next-only here 0x18 is.content rest is.fits (e ∙ ap (λ (o : List ℕ). o ++ rest) is.encoded) in
+    rw (one, general_in-only is.content m is.value) (ap (λ (o : List ℕ). Ok (record { form = General; moment = m }, record { rest = rest; at = here.at + length o })) (sym is.encoded))
 
 pub time-part : Part time_at IsTime
 time-part = record { found = time-found; again = λ here t w rest is e. again_in t.form t.moment here w rest is e }
 
-validity-found : (e : Tlv) (v : Validity) → AreOctets e.content → e.whole ≡ spell 0x30 e.content → validity_of e ≡ Ok v → IsValidity e.content v
+validity-found : (e : Tlv) (v : Validity) → AreOctets e.content → e.whole ≡ encode 0x30 e.content → validity_of e ≡ Ok v → IsValidity e.content v
 unfolding validity_of
 validity-found e v fits w read =
     let a = bind_ok (time_at (inside e)) _ v read in
@@ -99,7 +99,7 @@ validity-found e v fits w read =
     let last : a.0.1.rest ≡ second.0 = second.2 ∙ (ap (λ (r : List ℕ). second.0 ++ r) (end-ok b.0.1 d.0 d.1) ∙ append-nil second.0) in
     subst (λ (x : Validity). IsValidity e.content x) same (record { before = first.0; after = second.0; not_before = first.1; not_after = second.1; fields = first.2 ∙ ap (λ (r : List ℕ). first.0 ++ r) last })
 
-validity-again : (e : Tlv) (v : Validity) → e.whole ≡ spell 0x30 e.content → IsValidity e.content v → validity_of e ≡ Ok v
+validity-again : (e : Tlv) (v : Validity) → e.whole ≡ encode 0x30 e.content → IsValidity e.content v → validity_of e ≡ Ok v
 unfolding validity_of
 validity-again e v w is =
     let a = time-part.again (inside e) v.not_before is.before is.after is.not_before is.fields in
@@ -142,13 +142,13 @@ number-found e v read =
     let b = bind_ok (der (value_at integer_rules (λ c. c) e)) (λ content. version_named e.at content) v read in
     integer-ok (is_shortest e.content) e.at e.content b.0 b.1 ∙ named-found e.at b.0 v b.2
 
-kept : (e : Tlv) (v w : Version) → not_default e v ≡ Ok w → spell 0xA0 (spell 0x02 (version_content v)) ≡ version_octets w
+kept : (e : Tlv) (v w : Version) → not_default e v ≡ Ok w → encode 0xA0 (encode 0x02 (version_content v)) ≡ version_octets w
 unfolding version_content
 kept e V1 w r = absurd cc
 kept e V2 w r = ap version_octets (ok_is {E = CertFault} V2 w r)
 kept e V3 w r = ap version_octets (ok_is {E = CertFault} V3 w r)
 
-version_of-found : (e : Tlv) (v : Version) → AreOctets e.content → version_of e ≡ Ok v → spell 0xA0 e.content ≡ version_octets v
+version_of-found : (e : Tlv) (v : Version) → AreOctets e.content → version_of e ≡ Ok v → encode 0xA0 e.content ≡ version_octets v
 unfolding version_of
 version_of-found e v fits read =
     let n = bind_ok (der (element_at 0x02 (inside e))) _ v read in
@@ -156,12 +156,12 @@ version_of-found e v fits read =
     let d = bind_ok (der (end_at n.0.1)) _ v k.2 in
     let s = element-found 0x02 (inside e) n.0.0 n.0.1 fits (der-ok (element_at 0x02 (inside e)) n.0 n.1) in
     let stands = s.0 in
-    let content : e.content ≡ spell 0x02 (version_content k.0) =
+    let content : e.content ≡ encode 0x02 (version_content k.0) =
     stands.whole
     ∙ (ap (λ (r : List ℕ). n.0.0.whole ++ r) (end-ok n.0.1 d.0 (der-ok (end_at n.0.1) d.0 d.1))
     ∙ (append-nil n.0.0.whole
-    ∙ (stands.spelled ∙ (ap (λ (t : ℕ). spell t n.0.0.content) s.1 ∙ ap (λ (c : List ℕ). spell 0x02 c) (number-found n.0.0 k.0 k.1))))) in
-    ap (λ (c : List ℕ). spell 0xA0 c) content ∙ kept e k.0 v d.2
+    ∙ (stands.encoded ∙ (ap (λ (t : ℕ). encode t n.0.0.content) s.1 ∙ ap (λ (c : List ℕ). encode 0x02 c) (number-found n.0.0 k.0 k.1))))) in
+    ap (λ (c : List ℕ). encode 0xA0 c) content ∙ kept e k.0 v d.2
 
 pub version-found : (here : Place) (v : Version) (after : Place) → AreOctets here.rest → version_at here ≡ Ok (v, after) → here.rest ≡ version_octets v ++ after.rest
 unfolding version_at
@@ -175,24 +175,24 @@ version-found here v after fits read =
     by_option : (x : Option Tlv) (behind : Place) (u : Version) → StandsIfAny here x 0xA0 behind → version_if x ≡ Ok u → here.rest ≡ version_octets u ++ behind.rest
     by_option None behind u stands r = ap (λ (p : Place). p.rest) (sym stands) ∙ ap (λ (w : Version). version_octets w ++ behind.rest) (ok_is {E = CertFault} V1 u r)
     by_option (Some e) behind u stands r =
-        let whole : here.rest ≡ spell 0xA0 e.content ++ behind.rest = stands.0.whole ∙ (ap (λ (w : List ℕ). w ++ behind.rest) stands.0.spelled ∙ ap (λ (t : ℕ). spell t e.content ++ behind.rest) stands.1) in
+        let whole : here.rest ≡ encode 0xA0 e.content ++ behind.rest = stands.0.whole ∙ (ap (λ (w : List ℕ). w ++ behind.rest) stands.0.encoded ∙ ap (λ (t : ℕ). encode t e.content ++ behind.rest) stands.1) in
         let inner = AreOctets-part 0xA0 e.content behind.rest (subst AreOctets whole fits) in
         whole ∙ ap (λ (w : List ℕ). w ++ behind.rest) (version_of-found e u inner r)
 
 fits_number : (n : ℕ) → Fits 0x02 (n ∷ [])
 fits_number n = record { octet = omega arith; low = omega arith; short = omega arith }
 
-pub fits_version : (n : ℕ) → Fits 0xA0 (spell 0x02 (n ∷ []))
+pub fits_version : (n : ℕ) → Fits 0xA0 (encode 0x02 (n ∷ []))
 unfolding length_octets
 fits_version n = record { octet = omega arith; low = omega arith; short = omega arith }
 
-present-again : (n at : ℕ) (v : Version) → not_default (spelled_at at 0xA0 (spell 0x02 (n ∷ []))) v ≡ Ok v → number_of (spelled_at (spelled_at at 0xA0 (spell 0x02 (n ∷ []))).start 0x02 (n ∷ [])) ≡ Ok v
-    → version_of (spelled_at at 0xA0 (spell 0x02 (n ∷ []))) ≡ Ok v
+present-again : (n at : ℕ) (v : Version) → not_default (encoded_at at 0xA0 (encode 0x02 (n ∷ []))) v ≡ Ok v → number_of (encoded_at (encoded_at at 0xA0 (encode 0x02 (n ∷ []))).start 0x02 (n ∷ [])) ≡ Ok v
+    → version_of (encoded_at at 0xA0 (encode 0x02 (n ∷ []))) ≡ Ok v
 unfolding version_of
 present-again n at v keeps number =
-    let e : Tlv = spelled_at at 0xA0 (spell 0x02 (n ∷ [])) in
-    let one = element-only (inside e) 0x02 (n ∷ []) [] (fits_number n) (sym (append-nil (spell 0x02 (n ∷ [])))) in
-    rw (one, number, end-again (e.start + length (spell 0x02 (n ∷ []))), keeps) refl
+    let e : Tlv = encoded_at at 0xA0 (encode 0x02 (n ∷ [])) in
+    let one = element-only (inside e) 0x02 (n ∷ []) [] (fits_number n) (sym (append-nil (encode 0x02 (n ∷ [])))) in
+    rw (one, number, end-again (e.start + length (encode 0x02 (n ∷ []))), keeps) refl
 
 pub version-again : (here : Place) (v : Version) (rest : List ℕ) → begins_with 0xA0 rest ≡ false → here.rest ≡ version_octets v ++ rest
     → version_at here ≡ Ok (v, record { rest = rest; at = here.at + length (version_octets v) })
@@ -202,12 +202,12 @@ version-again here V1 rest b e =
     let at : here ≡ record { rest = rest; at = here.at + 0 } = ap (λ (r : List ℕ). record { rest = r; at = here.at }) e ∙ ap (λ (n : ℕ). record { rest = rest; at = n }) (omega arith) in
     rw none (ap (λ (p : Place). Ok (V1, p)) at)
 version-again here V2 rest b e =
-    let one = element-only here 0xA0 (spell 0x02 (1 ∷ [])) rest (fits_version 1) e in
+    let one = element-only here 0xA0 (encode 0x02 (1 ∷ [])) rest (fits_version 1) e in
     let there : begins_with 0xA0 here.rest ≡ true = ap (begins_with 0xA0) e in
     let v = present-again 1 here.at V2 refl refl in
     rw (there, one, v) refl
 version-again here V3 rest b e =
-    let one = element-only here 0xA0 (spell 0x02 (2 ∷ [])) rest (fits_version 2) e in
+    let one = element-only here 0xA0 (encode 0x02 (2 ∷ [])) rest (fits_version 2) e in
     let there : begins_with 0xA0 here.rest ≡ true = ap (begins_with 0xA0) e in
     let v = present-again 2 here.at V3 refl refl in
     rw (there, one, v) refl

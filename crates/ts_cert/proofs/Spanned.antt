@@ -2,32 +2,32 @@
 use Rattle.std.proofs.Common.{◌≡◌, ℕ, ℤ, ◌+◌, ◌-◌, ◌≤◌, List, [], ◌∷◌, ◌++◌, length, take, drop, get_or, refl, sym, ap, subst, ◌∙◌, append_assoc, arith}
 use Rattle.std.proofs.lemmas.List.{append_cancel_right, length-append, length-drop, length-take-le, take_at, take-append-drop, drop-drop}
 use Rattle.ts_der.specs.declared.bounds.Bounds.{Bounds}
-use Rattle.ts_der.specs.Element.{spell, length_octets}
+use Rattle.ts_der.specs.Element.{encode, length_octets}
 use Rattle.ts_der.specs.Stands.{HavePart, between, HasElement}
 use Rattle.ts_shape.specs.Fields.{Within}
-use Rattle.ts_der.proofs.Standing.{part-taken, spelled-out}
+use Rattle.ts_der.proofs.Standing.{part-taken, encoded-out}
 use Rattle.ts_der.proofs.Lengths.{length_octets-short}
 use Rattle.ts_time.specs.Text.{IsUtc}
 use Rattle.ts_cert.specs.declared.time.TimeForm.TheVariants.{Utc}
-use Rattle.ts_cert.specs.Spelling.{IsTime}
+use Rattle.ts_cert.specs.Encoding.{IsTime}
 use Rattle.ts_cert.specs.Layout.{Spans, IsRepeated, IsVersion3}
 
--- an element whose content spells a value
-pub spans : {A : Type 0} (tag : ℕ) (Spells : List ℕ → A → Type 0) (octets : List ℕ) (at : ℕ) (b : Bounds) (x : A) → HasElement octets at tag b → Spells (between octets b) x → Spans (Within tag Spells) octets at b.end
-spans tag Spells octets at b x has is =
+-- an element whose content encodes a value
+pub spans : {A : Type 0} (tag : ℕ) (Encodes : List ℕ → A → Type 0) (octets : List ℕ) (at : ℕ) (b : Bounds) (x : A) → HasElement octets at tag b → Encodes (between octets b) x → Spans (Within tag Encodes) octets at b.end
+spans tag Encodes octets at b x has is =
     record {
       value = x;
-      part = spell tag (between octets b);
+      part = encode tag (between octets b);
       here = has.whole;
-      spelled = record { content = between octets b; fits = has.fits; spelled = refl; value = is };
+      encoded = record { content = between octets b; fits = has.fits; encoded = refl; value = is };
       ends = has.within;
     }
 
--- what stands between two offsets stands there alone
+-- what is between two offsets is there alone
 pub one-part : (octets a b : List ℕ) (from to : ℕ) → HavePart octets from a to → HavePart octets from b to → a ≡ b
 one-part octets a b from to first second = append_cancel_right a b (drop to octets) (sym first ∙ second)
 
--- two parts, one behind the other
+-- two parts, one after the other
 pub joined : (octets a b : List ℕ) (from mid to : ℕ) → HavePart octets from a mid → HavePart octets mid b to → HavePart octets from (a ++ b) to
 joined octets a b from mid to first second = first ∙ (ap (λ (r : List ℕ). a ++ r) second ∙ sym (append_assoc a b (drop to octets)))
 
@@ -48,24 +48,24 @@ part-between octets a from to here begins ends =
     ap (λ (o : List ℕ). take (to - from) o) here ∙ take_at a (drop to octets) (to - from) size
 
 -- an element that is all of the content of another
-pub content-alone : (octets : List ℕ) (at tag other : ℕ) (outer inner : Bounds) → HasElement octets at tag outer → HasElement octets outer.start other inner → inner.end ≡ outer.end → between octets outer ≡ spell other (between octets inner)
+pub content-alone : (octets : List ℕ) (at tag other : ℕ) (outer inner : Bounds) → HasElement octets at tag outer → HasElement octets outer.start other inner → inner.end ≡ outer.end → between octets outer ≡ encode other (between octets inner)
 content-alone octets at tag other outer inner has is same =
-    one-part octets (between octets outer) (spell other (between octets inner)) outer.start outer.end has.inner (subst (λ (n : ℕ). HavePart octets outer.start (spell other (between octets inner)) n) same is.whole)
+    one-part octets (between octets outer) (encode other (between octets inner)) outer.start outer.end has.inner (subst (λ (n : ℕ). HavePart octets outer.start (encode other (between octets inner)) n) same is.whole)
 
 -- octets of which the first is known
 pub first-octet : (octets : List ℕ) (octet : ℕ) → 1 ≤ length octets → get_or octets 0 0 ≡ octet → octets ≡ octet ∷ drop 1 octets
 first-octet [] octet some is = absurd (omega arith)
 first-octet (x ∷ octets) octet some is = ap (λ (o : ℕ). o ∷ octets) is
 
--- a value that is spelled once more
-pub again : {A : Type 0} (Spells : List ℕ → A → Type 0) (octets : List ℕ) (at from to end : ℕ) → Spans Spells octets from to → IsRepeated octets at from to end → Spans Spells octets at end
-again Spells octets at from to end is twice =
+-- a value that is encoded once more
+pub again : {A : Type 0} (Encodes : List ℕ → A → Type 0) (octets : List ℕ) (at from to end : ℕ) → Spans Encodes octets from to → IsRepeated octets at from to end → Spans Encodes octets at end
+again Encodes octets at from to end is twice =
     let same = one-part octets twice.part is.part from to twice.first is.here in
     record {
       value = is.value;
       part = is.part;
       here = subst (λ (p : List ℕ). HavePart octets at p end) same twice.second;
-      spelled = is.spelled;
+      encoded = is.encoded;
       ends = twice.ends;
     }
 
@@ -83,7 +83,7 @@ repeated octets at from to same ordered within ends =
 pub version-3 : (octets r : List ℕ) (at : ℕ) → r ≡ drop at octets → 5 ≤ length r → get_or r 0 0 ≡ 0xA0 → get_or r 1 0 ≡ 3 → get_or r 2 0 ≡ 0x02 → get_or r 3 0 ≡ 1 → get_or r 4 0 ≡ 2 → IsVersion3 octets at (at + 5)
 unfolding length_octets
 version-3 octets r at is long first second third fourth fifth =
-    let here : r ≡ get_or r 0 0 ∷ get_or r 1 0 ∷ get_or r 2 0 ∷ get_or r 3 0 ∷ get_or r 4 0 ∷ drop 5 r = spelled-out r 0 5 5 refl long in
+    let here : r ≡ get_or r 0 0 ∷ get_or r 1 0 ∷ get_or r 2 0 ∷ get_or r 3 0 ∷ get_or r 4 0 ∷ drop 5 r = encoded-out r 0 5 5 refl long in
     let behind : drop 5 r ≡ drop (at + 5) octets = ap (λ (o : List ℕ). drop 5 o) is ∙ drop-drop 5 at octets in
     record {
       here = sym is ∙ (here ∙ rw (first, second, third, fourth, fifth) (ap (λ (o : List ℕ). 0xA0 ∷ 3 ∷ 0x02 ∷ 1 ∷ 2 ∷ o) behind));
@@ -93,7 +93,7 @@ version-3 octets r at is long first second third fourth fifth =
 -- a UTCTime, by its first two octets and its text
 pub utc-span : (octets r text : List ℕ) (at : ℕ) (moment : ℤ) → r ≡ drop at octets → 2 ≤ length r → get_or r 0 0 ≡ 0x17 → get_or r 1 0 ≡ 13 → text ≡ drop 2 r → 16 ≤ length text → IsUtc (take 13 text) moment → Spans IsTime octets at (at + 15)
 utc-span octets r text at moment is long first second is_text many utc =
-    let here : r ≡ get_or r 0 0 ∷ get_or r 1 0 ∷ drop 2 r = spelled-out r 0 2 2 refl long in
+    let here : r ≡ get_or r 0 0 ∷ get_or r 1 0 ∷ drop 2 r = encoded-out r 0 2 2 refl long in
     let size : length (take 13 text) ≡ 13 = length-take-le 13 text (omega arith) in
     let split : drop 2 r ≡ take 13 text ++ drop 13 text = sym (take-append-drop 13 text ∙ is_text) in
     let behind : drop 13 text ≡ drop (at + 15) octets = ap (λ (o : List ℕ). drop 13 o) (is_text ∙ ap (λ (o : List ℕ). drop 2 o) is) ∙ (ap (λ (o : List ℕ). drop 13 o) (drop-drop 2 at octets) ∙ (drop-drop 13 (at + 2) octets ∙ ap (λ (n : ℕ). drop n octets) (omega arith))) in
@@ -101,10 +101,10 @@ utc-span octets r text at moment is long first second is_text many utc =
       value = record { form = Utc; moment = moment };
       part = 0x17 ∷ 13 ∷ take 13 text;
       here = sym is ∙ (here ∙ rw (first, second) (ap (λ (o : List ℕ). 0x17 ∷ 13 ∷ o) (split ∙ ap (λ (o : List ℕ). take 13 text ++ o) behind)));
-      spelled = record {
+      encoded = record {
         content = take 13 text;
         fits = record { octet = omega arith; low = λ e. omega arith; short = omega (arith, size) };
-        spelled = ap (λ (o : List ℕ). 0x17 ∷ (o ++ take 13 text)) (sym (ap length_octets size ∙ length_octets-short 13 (omega arith)));
+        encoded = ap (λ (o : List ℕ). 0x17 ∷ (o ++ take 13 text)) (sym (ap length_octets size ∙ length_octets-short 13 (omega arith)));
         value = utc;
       };
       ends = omega (arith, many, ap (λ (o : List ℕ). length o) is_text, length-drop 2 r, ap (λ (o : List ℕ). length o) is, length-drop at octets);

@@ -10,7 +10,7 @@ use Rattle.ts_der.specs.declared.fault.Fault.{Fault}
 use Rattle.ts_der.specs.declared.reader.Element.{Element}
 use Rattle.ts_der.specs.Octets.{AreOctets}
 use Rattle.ts_der.specs.Answer.{◌>>=◌, Answers}
-use Rattle.ts_der.specs.Element.{Place, Tlv, inside, spelled_at}
+use Rattle.ts_der.specs.Element.{Place, Tlv, inside, encoded_at}
 use Rattle.ts_der.specs.Reading.{next_at, end_at}
 use Rattle.ts_der.specs.View.{now}
 use Rattle.ts_shape.specs.Items.{each, alone, tagged_as, of_tag}
@@ -23,28 +23,28 @@ use Rattle.ts_ext.specs.declared.known.Holder.TheVariants.{Certificate as Certif
 use Rattle.ts_ext.specs.declared.known.Known.{Known}
 use Rattle.ts_ext.specs.AuthorityKey.{octets_of}
 use Rattle.ts_ext.specs.Ext.{ExtValue, IsExt, layout_of, read_as, content_of, ext_of}
-use Rattle.ts_ext.specs.Extension.{Extension, Standing, said}
-use Rattle.ts_ext.specs.ExtensionView.{standing_as}
+use Rattle.ts_ext.specs.Extension.{Extension, Located, unlocated}
+use Rattle.ts_ext.specs.ExtensionView.{located_as}
 use Rattle.ts_ext.specs.Known.{known_at, identifier_of}
 use Rattle.ts_ext.specs.Rules.{broken_rule}
-use Rattle.ts_ext.specs.ValueRules.{IsSound, AreSound}
+use Rattle.ts_ext.specs.ValueRules.{IsValid, AreValid}
 use Rattle.ts_ext.proofs.Formats.{Format, value_of}
 use Rattle.ts_ext.proofs.Exts.{ext-again}
 use Rattle.ts_ext.proofs.KeyAndConstraints.{octets-format}
 use Rattle.ts_cert.specs.Certificate.{Tbs, all_extensions, Certificate}
-use Rattle.ts_cert.specs.Spelling.{IsCertificate}
+use Rattle.ts_cert.specs.Encoding.{IsCertificate}
 use Rattle.ts_cert.specs.Stated.{known_extension, value_of_octets, stated}
 
 -- ---- elements with one content
 
 -- what is read of one element is read of each other that has its content
-one-content : {A : Type 0} (value : Tlv → Result A Fault) (Spells : List ℕ → A → Type 0)
-    → ((e : Tlv) (x : A) → AreOctets e.content → value e ≡ Ok x → Spells e.content x) → ((e : Tlv) (x : A) → Spells e.content x → value e ≡ Ok x)
+one-content : {A : Type 0} (value : Tlv → Result A Fault) (Encodes : List ℕ → A → Type 0)
+    → ((e : Tlv) (x : A) → AreOctets e.content → value e ≡ Ok x → Encodes e.content x) → ((e : Tlv) (x : A) → Encodes e.content x → value e ≡ Ok x)
     → (e f : Tlv) → AreOctets e.content → e.content ≡ f.content → result_ok (value e) ≡ result_ok (value f)
-one-content {A} value Spells found again e f fits same = by_both (value e) (value f) refl refl
+one-content {A} value Encodes found again e f fits same = by_both (value e) (value f) refl refl
   where
     other : (e f : Tlv) (x : A) → AreOctets e.content → e.content ≡ f.content → value e ≡ Ok x → value f ≡ Ok x
-    other e f x fits same read = again f x (subst (λ (c : List ℕ). Spells c x) same (found e x fits read))
+    other e f x fits same read = again f x (subst (λ (c : List ℕ). Encodes c x) same (found e x fits read))
 
     no : {x : A} {d : Fault} → (let r : Result A Fault = Ok x in r ≡ Err d) → ⊥
     no h = cc
@@ -70,7 +70,7 @@ alone-content {A} {value} {Is} format tag =
 abbrev beside : {A : Type 0} → Place → A → Result (A × Place) Fault
 beside after x = Ok (x, after)
 
--- and nothing behind it
+-- and nothing after it
 abbrev sole : {A : Type 0} → A × Place → Result A Fault
 sole x = end_at x.1 >>= λ done. Ok x.0
 
@@ -100,21 +100,21 @@ alone-then {A} tag reading e = by_next (next_at (inside e))
 
 -- ---- the extension that stands
 
-find-said : (p : Extension → Bool) (xs : List Standing) → find p (map said xs) ≡ option_map said (find (λ x. p (said x)) xs)
-find-said p [] = refl
-find-said p (x ∷ xs) = by_test (p (said x)) (find-said p xs)
+find-unlocated : (p : Extension → Bool) (xs : List Located) → find p (map unlocated xs) ≡ option_map unlocated (find (λ x. p (unlocated x)) xs)
+find-unlocated p [] = refl
+find-unlocated p (x ∷ xs) = by_test (p (unlocated x)) (find-unlocated p xs)
   where
-    by_test : (b : Bool) → find p (map said xs) ≡ option_map said (find (λ y. p (said y)) xs)
-        → cond b (Some (said x)) (find p (map said xs)) ≡ option_map said (cond b (Some x) (find (λ y. p (said y)) xs))
+    by_test : (b : Bool) → find p (map unlocated xs) ≡ option_map unlocated (find (λ y. p (unlocated y)) xs)
+        → cond b (Some (unlocated x)) (find p (map unlocated xs)) ≡ option_map unlocated (cond b (Some x) (find (λ y. p (unlocated y)) xs))
     by_test true more = refl
     by_test false more = more
 
 -- ---- what the content of a value is
 
--- the octets of an extension, where they stand, are one value
+-- the octets of an extension, where they are, are one value
 octets-stated : {A : Type 0} {value : Tlv → Result A Fault} {Is : List ℕ → A → Type 0} {shape : Shape} {rules : ContentRules} → Format value Is shape rules
     → (known : Known) (x : Element) → result_ok (alone (of_tag (layout_of known).tag value) (now x)) ≡ value_of_octets known value x.content.now
-octets-stated format known x = alone-content format (layout_of known).tag (now x) (spelled_at 0 0x04 x.content.now) x.octets refl
+octets-stated format known x = alone-content format (layout_of known).tag (now x) (encoded_at 0 0x04 x.content.now) x.octets refl
 
 -- where no element stands nothing is read
 pub stated_none : {A : Type 0} (known : Known) (value : Tlv → Result A Fault) (t : Tbs) → stated known octets_of t ≡ None → stated known value t ≡ None
@@ -128,7 +128,7 @@ stated_none {A} known value t none = sym (by_extension (known_extension known t)
     by_extension : (o : Option Extension) → None ≡ option_and_then (λ x. value_of_octets known octets_of x.extnValue) o → None ≡ option_and_then (λ x. value_of_octets known value x.extnValue) o
     by_extension None e = refl
     by_extension (Some x) e =
-        let s = spelled_at 0 0x04 x.extnValue in
+        let s = encoded_at 0 0x04 x.extnValue in
         by_octets s (alone (tagged_as (layout_of known).tag) s) refl (e ∙ alone-then (layout_of known).tag octets_of s) ∙ sym (alone-then (layout_of known).tag value s)
 
 -- else what is read of its element, wherever that stands
@@ -147,7 +147,7 @@ stated-some {A} {value} format known t e fits some = by_extension (known_extensi
     by_extension : (o : Option Extension) → Some e.content ≡ option_and_then (λ x. value_of_octets known octets_of x.extnValue) o → result_ok (value e) ≡ option_and_then (λ x. value_of_octets known value x.extnValue) o
     by_extension None is = absurd cc
     by_extension (Some x) is =
-        let s = spelled_at 0 0x04 x.extnValue in
+        let s = encoded_at 0 0x04 x.extnValue in
         by_octets (alone (tagged_as (layout_of known).tag) s) (is ∙ alone-then (layout_of known).tag octets_of s) ∙ sym (alone-then (layout_of known).tag value s)
 
 -- ---- what readers answer
@@ -158,22 +158,22 @@ unfolding stated
 none-stands known t none = rw none refl
 
 -- whether an extension that stands is this one
-abbrev pub is_known : Known → Standing → Bool
+abbrev pub is_known : Known → Located → Bool
 is_known known x = bytes_eq x.extnID (identifier_of known)
 
-known-said : (known : Known) (t : Tbs) (xs : List Standing) → t.extensions ≡ Some (map said xs) → known_extension known t ≡ option_map said (find (is_known known) xs)
-known-said known t xs some = rw some (find-said (λ x. bytes_eq x.extnID (identifier_of known)) xs)
+known-unlocated : (known : Known) (t : Tbs) (xs : List Located) → t.extensions ≡ Some (map unlocated xs) → known_extension known t ≡ option_map unlocated (find (is_known known) xs)
+known-unlocated known t xs some = rw some (find-unlocated (λ x. bytes_eq x.extnID (identifier_of known)) xs)
 
 -- nor where none of those that stand is this one
-pub none-found : (known : Known) (t : Tbs) (xs : List Standing) → t.extensions ≡ Some (map said xs) → None ≡ find (is_known known) xs → None ≡ stated known octets_of t
+pub none-found : (known : Known) (t : Tbs) (xs : List Located) → t.extensions ≡ Some (map unlocated xs) → None ≡ find (is_known known) xs → None ≡ stated known octets_of t
 unfolding stated
-none-found known t xs some none = rw (known-said known t xs some, sym none) refl
+none-found known t xs some none = rw (known-unlocated known t xs some, sym none) refl
 
 -- else the content of the one element within its octets is
-pub one-found : (known : Known) (t : Tbs) (xs : List Standing) → t.extensions ≡ Some (map said xs) → (x : Lent) → Some (standing_as x) ≡ find (is_known known) xs
+pub one-found : (known : Known) (t : Tbs) (xs : List Located) → t.extensions ≡ Some (map unlocated xs) → (x : Lent) → Some (located_as x) ≡ find (is_known known) xs
     → (r : Result Element Fault) → Answers now r (alone (tagged_as (layout_of known).tag) (now x.value)) → option_map (λ e. e.content.now) (result_ok r) ≡ stated known octets_of t
 unfolding stated
-one-found known t xs some x found r answers = by_answer r answers ∙ sym (alone-then (layout_of known).tag octets_of (now x.value)) ∙ octets-stated octets-format known x.value ∙ rw (known-said known t xs some, sym found) refl
+one-found known t xs some x found r answers = by_answer r answers ∙ sym (alone-then (layout_of known).tag octets_of (now x.value)) ∙ octets-stated octets-format known x.value ∙ rw (known-unlocated known t xs some, sym found) refl
   where
     by_answer : (r : Result Element Fault) → Answers now r (alone (tagged_as (layout_of known).tag) (now x.value))
         → option_map (λ e. e.content.now) (result_ok r) ≡ result_ok (alone (tagged_as (layout_of known).tag) (now x.value) >>= octets_of)
@@ -193,7 +193,7 @@ answers-stated {X} {A} {value} format known view t e r some answers = by_answer 
     by_answer (Ok x) a = ap (λ (s : Result A Fault). result_ok s) (sym a)
     by_answer (Err f) a = ap (λ (s : Result A Fault). result_ok s) (sym a)
 
--- the same of a reader that answers the value itself
+-- the same for a reader that answers the value itself
 abbrev pub AnswersItself : {A : Type 0} → Known → (Tlv → Result A Fault) → Type 0
 AnswersItself {A} known value =
     (t : Tbs) (e : Element) (r : Result A Fault) → Some e.content.now ≡ stated known octets_of t → Answers (λ x. x) r (value (now e)) → result_ok r ≡ stated known value t
@@ -209,26 +209,26 @@ answers-itself {A} format known t e r some answers = alike (result_ok r) ∙ ans
 -- ---- certificates
 
 -- what is found among extensions whose values break no rule is one of them
-find-sound : (holder : Holder) (p : Extension → Bool) (xs : List Extension) (x : Extension) → AreSound holder xs → find p xs ≡ Some x → IsSound holder x × (p x ≡ true)
+find-sound : (holder : Holder) (p : Extension → Bool) (xs : List Extension) (x : Extension) → AreValid holder xs → find p xs ≡ Some x → IsValid holder x × (p x ≡ true)
 find-sound holder p [] x are e = absurd cc
 find-sound holder p (y ∷ ys) x are e = by_test (p y) refl (find-sound holder p ys x are.1) e
   where
-    by_test : (b : Bool) → p y ≡ b → (find p ys ≡ Some x → IsSound holder x × (p x ≡ true)) → cond b (Some y) (find p ys) ≡ Some x → IsSound holder x × (p x ≡ true)
-    by_test true t more e = subst (λ (z : Extension). IsSound holder z × (p z ≡ true)) (some_is e) (are.0, t)
+    by_test : (b : Bool) → p y ≡ b → (find p ys ≡ Some x → IsValid holder x × (p x ≡ true)) → cond b (Some y) (find p ys) ≡ Some x → IsValid holder x × (p x ≡ true)
+    by_test true t more e = subst (λ (z : Extension). IsValid holder z × (p z ≡ true)) (some_is e) (are.0, t)
       where
         some_is : {a b : Extension} → Some a ≡ Some b → a ≡ b
         some_is h = cc
     by_test false t more e = more e
 
 -- an extension that stands has a value, which breaks no rule
-value-stated : (known : Known) (t : Tbs) → AreSound CertificateHolder (all_extensions t) → known_at CertificateHolder (identifier_of known) ≡ Some known → (x : Extension) → known_extension known t ≡ Some x
+value-stated : (known : Known) (t : Tbs) → AreValid CertificateHolder (all_extensions t) → known_at CertificateHolder (identifier_of known) ≡ Some known → (x : Extension) → known_extension known t ≡ Some x
     → (v : ExtValue) × (stated known (content_of known) t ≡ Some v) × (broken_rule v ≡ None)
 unfolding stated ext_of
 value-stated known t sound here x stands =
     let f = find-sound CertificateHolder (λ y. bytes_eq y.extnID (identifier_of known)) (all_extensions t) x sound stands in
     let same : x.extnID ≡ identifier_of known = (bytes_eq-Decides x.extnID (identifier_of known)).0 f.1 in
     let is : IsExt (Some known) x.extnValue f.0.0 = subst (λ (o : Option Known). IsExt o x.extnValue f.0.0) (ap (λ (id : List ℕ). known_at CertificateHolder id) same ∙ here) f.0.1 in
-    let read = ext-again (Some known) (spelled_at 0 0x04 x.extnValue) f.0.0 is in
+    let read = ext-again (Some known) (encoded_at 0 0x04 x.extnValue) f.0.0 is in
     (f.0.0, rw stands (ap (λ (r : Result ExtValue Fault). result_ok r) read), f.0.2)
 
 pub has-value : (octets : List ℕ) (c : Certificate) → IsCertificate octets c → (known : Known) → known_at CertificateHolder (identifier_of known) ≡ Some known
@@ -249,9 +249,9 @@ keeps-rules octets c is known here v says = by_extension (known_extension known 
         let w = value-stated known c.tbsCertificate is.sound here x stands in
         ap (λ (y : ExtValue). broken_rule y) (some_is (sym says ∙ w.1)) ∙ w.2
 
--- ---- what is said in the form of one extension
+-- ---- what a certificate says in the form of one extension
 
--- it is what is said without the form
+-- it is what the certificate says without the form
 pub stated-as : {A : Type 0} (known : Known) (value : Tlv → Result A Fault) (form : A → ExtValue) (t : Tbs) → stated known (read_as value form) t ≡ option_map form (stated known value t)
 unfolding stated
 stated-as {A} known value form t = by_extension (known_extension known t)
@@ -270,7 +270,7 @@ stated-as {A} known value form t = by_extension (known_extension known t)
     by_extension : (o : Option Extension) → option_and_then (λ x. value_of_octets known (read_as value form) x.extnValue) o ≡ option_map form (option_and_then (λ x. value_of_octets known value x.extnValue) o)
     by_extension None = refl
     by_extension (Some x) =
-        let s = spelled_at 0 0x04 x.extnValue in
+        let s = encoded_at 0 0x04 x.extnValue in
         alone-then tag (read_as value form) s ∙ by_element (alone (tagged_as tag) s) ∙ ap (λ (o : Option A). option_map form o) (sym (alone-then tag value s))
 
 -- so of a certificate an extension that stands has a value that its own reading gives

@@ -8,7 +8,7 @@ use Rattle.ts_cert.specs.declared.time.TimeForm.TheVariants.{Utc}
 use Rattle.ts_cert.specs.declared.version.Version.TheVariants.{V1}
 use Rattle.ts_cert.specs.Certificate.{Algorithm, Certificate}
 use Rattle.ts_cert.specs.Reading.{Unagreed, certificate_of}
-use Rattle.ts_cert.specs.View.{algorithm_in, late_in, fields_in}
+use Rattle.ts_cert.specs.View.{algorithm_in, optional_fields_in, fields_in}
 
 -- ---- the parts, while they are read
 
@@ -23,7 +23,7 @@ parts_in c =
 
 -- the same with places
 abbrev pub unagreed_in : Parts → Unagreed
-unagreed_in c = record { certificate = parts_in c; identifier_at = c.identifier_at; late = late_in c.fields.late }
+unagreed_in c = record { certificate = parts_in c; identifier_at = c.identifier_at; optional_fields = optional_fields_in c.fields.optional_fields }
 
 -- ---- the certificate, once it is read
 

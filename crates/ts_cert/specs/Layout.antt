@@ -6,23 +6,23 @@ use Rattle.ts_shape.specs.Fields.{IfAny}
 use Rattle.ts_shape.specs.Repeats.{first_repeated}
 use Rattle.ts_ext.specs.declared.known.Holder.TheVariants.{Certificate as CertificateHolder}
 use Rattle.ts_ext.specs.Extension.{Extension, AreExplicit}
-use Rattle.ts_ext.specs.ValueRules.{AreSound}
+use Rattle.ts_ext.specs.ValueRules.{AreValid}
 use Rattle.ts_cert.specs.declared.layout.Layout.{Layout}
 use Rattle.ts_cert.specs.declared.version.Version.TheVariants.{V3}
 use Rattle.ts_cert.specs.Certificate.{Certificate}
-use Rattle.ts_cert.specs.Spelling.{version_octets, IsTbs, IsCertificate}
+use Rattle.ts_cert.specs.Encoding.{version_octets, IsTbs, IsCertificate}
 
 -- a part of octets begins at one offset, and what follows it at another
 pub record Lies (octets : List ℕ) (from : ℕ) (part : List ℕ) (to : ℕ) : Type 0 where
   pub here : HavePart octets from part to
   pub begins : from ≤ length octets
 
--- the spelling of a value lies between two offsets
-pub record Spans {A : Type 0} (Spells : List ℕ → A → Type 0) (octets : List ℕ) (from to : ℕ) : Type 0 where
+-- the encoding of a value lies between two offsets
+pub record Spans {A : Type 0} (Encodes : List ℕ → A → Type 0) (octets : List ℕ) (from to : ℕ) : Type 0 where
   pub value : A
   pub part : List ℕ
   pub here : HavePart octets from part to
-  pub spelled : Spells part value
+  pub encoded : Encodes part value
   pub ends : to ≤ length octets
 
 -- the parts of what is signed begin at these offsets
@@ -51,37 +51,37 @@ AreLaidOut octets l = (c : Certificate) × (is : IsCertificate octets c) × AreA
 
 -- ---- while it is read
 
--- extensions behind their explicit tag, of which none stands twice and each has a sound value
-abbrev pub AreSoundExplicit : List ℕ → List Extension → Type 0
-AreSoundExplicit content xs = AreExplicit content xs × (first_repeated (λ x. x.extnID) [] xs ≡ None) × AreSound CertificateHolder xs
+-- extensions after their explicit tag, of which none occurs twice and each has a sound value
+abbrev pub AreValidExplicit : List ℕ → List Extension → Type 0
+AreValidExplicit content xs = AreExplicit content xs × (first_repeated (λ x. x.extnID) [] xs ≡ None) × AreValid CertificateHolder xs
 
--- the octets between two offsets stand once more between two others
+-- the octets between two offsets occur once more between two others
 pub record IsRepeated (octets : List ℕ) (at from to end : ℕ) : Type 0 where
   pub part : List ℕ
   pub first : HavePart octets from part to
   pub second : HavePart octets at part end
   pub ends : end ≤ length octets
 
--- version 3 stands between two offsets
+-- version 3 is between two offsets
 pub record IsVersion3 (octets : List ℕ) (at end : ℕ) : Type 0 where
   pub here : HavePart octets at (version_octets V3) end
   pub ends : end ≤ length octets
 
 -- ---- once it is read
 
--- the spelling of a value begins at an offset
-pub record Holds {A : Type 0} (Spells : List ℕ → A → Type 0) (octets : List ℕ) (at : ℕ) (x : A) : Type 0 where
+-- the encoding of a value begins at an offset
+pub record Holds {A : Type 0} (Encodes : List ℕ → A → Type 0) (octets : List ℕ) (at : ℕ) (x : A) : Type 0 where
   pub part : List ℕ
   pub rest : List ℕ
   pub here : drop at octets ≡ part ++ rest
-  pub spelled : Spells part x
+  pub encoded : Encodes part x
   pub begins : at ≤ length octets
 
--- the same of a field that may be absent
-pub record HoldsIfAny {A : Type 0} (tag : ℕ) (Spells : List ℕ → A → Type 0) (octets : List ℕ) (at : ℕ) (x : Option A) : Type 0 where
+-- the same for a field that may be absent
+pub record HoldsIfAny {A : Type 0} (tag : ℕ) (Encodes : List ℕ → A → Type 0) (octets : List ℕ) (at : ℕ) (x : Option A) : Type 0 where
   pub part : List ℕ
   pub rest : List ℕ
   pub here : drop at octets ≡ part ++ rest
-  pub spelled : IfAny tag Spells part x
+  pub encoded : IfAny tag Encodes part x
   pub other : begins_with tag rest ≡ false
   pub begins : at ≤ length octets

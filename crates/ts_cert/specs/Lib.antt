@@ -1,8 +1,8 @@
 pub mod Certificate
 pub mod Period
-pub mod Standings
+pub mod AllLocated
 pub mod View
-pub mod Spelling
+pub mod Encoding
 pub mod Rules
 pub mod Version
 pub mod Time

@@ -13,10 +13,10 @@ use Rattle.ts_shape.specs.declared.fault.CertFault.{CertFault}
 use Rattle.ts_shape.specs.Fault.{der, breaks}
 use Rattle.ts_shape.specs.Fields.{within, oid_at, integer_at, bits_at, optional_of}
 use Rattle.ts_name.specs.Names.{name_at}
-use Rattle.ts_ext.specs.Extension.{said, explicit_standings_of}
+use Rattle.ts_ext.specs.Extension.{unlocated, explicit_all_located_of}
 use Rattle.ts_cert.specs.declared.time.Validity.{Validity}
 use Rattle.ts_cert.specs.Certificate.{Algorithm, KeyInfo, Certificate}
-use Rattle.ts_cert.specs.Rules.{LateFields, TbsStanding, extensions_fault}
+use Rattle.ts_cert.specs.Rules.{OptionalFields, LocatedTbs, extensions_fault}
 use Rattle.ts_cert.specs.Version.{version_at}
 use Rattle.ts_cert.specs.Time.{validity_of}
 
@@ -55,11 +55,11 @@ unique_identifier_of = value_at bits_rules bit_parts
 
 -- issuerUniqueID [1] IMPLICIT UniqueIdentifier OPTIONAL, subjectUniqueID [2] IMPLICIT UniqueIdentifier OPTIONAL, extensions [3]
 -- EXPLICIT Extensions OPTIONAL, and no more
-unfoldable pub late_fields_at : Place → Result LateFields Fault
-late_fields_at here = do
+unfoldable pub optional_fields_at : Place → Result OptionalFields Fault
+optional_fields_at here = do
   issuer ← optional_of 0x81 unique_identifier_of here
   subject ← optional_of 0x82 unique_identifier_of issuer.1
-  extensions ← optional_of 0xA3 explicit_standings_of subject.1
+  extensions ← optional_of 0xA3 explicit_all_located_of subject.1
   done ← end_at extensions.1
   Ok (record {
     issuerUniqueID = issuer.0;
@@ -72,7 +72,7 @@ late_fields_at here = do
 
 -- TBSCertificate ::= SEQUENCE { version, serialNumber, signature, issuer, validity, subject, subjectPublicKeyInfo, issuerUniqueID,
 -- subjectUniqueID, extensions }
-unfoldable pub tbs_of : Tlv → Result TbsStanding CertFault
+unfoldable pub tbs_of : Tlv → Result LocatedTbs CertFault
 tbs_of e = do
   version ← version_at (inside e)
   serial ← der (integer_at version.1)
@@ -81,7 +81,7 @@ tbs_of e = do
   validity ← der (validity_at issuer.1)
   subject ← der (name_at validity.1)
   key ← der (key_at subject.1)
-  late ← der (late_fields_at key.1)
+  optional_fields ← der (optional_fields_at key.1)
   Ok (record {
     fields = record {
       version = version.0;
@@ -91,19 +91,19 @@ tbs_of e = do
       validity = validity.0;
       subject = subject.0;
       subjectPublicKeyInfo = key.0;
-      issuerUniqueID = late.issuerUniqueID;
-      subjectUniqueID = late.subjectUniqueID;
-      extensions = option_map (map said) late.extensions;
+      issuerUniqueID = optional_fields.issuerUniqueID;
+      subjectUniqueID = optional_fields.subjectUniqueID;
+      extensions = option_map (map unlocated) optional_fields.extensions;
     };
-    late = late;
+    optional_fields = optional_fields;
   })
 
 -- a certificate whose algorithm identifiers have not been compared, with the place of the outer one, and the fields that version
--- 1 does not have where they stand
+-- 1 does not have where they are
 pub record Unagreed : Type 0 where
   pub certificate : Certificate
   pub identifier_at : ℕ
-  pub late : LateFields
+  pub optional_fields : OptionalFields
 
 -- Certificate ::= SEQUENCE { tbsCertificate, signatureAlgorithm, signatureValue BIT STRING }
 unfoldable pub signed_of : Tlv → Result Unagreed CertFault
@@ -117,7 +117,7 @@ signed_of e = do
   Ok (record {
     certificate = record { tbs = tbs.0.whole; tbsCertificate = fields.fields; signatureAlgorithm = algorithm; signatureValue = signature.0 };
     identifier_at = identifier.0.at;
-    late = fields.late;
+    optional_fields = fields.optional_fields;
   })
 
 -- both algorithm identifiers are one (4.1.1.2)
@@ -129,14 +129,14 @@ abbrev pub unless_broken : {A : Type 0} → Option CertFault → A → Result A 
 unless_broken None x = Ok x
 unless_broken (Some f) x = Err f
 
--- the certificate that octets are, and nothing behind it
+-- the certificate that octets are, and nothing after it
 unfoldable pub whole_of : List ℕ → Result Certificate CertFault
 whole_of octets = do
   e ← der (element_at 0x30 (record { rest = octets; at = 0 }))
   signed ← signed_of e.0
   done ← der (end_at e.1)
   certificate ← agreed signed
-  unless_broken (extensions_fault signed.certificate.tbsCertificate.version signed.late) certificate
+  unless_broken (extensions_fault signed.certificate.tbsCertificate.version signed.optional_fields) certificate
 
 -- octets that are at most 65,536, the limit of this profile
 unfoldable pub certificate_of : List ℕ → Result Certificate CertFault

@@ -5,7 +5,7 @@ use Rattle.std.specs.Option.{option_and_then}
 use Rattle.std.specs.Result.{result_ok}
 use Rattle.std.specs.Str.{bytes_eq}
 use Rattle.ts_der.specs.declared.fault.Fault.{Fault}
-use Rattle.ts_der.specs.Element.{Tlv, spelled_at}
+use Rattle.ts_der.specs.Element.{Tlv, encoded_at}
 use Rattle.ts_shape.specs.Items.{alone, of_tag}
 use Rattle.ts_ext.specs.declared.known.Known.{Known}
 use Rattle.ts_ext.specs.Ext.{layout_of}
@@ -18,10 +18,10 @@ abbrev pub known_extension : Known → Tbs → Option Extension
 known_extension known t = find (λ x. bytes_eq x.extnID (identifier_of known)) (all_extensions t)
 
 -- the value that octets are, as the content of the OCTET STRING extnValue (4.1, 4.2): one element, which has the tag of this
--- extension's values and is read so, and nothing behind it. Where they stand does not matter; here it is the front of an input.
+-- extension's values and is read so, and nothing after it. Where they stand does not matter; here it is the front of an input.
 abbrev pub value_of_octets : {A : Type 0} → Known → (Tlv → Result A Fault) → List ℕ → Option A
-value_of_octets known reading octets = result_ok (alone (of_tag (layout_of known).tag reading) (spelled_at 0 0x04 octets))
+value_of_octets known reading octets = result_ok (alone (of_tag (layout_of known).tag reading) (encoded_at 0 0x04 octets))
 
--- what is said by this extension, read so: nothing where it does not stand, else the value that its octets are, if they are one
+-- what this extension says, read so: nothing where it does not stand, else the value that its octets are, if they are one
 unfoldable pub stated : {A : Type 0} → Known → (Tlv → Result A Fault) → Tbs → Option A
 stated known reading t = option_and_then (λ x. value_of_octets known reading x.extnValue) (known_extension known t)

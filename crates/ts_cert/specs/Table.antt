@@ -2,7 +2,7 @@
 use Rattle.std.specs.Prelude.{ℕ, zero, suc, ◌==◌, ◌||◌, not, nat_lt, Bool, false, List, [], ◌∷◌, length, Option, Some, None, is_some, Result, Ok, Err, if◌then◌else◌}
 use Rattle.std.specs.Str.{bytes_eq}
 use Rattle.ts_der.specs.declared.fault.DerFault.TheVariants.{TooLarge, DefaultEncoded, TimeForm}
-use Rattle.ts_der.specs.Element.{Place, Tlv, inside, spell}
+use Rattle.ts_der.specs.Element.{Place, Tlv, inside, encode}
 use Rattle.ts_der.specs.Reading.{begins_with, element_of, behind}
 use Rattle.ts_der.specs.BitString.{bits_rules}
 use Rattle.ts_der.specs.Integer.{integer_rules}
@@ -42,7 +42,7 @@ version_number = primitive 0x02 version_rules
 
 -- the default v1, which is not encoded (X.690 11.5)
 abbrev pub default_rules : ContentRules
-default_rules = one_rule (Der DefaultEncoded) (λ c. bytes_eq c (spell 0x02 (0 ∷ [])))
+default_rules = one_rule (Der DefaultEncoded) (λ c. bytes_eq c (encode 0x02 (0 ∷ [])))
 
 -- [0] EXPLICIT Version DEFAULT v1 (4.1.2.1)
 abbrev pub version : Row
@@ -104,7 +104,7 @@ certificate = sequence (tbs_certificate then algorithm_identifier then bit_strin
 abbrev pub from_front : List ℕ → Place
 from_front octets = record { rest = octets; at = 0 }
 
--- the element behind this many others
+-- the element after this many others
 abbrev pub nth : ℕ → Place → Tlv
 nth zero here = element_of here
 nth (suc n) here = nth n (behind here)
@@ -113,7 +113,7 @@ nth (suc n) here = nth n (behind here)
 abbrev pub tbs_element : List ℕ → Tlv
 tbs_element octets = nth 0 (inside (nth 0 (from_front octets)))
 
--- signature: the element behind the version, where that stands, and the serial number
+-- signature: the element after the version, where that stands, and the serial number
 abbrev pub signature_element : List ℕ → Tlv
 signature_element octets = nth (if begins_with 0xA0 (tbs_element octets).content then 2 else 1) (inside (tbs_element octets))
 
@@ -129,10 +129,10 @@ algorithms_fault octets =
 
 -- the first rule that the fields break, where they were read
 abbrev pub fields_fault : Result Unagreed CertFault → Option CertFault
-fields_fault (Ok s) = extensions_fault s.certificate.tbsCertificate.version s.late
+fields_fault (Ok s) = extensions_fault s.certificate.tbsCertificate.version s.optional_fields
 fields_fault (Err f) = None
 
--- the first rule that is broken: at most 65,536 octets, the limit of this profile; the table, and nothing behind it; one
+-- the first rule that is broken: at most 65,536 octets, the limit of this profile; the table, and nothing after it; one
 -- algorithm; then the rules of fields that a version may not have and of extensions
 abbrev pub certificate_fault : List ℕ → Option CertFault
 certificate_fault octets =

@@ -3,15 +3,15 @@ use Rattle.std.specs.Prelude.{map, option_map}
 use Rattle.std.specs.Option.{option_copied}
 use Rattle.ts_der.specs.BitsView.{parts_of}
 use Rattle.ts_name.specs.NameView.{rdns_in}
-use Rattle.ts_ext.specs.Extension.{said}
+use Rattle.ts_ext.specs.Extension.{unlocated}
 use Rattle.ts_cert.specs.declared.algorithm.AlgorithmIdentifier.{AlgorithmIdentifier}
 use Rattle.ts_cert.specs.declared.key.SubjectPublicKeyInfo.{SubjectPublicKeyInfo}
-use Rattle.ts_cert.specs.declared.late.LateFields.{LateFields as Late}
+use Rattle.ts_cert.specs.declared.optional_fields.OptionalFields.{OptionalFields as Late}
 use Rattle.ts_cert.specs.declared.tbs.TbsCertificate.{TbsCertificate}
 use Rattle.ts_cert.specs.Period.{validity_in}
-use Rattle.ts_cert.specs.Standings.{standings_within}
+use Rattle.ts_cert.specs.AllLocated.{all_located_within}
 use Rattle.ts_cert.specs.Certificate.{Algorithm, KeyInfo, Tbs}
-use Rattle.ts_cert.specs.Rules.{LateFields, TbsStanding}
+use Rattle.ts_cert.specs.Rules.{OptionalFields, LocatedTbs}
 
 abbrev pub algorithm_in : AlgorithmIdentifier → Algorithm
 algorithm_in a = record { algorithm = a.algorithm.now; parameters = option_copied a.parameters; whole = a.whole.now }
@@ -19,12 +19,12 @@ algorithm_in a = record { algorithm = a.algorithm.now; parameters = option_copie
 abbrev pub key_in : SubjectPublicKeyInfo → KeyInfo
 key_in k = record { algorithm = algorithm_in k.algorithm; subjectPublicKey = k.subject_public_key.now }
 
-abbrev pub late_in : Late → LateFields
-late_in l =
+abbrev pub optional_fields_in : Late → OptionalFields
+optional_fields_in l =
     record {
       issuerUniqueID = option_map parts_of l.issuer_unique_id;
       subjectUniqueID = option_map parts_of l.subject_unique_id;
-      extensions = option_map standings_within l.extensions;
+      extensions = option_map all_located_within l.extensions;
       issuerUniqueID_at = l.places.issuer_unique_id;
       subjectUniqueID_at = l.places.subject_unique_id;
       extensions_at = l.places.extensions;
@@ -40,11 +40,11 @@ fields_in t =
       validity = validity_in t.period;
       subject = rdns_in t.subject;
       subjectPublicKeyInfo = key_in t.subject_public_key_info;
-      issuerUniqueID = option_map parts_of t.late.issuer_unique_id;
-      subjectUniqueID = option_map parts_of t.late.subject_unique_id;
-      extensions = option_map (map said) (option_map standings_within t.late.extensions);
+      issuerUniqueID = option_map parts_of t.optional_fields.issuer_unique_id;
+      subjectUniqueID = option_map parts_of t.optional_fields.subject_unique_id;
+      extensions = option_map (map unlocated) (option_map all_located_within t.optional_fields.extensions);
     }
 
 -- the same with places
-abbrev pub tbs_in : TbsCertificate → TbsStanding
-tbs_in t = record { fields = fields_in t; late = late_in t.late }
+abbrev pub tbs_in : TbsCertificate → LocatedTbs
+tbs_in t = record { fields = fields_in t; optional_fields = optional_fields_in t.optional_fields }

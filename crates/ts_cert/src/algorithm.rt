@@ -3,12 +3,12 @@
 ghost use Rattle.std.specs.Prelude.{◌≡◌, ℕ, List};
 ghost use Rattle.std.specs.Option.{option_copied};
 ghost use Rattle.ts_der.specs.Answer.{Answers};
-ghost use Rattle.ts_der.specs.Element.{Fits, spell};
+ghost use Rattle.ts_der.specs.Element.{Fits, encode};
 ghost use Rattle.ts_der.specs.View.{now};
 ghost use Rattle.ts_shape.specs.Fields.{Within};
 ghost use Rattle.ts_shape.specs.Steps.{Takes};
 ghost use Rattle.ts_cert.specs.Reading.{parameters_at, algorithm_of, algorithm_at};
-ghost use Rattle.ts_cert.specs.Spelling.{IsAlgorithm};
+ghost use Rattle.ts_cert.specs.Encoding.{IsAlgorithm};
 ghost use Rattle.ts_cert.specs.View.{algorithm_in};
 
 use crate::fields::{SEQUENCE, next_oid};
@@ -54,7 +54,7 @@ pub fn read_algorithm<'a>(element: Element<'a>) -> Result<AlgorithmIdentifier<'a
     })
 }
 
-/// The same of an element beside an identifier that was read. Where it has the octets of that one, as the one beside a
+/// The same for an element beside an identifier that was read. Where it has the octets of that one, as the one beside a
 /// signature has those of the one that is signed, it is not read again.
 #[inline(always)]
 pub(crate) fn read_algorithm_beside<'a>(
@@ -62,7 +62,7 @@ pub(crate) fn read_algorithm_beside<'a>(
     other: AlgorithmIdentifier<'a>,
 ) -> Result<AlgorithmIdentifier<'a>, Fault>
     requires fits { Fits 0x30 element.content.now }
-    requires spelled { element.whole.now ≡ spell 0x30 element.content.now }
+    requires encoded { element.whole.now ≡ encode 0x30 element.content.now }
     requires read { (octets : List ℕ) × Within 0x30 IsAlgorithm octets (algorithm_in other) }
     ensures { Answers algorithm_in result (algorithm_of (now element.entry)) }
 {
@@ -72,7 +72,7 @@ pub(crate) fn read_algorithm_beside<'a>(
     read_algorithm(element)
 }
 
-/// The algorithm identifier that stands next, which the reader has then passed.
+/// The algorithm identifier that is next, which the reader has then passed.
 #[tactic(auto, unfolding(crate::specs::Reading::algorithm_at, ts_shape::specs::Fields::within))]
 #[inline(always)]
 pub fn next_algorithm<'a>(fields: &mut Reader<'a>) -> Result<AlgorithmIdentifier<'a>, Fault>

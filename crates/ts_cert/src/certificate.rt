@@ -7,7 +7,7 @@ ghost use Rattle.ts_name.specs.NameView.{rdns_in};
 ghost use Rattle.ts_name.specs.Sameness.{canon_name};
 ghost use Rattle.ts_cert.specs.Certificate.{Certificate};
 ghost use Rattle.ts_cert.specs.Reading.{certificate_of};
-ghost use Rattle.ts_cert.specs.Spelling.{IsCertificate};
+ghost use Rattle.ts_cert.specs.Encoding.{IsCertificate};
 ghost use Rattle.ts_cert.specs.Table.{certificate_fault};
 ghost use Rattle.ts_cert.specs.View.{algorithm_in, key_in};
 ghost use Rattle.ts_cert.specs.Layout.{AreLaidOut};
@@ -49,9 +49,9 @@ impl<'a> Cert<'a> {
     /// first and then by `SubtreeBounds`, `AddressLength` and `DuplicatePolicy` (RFC 5280 4.1, 4.2).
     #[inline(always)]
     pub fn read(octets: &'a [u8]) -> Result<Cert<'a>, CertFault>
-        // What is read is spelled so.
+        // What is read is encoded so.
         ensures found { IfOk result (λ cert. IsCertificate octets.now (cert_in cert)) }
-        // What is spelled so is read.
+        // What is encoded so is read.
         ensures only { (c : Certificate) → IsCertificate octets.now c → IsOkAnd result (λ cert. cert_in cert ≡ c) }
         ensures fault { refusal result ≡ certificate_fault octets.now }
         ensures exact { Answers cert_in result (certificate_of octets.now) }

@@ -35,7 +35,7 @@ fn read_key<'a>(element: Element<'a>) -> Result<SubjectPublicKeyInfo<'a>, Fault>
     })
 }
 
-/// The key that stands next, which the reader has then passed.
+/// The key that is next, which the reader has then passed.
 #[tactic(auto, unfolding(crate::specs::Reading::key_at, ts_shape::specs::Fields::within))]
 #[inline(always)]
 pub(crate) fn next_key<'a>(fields: &mut Reader<'a>) -> Result<SubjectPublicKeyInfo<'a>, Fault>

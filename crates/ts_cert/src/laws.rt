@@ -1,4 +1,4 @@
-//! Laws about the definitions that the clauses of this crate cite. Each stands on a function that does nothing.
+//! Laws about the definitions that the clauses of this crate cite. Each is the contract of a function that does nothing.
 
 ghost use Rattle.std.specs.Prelude.{◌≡◌, ℕ, List, Some, None};
 ghost use Rattle.ts_ext.specs.declared.known.Holder.TheVariants.{Certificate as CertificateHolder};
@@ -8,12 +8,12 @@ ghost use Rattle.ts_ext.specs.Extension.{Extension};
 ghost use Rattle.ts_ext.specs.Known.{known_at, identifier_of};
 ghost use Rattle.ts_ext.specs.Rules.{broken_rule};
 ghost use Rattle.ts_cert.specs.Certificate.{Tbs, Certificate};
-ghost use Rattle.ts_cert.specs.Spelling.{IsTbs, IsCertificate};
+ghost use Rattle.ts_cert.specs.Encoding.{IsTbs, IsCertificate};
 ghost use Rattle.ts_cert.specs.Stated.{known_extension, stated};
 
 /// No two lists of octets are one certificate, and none is two.
 pub fn one_certificate()
-    ensures one_spelling { (octets others : List ℕ) (c : Certificate) → IsCertificate octets c → IsCertificate others c → octets ≡ others }
+    ensures one_encoding { (octets others : List ℕ) (c : Certificate) → IsCertificate octets c → IsCertificate others c → octets ≡ others }
     ensures one_record { (octets : List ℕ) (c d : Certificate) → IsCertificate octets c → IsCertificate octets d → c ≡ d }
 {}
 

@@ -1,13 +1,13 @@
 //! Where the parts of a certificate begin.
 
 ghost use Rattle.std.specs.Prelude.{◌≡◌, ◌≤◌, ◌++◌, List, false, drop, length, ℕ};
-ghost use Rattle.ts_der.specs.Element.{Fits, spell};
+ghost use Rattle.ts_der.specs.Element.{Fits, encode};
 ghost use Rattle.ts_der.specs.Reading.{begins_with};
 ghost use Rattle.ts_cert.specs.Certificate.{Certificate};
 ghost use Rattle.ts_cert.specs.Layout.{AreLaidOut};
-ghost use Rattle.ts_cert.specs.Spelling.{IsCertificate};
+ghost use Rattle.ts_cert.specs.Encoding.{IsCertificate};
 
-use crate::late_reading::{EXTENSIONS, ISSUER_UNIQUE_ID, SUBJECT_UNIQUE_ID};
+use crate::optional_reading::{EXTENSIONS, ISSUER_UNIQUE_ID, SUBJECT_UNIQUE_ID};
 use crate::version::{VERSION, Version};
 use ts_der::Reader;
 
@@ -30,11 +30,11 @@ pub(crate) struct Layout {
     pub signature_value: usize,
 }
 
-/// Where the content of the element begins that stands at an offset; the offset itself, where none does.
+/// Where the content of the element begins that is at an offset; the offset itself, where none does.
 fn inside(octets: &[u8], at: usize) -> usize
     requires { at ≤ length octets.now }
     ensures within { result ≤ length octets.now }
-    ensures begins { (tag : ℕ) (content rest : List ℕ) → Fits tag content → drop at octets.now ≡ spell tag content ++ rest → drop result octets.now ≡ content ++ rest }
+    ensures begins { (tag : ℕ) (content rest : List ℕ) → Fits tag content → drop at octets.now ≡ encode tag content ++ rest → drop result octets.now ≡ content ++ rest }
 {
     match Reader::at(octets, at).next() {
         Ok(element) => element.start,
@@ -42,11 +42,11 @@ fn inside(octets: &[u8], at: usize) -> usize
     }
 }
 
-/// Where the element ends that stands at an offset; the offset itself, where none does.
+/// Where the element ends that is at an offset; the offset itself, where none does.
 fn end_of(octets: &[u8], at: usize) -> usize
     requires { at ≤ length octets.now }
     ensures within { result ≤ length octets.now }
-    ensures ends { (tag : ℕ) (content rest : List ℕ) → Fits tag content → drop at octets.now ≡ spell tag content ++ rest → drop result octets.now ≡ rest }
+    ensures ends { (tag : ℕ) (content rest : List ℕ) → Fits tag content → drop at octets.now ≡ encode tag content ++ rest → drop result octets.now ≡ rest }
 {
     let mut reader = Reader::at(octets, at);
     match reader.next() {
@@ -55,11 +55,11 @@ fn end_of(octets: &[u8], at: usize) -> usize
     }
 }
 
-/// The same of an element of this tag; the offset itself, where none of that tag stands there.
+/// The same for an element of this tag; the offset itself, where none of that tag is there.
 fn end_if(octets: &[u8], at: usize, tag: u8) -> usize
     requires { at ≤ length octets.now }
     ensures within { result ≤ length octets.now }
-    ensures present { (content rest : List ℕ) → Fits tag content → drop at octets.now ≡ spell tag content ++ rest → drop result octets.now ≡ rest }
+    ensures present { (content rest : List ℕ) → Fits tag content → drop at octets.now ≡ encode tag content ++ rest → drop result octets.now ≡ rest }
     ensures absent { begins_with tag (drop at octets.now) ≡ false → result ≡ at }
 {
     match octets[at..].first() {

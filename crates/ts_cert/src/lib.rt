@@ -6,12 +6,15 @@ mod algorithm;
 mod certificate;
 #[cfg(test)]
 mod extension_tests;
+mod fast;
+#[cfg(test)]
+mod fast_tests;
 mod fields;
 mod key;
-mod late;
-mod late_reading;
 pub mod laws;
 mod layout;
+mod optional_fields;
+mod optional_reading;
 mod owned;
 #[cfg(test)]
 mod owned_tests;
@@ -27,9 +30,6 @@ mod tbs;
 #[cfg(test)]
 mod tests;
 mod time;
-mod usual;
-#[cfg(test)]
-mod usual_tests;
 mod version;
 
 pub use algorithm::{AlgorithmIdentifier, next_algorithm, read_algorithm};

@@ -5,7 +5,7 @@ ghost use Rattle.ts_shape.specs.declared.fault.CertFault.{CertFault};
 ghost use Rattle.ts_cert.specs.CertView.{cert_in};
 ghost use Rattle.ts_cert.specs.Reading.{certificate_of};
 ghost use Rattle.ts_cert.specs.Layout.{AreLaidOut};
-ghost use Rattle.ts_cert.specs.Spelling.{IsCertificate};
+ghost use Rattle.ts_cert.specs.Encoding.{IsCertificate};
 ghost use Rattle.ts_cert.specs.Table.{certificate_fault};
 ghost use Rattle.ts_cert.specs.Printed.{owned_text};
 ghost use Rattle.ts_cert.specs.declared.owned.OwnedCertFault.TheVariants.{Memory, Unreadable};

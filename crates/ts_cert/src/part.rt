@@ -4,20 +4,20 @@ ghost use Rattle.std.specs.Prelude.{◌≡◌, ℕ, List, Option, map, option_ma
 ghost use Rattle.ts_der.specs.BitsView.{parts_of};
 ghost use Rattle.ts_name.specs.Canon.{Attr};
 ghost use Rattle.ts_shape.specs.Fields.{Within, IsInteger, IsBits};
-ghost use Rattle.ts_name.specs.NameSpelling.{IsName};
+ghost use Rattle.ts_name.specs.NameEncoding.{IsName};
 ghost use Rattle.ts_name.specs.NameView.{rdns_in};
-ghost use Rattle.ts_ext.specs.Extension.{Extension, AreExplicit, said};
+ghost use Rattle.ts_ext.specs.Extension.{Extension, AreExplicit, unlocated};
 ghost use Rattle.ts_cert.specs.declared.time.Validity.{Validity as Period};
 ghost use Rattle.ts_cert.specs.Certificate.{Algorithm, KeyInfo};
 ghost use Rattle.ts_cert.specs.Layout.{Holds, HoldsIfAny};
-ghost use Rattle.ts_cert.specs.Spelling.{IsAlgorithm, IsValidity, IsKeyInfo, IsUniqueIdentifier};
-ghost use Rattle.ts_cert.specs.Standings.{standings_within};
+ghost use Rattle.ts_cert.specs.Encoding.{IsAlgorithm, IsValidity, IsKeyInfo, IsUniqueIdentifier};
+ghost use Rattle.ts_cert.specs.AllLocated.{all_located_within};
 ghost use Rattle.ts_cert.specs.View.{algorithm_in, key_in};
 
 use crate::algorithm::{AlgorithmIdentifier, next_algorithm};
 use crate::fields::{SEQUENCE, next_bits, next_integer};
 use crate::key::{SubjectPublicKeyInfo, next_key};
-use crate::late_reading::{EXTENSIONS, next_unique_id};
+use crate::optional_reading::{EXTENSIONS, next_unique_id};
 use crate::time::{Validity, next_validity};
 use ts_der::{Bits, Element, Integer, Reader};
 use ts_name::Name;
@@ -102,7 +102,7 @@ pub(crate) fn unique_id_from(octets: &[u8], at: usize, tag: u8) -> Option<Bits<'
 /// The SEQUENCE of the extensions that begin at an offset, if any do.
 pub(crate) fn extensions_from(octets: &[u8], at: usize) -> Option<Element<'_>>
     requires { ∥ ((x : Option (List Extension)) × HoldsIfAny 0xA3 AreExplicit octets.now at x) ∥₁ }
-    ensures { (x : Option (List Extension)) → HoldsIfAny 0xA3 AreExplicit octets.now at x → option_map (map said) (option_map standings_within result) ≡ x }
+    ensures { (x : Option (List Extension)) → HoldsIfAny 0xA3 AreExplicit octets.now at x → option_map (map unlocated) (option_map all_located_within result) ≡ x }
 {
     match Reader::at(octets, at).optional(EXTENSIONS) {
         Ok(Some(explicit)) => explicit.reader().element(SEQUENCE).ok(),

@@ -8,15 +8,15 @@ ghost use Rattle.ts_cert.specs.Reading.{certificate_of};
 ghost use Rattle.ts_cert.specs.Table.{certificate_fault};
 
 use crate::certificate::Cert;
+use crate::fast::fast_layout;
 use crate::layout::{Layout, layout_of};
 use crate::shape::read_parts;
-use crate::usual::usual_layout;
 use ts_shape::CertFault;
 
 /// The layout of any octets that are a certificate, or the first rule that they break.
 #[cold]
 #[inline(never)]
-fn other_layout(octets: &[u8]) -> Result<Layout, CertFault>
+fn full_layout(octets: &[u8]) -> Result<Layout, CertFault>
     ensures laid { IfOk result (AreLaidOut octets.now) }
     ensures fault { refusal result ≡ refusal (certificate_of octets.now) }
 {
@@ -24,37 +24,37 @@ fn other_layout(octets: &[u8]) -> Result<Layout, CertFault>
     Ok(layout_of(octets, parts.fields.version))
 }
 
-/// The same. Of most octets it is told at a glance.
+/// The same, with the fast path first.
 #[inline(always)]
 pub(crate) fn read_layout(octets: &[u8]) -> Result<Layout, CertFault>
     ensures laid { IfOk result (AreLaidOut octets.now) }
     ensures fault { refusal result ≡ refusal (certificate_of octets.now) }
     ensures rule { refusal result ≡ certificate_fault octets.now }
 {
-    match usual_layout(octets) {
+    match fast_layout(octets) {
         Some(layout) => Ok(layout),
-        None => other_layout(octets),
+        None => full_layout(octets),
     }
 }
 
 /// Any certificate that octets are.
 #[cold]
 #[inline(never)]
-fn other_cert(octets: &[u8]) -> Result<Cert<'_>, CertFault>
+fn full_cert(octets: &[u8]) -> Result<Cert<'_>, CertFault>
     ensures { Answers cert_in result (certificate_of octets.now) }
 {
-    let layout = other_layout(octets)?;
+    let layout = full_layout(octets)?;
     Ok(Cert { octets, layout })
 }
 
-/// The same. Most are told at a glance. It is not inlined: for a caller that asks for nothing but an `Ok` the record would not be
-/// made, nor its time be told.
+/// The same, with the fast path first. It is not inlined: for a caller that asks for nothing but an `Ok` the record would not be
+/// made, nor its time be measured.
 #[inline(never)]
 pub(crate) fn read_cert(octets: &[u8]) -> Result<Cert<'_>, CertFault>
     ensures { Answers cert_in result (certificate_of octets.now) }
 {
-    match usual_layout(octets) {
+    match fast_layout(octets) {
         Some(layout) => Ok(Cert { octets, layout }),
-        None => other_cert(octets),
+        None => full_cert(octets),
     }
 }

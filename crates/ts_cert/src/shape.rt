@@ -50,7 +50,7 @@ fn agrees(parts: &Parts<'_>) -> Result<(), CertFault>
     Ok(())
 }
 
-/// The parts of the certificate that octets are, with nothing behind it.
+/// The parts of the certificate that octets are, with nothing after it.
 #[tactic(auto, unfolding(crate::specs::Reading::whole_of, crate::specs::Reading::agreed))]
 fn read_whole(octets: &[u8]) -> Result<Parts<'_>, CertFault>
     ensures { Answers parts_in result (whole_of octets.now) }
@@ -60,7 +60,7 @@ fn read_whole(octets: &[u8]) -> Result<Parts<'_>, CertFault>
     let parts = read_signed(element)?;
     reader.end()?;
     agrees(&parts)?;
-    match broken_rule(parts.fields.version, &parts.fields.late) {
+    match broken_rule(parts.fields.version, &parts.fields.optional_fields) {
         Some(fault) => Err(fault),
         None => Ok(parts),
     }

@@ -8,7 +8,7 @@ ghost use Rattle.ts_der.specs.View.{now};
 ghost use Rattle.ts_shape.specs.Items.{alone, tagged_as as tagged_as_of};
 ghost use Rattle.ts_ext.specs.declared.known.Known.TheVariants as extension;
 ghost use Rattle.ts_ext.specs.AuthorityKey.{octets_of, authority_key_of};
-ghost use Rattle.ts_ext.specs.Extension.{said};
+ghost use Rattle.ts_ext.specs.Extension.{unlocated};
 ghost use Rattle.ts_ext.specs.ExtensionView.{extensions_in};
 ghost use Rattle.ts_ext.specs.GeneralNames.{general_names_of};
 ghost use Rattle.ts_ext.specs.NameConstraints.{name_constraints_of};
@@ -17,11 +17,11 @@ ghost use Rattle.ts_ext.specs.Points.{points_of};
 ghost use Rattle.ts_ext.specs.Reading.{key_usage_of, basic_constraints_of, certificate_policies_of, policy_mappings_of, policy_constraints_of, ext_key_usage_of, skip_certs_of};
 ghost use Rattle.ts_ext.specs.View.{policies_in, mappings_in, purposes_in};
 ghost use Rattle.ts_cert.specs.CertView.{cert_in};
-ghost use Rattle.ts_cert.specs.Standings.{standings_within};
+ghost use Rattle.ts_cert.specs.AllLocated.{all_located_within};
 ghost use Rattle.ts_cert.specs.Stated.{stated};
 
 use crate::certificate::Cert;
-use crate::late_reading::{ISSUER_UNIQUE_ID, SUBJECT_UNIQUE_ID};
+use crate::optional_reading::{ISSUER_UNIQUE_ID, SUBJECT_UNIQUE_ID};
 use crate::part::{extensions_from, unique_id_from};
 use ts_der::{Bits, Element, Fault};
 use ts_ext::{
@@ -184,7 +184,7 @@ impl<'a> Cert<'a> {
 
     /// The SEQUENCE of the extensions, if there are any.
     fn extension_list(self) -> Option<Element<'a>>
-        ensures { option_map (map said) (option_map standings_within result) ≡ (cert_in self.entry).tbsCertificate.extensions }
+        ensures { option_map (map unlocated) (option_map all_located_within result) ≡ (cert_in self.entry).tbsCertificate.extensions }
     {
         extensions_from(self.octets, self.layout.extensions)
     }

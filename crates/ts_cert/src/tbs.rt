@@ -8,8 +8,8 @@ ghost use Rattle.ts_cert.specs.View.{tbs_in};
 use crate::algorithm::{AlgorithmIdentifier, next_algorithm};
 use crate::fields::{next_integer, next_name, next_name_beside};
 use crate::key::{SubjectPublicKeyInfo, next_key};
-use crate::late::LateFields;
-use crate::late_reading::read_late_fields;
+use crate::optional_fields::OptionalFields;
+use crate::optional_reading::read_late_fields;
 use crate::time::{Period, next_validity};
 use crate::version::{Version, next_version};
 use ts_der::{Element, Integer};
@@ -26,7 +26,7 @@ pub(crate) struct TbsCertificate<'a> {
     pub period: Period,
     pub subject: Name<'a>,
     pub subject_public_key_info: SubjectPublicKeyInfo<'a>,
-    pub late: LateFields<'a>,
+    pub optional_fields: OptionalFields<'a>,
 }
 
 /// The fields that a SEQUENCE holds.
@@ -42,7 +42,7 @@ pub(crate) fn read_tbs<'a>(element: Element<'a>) -> Result<TbsCertificate<'a>, C
     let validity = next_validity(&mut fields)?;
     let subject = next_name_beside(&mut fields, issuer)?;
     let subject_public_key_info = next_key(&mut fields)?;
-    let late = read_late_fields(&mut fields)?;
+    let optional_fields = read_late_fields(&mut fields)?;
     Ok(TbsCertificate {
         version,
         serial_number,
@@ -51,6 +51,6 @@ pub(crate) fn read_tbs<'a>(element: Element<'a>) -> Result<TbsCertificate<'a>, C
         period: Period::of(validity),
         subject,
         subject_public_key_info,
-        late,
+        optional_fields,
     })
 }

@@ -123,7 +123,7 @@ pub fn read_time(element: Element<'_>) -> Result<Time, Fault>
     }
 }
 
-/// The time that stands next, which the reader has then passed.
+/// The time that is next, which the reader has then passed.
 #[tactic(auto, unfolding(crate::specs::Time::time_at))]
 #[inline(always)]
 pub fn next_time(fields: &mut Reader<'_>) -> Result<Time, Fault>
@@ -148,7 +148,7 @@ fn read_validity(element: Element<'_>) -> Result<Validity, Fault>
     })
 }
 
-/// The period that stands next, which the reader has then passed.
+/// The period that is next, which the reader has then passed.
 #[tactic(auto, unfolding(crate::specs::Reading::validity_at, ts_shape::specs::Fields::within))]
 #[inline(always)]
 pub(crate) fn next_validity(fields: &mut Reader<'_>) -> Result<Validity, Fault>

@@ -57,7 +57,7 @@ fn read_version(element: Element<'_>) -> Result<Version, CertFault>
     }
 }
 
-/// The version, if one stands next, which the reader has then passed; else version 1.
+/// The version, if one is next, which the reader has then passed; else version 1.
 #[tactic(auto, unfolding(crate::specs::Version::version_at))]
 pub(crate) fn next_version(fields: &mut Reader<'_>) -> Result<Version, CertFault>
     ensures { TakesIn (λ v. v) fields.new result (version_at fields.old) }

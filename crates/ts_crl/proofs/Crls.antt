@@ -1,4 +1,4 @@
--- The whole: what is read is spelled so, and what is spelled so is read.
+-- The whole: what is read is encoded so, and what is encoded so is read.
 use Rattle.std.proofs.Common.{◌≡◌, ℕ, Bool, true, false, cond, List, Option, Some, None, Result, Ok, Err, refl, sym, ap, subst, ◌∙◌}
 use Rattle.std.specs.Prelude.{option_map}
 use Rattle.std.specs.Str.{bytes_eq}
@@ -12,9 +12,9 @@ use Rattle.ts_shape.specs.Fault.{breaks}
 use Rattle.ts_shape.specs.Shape.{◌or_else◌}
 use Rattle.ts_cert.specs.Certificate.{Algorithm}
 use Rattle.ts_cert.proofs.Certificates.{one-algorithm}
-use Rattle.ts_crl.specs.List.{StandingList, CertificateList, said_list}
+use Rattle.ts_crl.specs.List.{LocatedList, CertificateList, unlocated_list}
 use Rattle.ts_crl.specs.Reading.{shape_of}
-use Rattle.ts_crl.specs.Spelling.{IsCertificateList}
+use Rattle.ts_crl.specs.Encoding.{IsCertificateList}
 use Rattle.ts_crl.specs.declared.extension_rule.ExtensionRule.TheVariants.{Repeated, Values}
 use Rattle.ts_crl.specs.Fault.{ListFault, broken}
 use Rattle.ts_crl.specs.Profile.{profile_fault}
@@ -24,23 +24,23 @@ use Rattle.ts_crl.proofs.Keeping.{neither, both, unmapped, all-kept, all-keep, v
 use Rattle.ts_crl.proofs.ListParts.{shape-found, shape-again}
 
 -- a list that breaks no rule
-unbroken : (l : StandingList) (o : Option ListFault) (c : CertificateList) → unless_broken l o ≡ Ok c → (o ≡ None) × (said_list l ≡ c)
-unbroken l None c e = (refl, ok_is {E = ListFault} (said_list l) c e)
+unbroken : (l : LocatedList) (o : Option ListFault) (c : CertificateList) → unless_broken l o ≡ Ok c → (o ≡ None) × (unlocated_list l ≡ c)
+unbroken l None c e = (refl, ok_is {E = ListFault} (unlocated_list l) c e)
 unbroken l (Some f) c e = absurd cc
 
-as-list-ok : (r : Result StandingList CertFault) (l : StandingList) → as_list r ≡ Ok l → r ≡ Ok l
-as-list-ok (Ok x) l e = ap (λ (y : StandingList). Ok y) (ok_is {E = ListFault} x l e)
+as-list-ok : (r : Result LocatedList CertFault) (l : LocatedList) → as_list r ≡ Ok l → r ≡ Ok l
+as-list-ok (Ok x) l e = ap (λ (y : LocatedList). Ok y) (ok_is {E = ListFault} x l e)
 as-list-ok (Err f) l e = absurd cc
 
 -- one algorithm
-agreed : (l : StandingList) → algorithms_fault l ≡ None → l.tbsCertList.signature.whole ≡ l.signatureAlgorithm.whole
+agreed : (l : LocatedList) → algorithms_fault l ≡ None → l.tbsCertList.signature.whole ≡ l.signatureAlgorithm.whole
 agreed l e = by_test (bytes_eq l.tbsCertList.signature.whole l.signatureAlgorithm.whole) refl e
   where
     by_test : (b : Bool) → bytes_eq l.tbsCertList.signature.whole l.signatureAlgorithm.whole ≡ b → cond b None (Some (breaks l.identifier_at AlgorithmMismatch)) ≡ None → l.tbsCertList.signature.whole ≡ l.signatureAlgorithm.whole
     by_test true t e = (bytes_eq-Decides l.tbsCertList.signature.whole l.signatureAlgorithm.whole).0 t
     by_test false t e = absurd cc
 
-agrees : (l : StandingList) → l.tbsCertList.signature.whole ≡ l.signatureAlgorithm.whole → algorithms_fault l ≡ None
+agrees : (l : LocatedList) → l.tbsCertList.signature.whole ≡ l.signatureAlgorithm.whole → algorithms_fault l ≡ None
 agrees l e = rw ((bytes_eq-Decides l.tbsCertList.signature.whole l.signatureAlgorithm.whole).1 e) refl
 
 pub crl-found : (octets : List ℕ) (c : CertificateList) → AreOctets octets → crl_of octets ≡ Ok c → IsCertificateList octets c
@@ -51,7 +51,7 @@ crl-found octets c fits read =
     let u = unbroken l (list_fault l) c b.2 in
     let w = shape-found octets l fits (as-list-ok (shape_of octets) l b.1) in
     let is = w.1.value in
-    let rules = neither (option_map (λ f. broken f) (placed_fault l)) (profile_fault (said_list l)) u.0 in
+    let rules = neither (option_map (λ f. broken f) (placed_fault l)) (profile_fault (unlocated_list l)) u.0 in
     let values = neither (algorithms_fault l or_else version_fault l.tbsCertList.version l or_else fault_by_place Repeated l) (fault_by_place Values l) (unmapped (λ f. broken f) (placed_fault l) rules.0) in
     let repeats = neither (algorithms_fault l or_else version_fault l.tbsCertList.version l) (fault_by_place Repeated l) values.0 in
     let front = neither (algorithms_fault l) (version_fault l.tbsCertList.version l) repeats.0 in
@@ -70,14 +70,14 @@ pub crl-again : (octets : List ℕ) (c : CertificateList) → IsCertificateList 
 unfolding crl_of
 crl-again octets c is = joined (shape-again octets c is.size is.whole)
   where
-    unbroken_is : (l : StandingList) → IsCertificateList octets (said_list l) → list_fault l ≡ None
+    unbroken_is : (l : LocatedList) → IsCertificateList octets (unlocated_list l) → list_fault l ≡ None
     unbroken_is l is =
         let front = both (algorithms_fault l) (version_fault l.tbsCertList.version l) (agrees l (ap (λ (a : Algorithm). a.whole) is.agree)) (version-keeps l.tbsCertList.version l is.version) in
         let repeats = both (algorithms_fault l or_else version_fault l.tbsCertList.version l) (fault_by_place Repeated l) front (all-keep Repeated l is.distinct) in
         let placed = both (algorithms_fault l or_else version_fault l.tbsCertList.version l or_else fault_by_place Repeated l) (fault_by_place Values l) repeats (all-keep Values l is.sound) in
-        both (option_map (λ f. broken f) (placed_fault l)) (profile_fault (said_list l)) (ap (λ (o : Option CertFault). option_map (λ f. broken f) o) placed) is.profile
+        both (option_map (λ f. broken f) (placed_fault l)) (profile_fault (unlocated_list l)) (ap (λ (o : Option CertFault). option_map (λ f. broken f) o) placed) is.profile
 
-    joined : (s : StandingList) × (shape_of octets ≡ Ok s) × (said_list s ≡ c) → (as_list (shape_of octets) >>= λ l. unless_broken l (list_fault l)) ≡ Ok c
+    joined : (s : LocatedList) × (shape_of octets ≡ Ok s) × (unlocated_list s ≡ c) → (as_list (shape_of octets) >>= λ l. unless_broken l (list_fault l)) ≡ Ok c
     joined (s, read, same) =
         let none = unbroken_is s (subst (λ (x : CertificateList). IsCertificateList octets x) (sym same) is) in
-        ap (λ (r : Result StandingList CertFault). as_list r >>= λ l. unless_broken l (list_fault l)) read ∙ (ap (λ (o : Option ListFault). unless_broken s o) none ∙ ap (λ (x : CertificateList). Ok x) same)
+        ap (λ (r : Result LocatedList CertFault). as_list r >>= λ l. unless_broken l (list_fault l)) read ∙ (ap (λ (o : Option ListFault). unless_broken s o) none ∙ ap (λ (x : CertificateList). Ok x) same)

@@ -4,7 +4,7 @@ use Rattle.std.specs.List.{find, list_any}
 use Rattle.std.specs.Prelude.{map, is_some, option_map}
 use Rattle.std.specs.Str.{bytes_eq}
 use Rattle.ts_ext.specs.declared.known.Known.{Known}
-use Rattle.ts_ext.specs.Extension.{Standing, said}
+use Rattle.ts_ext.specs.Extension.{Located, unlocated}
 use Rattle.ts_ext.specs.Known.{identifier_of}
 use Rattle.ts_crl.specs.Values.{is_known}
 
@@ -54,11 +54,11 @@ seen-twice f g (Some x) = refl
 seen-twice f g None = refl
 
 -- an extension is found by what it says
-pub said-find : (known : Known) (xs : List Standing) → option_map said (find (λ x. bytes_eq x.extnID (identifier_of known)) xs) ≡ find (is_known known) (map said xs)
-said-find known [] = refl
-said-find known (x ∷ xs) = by_test (said-find known xs) (bytes_eq x.extnID (identifier_of known))
+pub unlocated-find : (known : Known) (xs : List Located) → option_map unlocated (find (λ x. bytes_eq x.extnID (identifier_of known)) xs) ≡ find (is_known known) (map unlocated xs)
+unlocated-find known [] = refl
+unlocated-find known (x ∷ xs) = by_test (unlocated-find known xs) (bytes_eq x.extnID (identifier_of known))
   where
-    by_test : option_map said (find (λ x. bytes_eq x.extnID (identifier_of known)) xs) ≡ find (is_known known) (map said xs)
-        → (b : Bool) → option_map said (cond b (Some x) (find (λ x. bytes_eq x.extnID (identifier_of known)) xs)) ≡ cond b (Some (said x)) (find (is_known known) (map said xs))
+    by_test : option_map unlocated (find (λ x. bytes_eq x.extnID (identifier_of known)) xs) ≡ find (is_known known) (map unlocated xs)
+        → (b : Bool) → option_map unlocated (cond b (Some x) (find (λ x. bytes_eq x.extnID (identifier_of known)) xs)) ≡ cond b (Some (unlocated x)) (find (is_known known) (map unlocated xs))
     by_test more true = refl
     by_test more false = more

@@ -1,4 +1,4 @@
--- What is found in some and in others behind them.
+-- What is found in some and in others after them.
 use Rattle.std.proofs.Common.{◌≡◌, ℕ, ◌≤◌, Bool, true, false, cond, ◌||◌, List, [], ◌∷◌, ◌++◌, length, Option, Some, None, Result, Ok, Err, refl, sym, ap, ◌∙◌, arith}
 use Rattle.std.specs.List.{find, list_any}
 use Rattle.std.specs.Prelude.{map, option_map}
@@ -18,12 +18,12 @@ use Rattle.ts_cert.specs.declared.time.Time.{Time}
 use Rattle.ts_cert.specs.Time.{time_at}
 use Rattle.ts_ext.specs.declared.known.Holder.TheVariants.{Entry}
 use Rattle.ts_ext.specs.declared.known.Known.TheVariants.{CertificateIssuer}
-use Rattle.ts_ext.specs.Extension.{Extension, Standing, said}
+use Rattle.ts_ext.specs.Extension.{Extension, Located, unlocated}
 use Rattle.ts_ext.specs.ValueRules.{value_fault, values_fault}
 use Rattle.ts_crl.specs.declared.extension_rule.ExtensionRule.{ExtensionRule}
 use Rattle.ts_crl.specs.declared.extension_rule.ExtensionRule.TheVariants.{OldVersion, Repeated, Values}
 use Rattle.ts_crl.specs.Findings.{Findings, findings_of, joined, found_among, found_in, found_if_any}
-use Rattle.ts_crl.specs.List.{StandingExtensions, StandingEntry, said_extensions, said_entry}
+use Rattle.ts_crl.specs.List.{LocatedExtensions, LocatedEntry, unlocated_extensions, unlocated_entry}
 use Rattle.ts_crl.specs.Profile.{is_unprocessed, unprocessed_in, unprocessed_of_entries, names_issuer}
 use Rattle.ts_crl.specs.Reading.{extensions_of, entry_of, entry_in, revoked_of}
 use Rattle.ts_crl.specs.Rules.{rule_fault, fault_if_any, entries_fault}
@@ -81,18 +81,18 @@ joined-three f g h =
 
 -- ---- entries
 
-faults-append : (rule : ExtensionRule) (es fs : List StandingEntry) → entries_fault rule (es ++ fs) ≡ (entries_fault rule es or_else entries_fault rule fs)
+faults-append : (rule : ExtensionRule) (es fs : List LocatedEntry) → entries_fault rule (es ++ fs) ≡ (entries_fault rule es or_else entries_fault rule fs)
 faults-append rule [] fs = refl
 faults-append rule (e ∷ es) fs =
     let first = fault_if_any rule Entry e.crlEntryExtensions in
     ap (λ (o : Option CertFault). first or_else o) (faults-append rule es fs) ∙ first-of_three first (entries_fault rule es) (entries_fault rule fs)
 
-unprocessed-append : (es fs : List StandingEntry)
-    → unprocessed_of_entries (map said_entry (es ++ fs)) ≡ (unprocessed_of_entries (map said_entry es) or_else unprocessed_of_entries (map said_entry fs))
+unprocessed-append : (es fs : List LocatedEntry)
+    → unprocessed_of_entries (map unlocated_entry (es ++ fs)) ≡ (unprocessed_of_entries (map unlocated_entry es) or_else unprocessed_of_entries (map unlocated_entry fs))
 unprocessed-append [] fs = refl
 unprocessed-append (e ∷ es) fs =
-    let first = unprocessed_in Entry (entry_extensions_of (said_entry e)) in
-    ap (λ o. first or_else o) (unprocessed-append es fs) ∙ first-of_three first (unprocessed_of_entries (map said_entry es)) (unprocessed_of_entries (map said_entry fs))
+    let first = unprocessed_in Entry (entry_extensions_of (unlocated_entry e)) in
+    ap (λ o. first or_else o) (unprocessed-append es fs) ∙ first-of_three first (unprocessed_of_entries (map unlocated_entry es)) (unprocessed_of_entries (map unlocated_entry fs))
 
 any-append : {X A : Type 0} (view : X → A) (test : A → Bool) (xs ys : List X) → list_any test (map view (xs ++ ys)) ≡ (list_any test (map view xs) || list_any test (map view ys))
 any-append view test [] ys = refl
@@ -100,68 +100,68 @@ any-append view test (x ∷ xs) ys =
     ap (λ (b : Bool). test (view x) || b) (any-append view test xs ys) ∙ or-three (test (view x)) (list_any test (map view xs)) (list_any test (map view ys))
 
 -- one more entry
-pub entry-joined : (es : List StandingEntry) (e : StandingEntry) (f g : Findings) → f ≡ findings_of es → g ≡ joined f (findings_of (e ∷ [])) → g ≡ findings_of (es ++ e ∷ [])
+pub entry-joined : (es : List LocatedEntry) (e : LocatedEntry) (f g : Findings) → f ≡ findings_of es → g ≡ joined f (findings_of (e ∷ [])) → g ≡ findings_of (es ++ e ∷ [])
 entry-joined es e f g before now = now ∙ (ap (λ (h : Findings). joined h (findings_of (e ∷ []))) before ∙ sym append)
   where
     append : findings_of (es ++ e ∷ []) ≡ joined (findings_of es) (findings_of (e ∷ []))
     append =
         let one = e ∷ [] in
         parts-alike (findings_of (es ++ one)) (joined (findings_of es) (findings_of one))
-        (faults-append OldVersion es one) (faults-append Repeated es one) (faults-append Values es one) (unprocessed-append es one) (any-append said_entry names_issuer es one)
+        (faults-append OldVersion es one) (faults-append Repeated es one) (faults-append Values es one) (unprocessed-append es one) (any-append unlocated_entry names_issuer es one)
 
 -- what is found in an entry is what is found in its extensions
-pub entry-found-by : (e : StandingEntry) (o : Option StandingExtensions) → e.crlEntryExtensions ≡ o → findings_of (e ∷ []) ≡ found_if_any o
+pub entry-found-by : (e : LocatedEntry) (o : Option LocatedExtensions) → e.crlEntryExtensions ≡ o → findings_of (e ∷ []) ≡ found_if_any o
 entry-found-by e None none = rw none refl
 entry-found-by e (Some x) some =
     rw some
-    (parts-alike _ (found_in x) refl (last (rule_fault Repeated Entry x)) (last (rule_fault Values Entry x)) (last (unprocessed_in Entry (said_extensions x))) (or-last (list_any (is_known CertificateIssuer) (said_extensions x))))
+    (parts-alike _ (found_in x) refl (last (rule_fault Repeated Entry x)) (last (rule_fault Values Entry x)) (last (unprocessed_in Entry (unlocated_extensions x))) (or-last (list_any (is_known CertificateIssuer) (unlocated_extensions x))))
 
 -- ---- extensions
 
-values-append : (xs ys : List Standing) → values_fault Entry (xs ++ ys) ≡ (values_fault Entry xs or_else values_fault Entry ys)
+values-append : (xs ys : List Located) → values_fault Entry (xs ++ ys) ≡ (values_fault Entry xs or_else values_fault Entry ys)
 values-append [] ys = refl
 values-append (x ∷ xs) ys =
     ap (λ (o : Option CertFault). value_fault Entry x or_else o) (values-append xs ys) ∙ first-of_three (value_fault Entry x) (values_fault Entry xs) (values_fault Entry ys)
 
-oids-append : (xs ys : List Standing) → unprocessed_in Entry (map said (xs ++ ys)) ≡ (unprocessed_in Entry (map said xs) or_else unprocessed_in Entry (map said ys))
+oids-append : (xs ys : List Located) → unprocessed_in Entry (map unlocated (xs ++ ys)) ≡ (unprocessed_in Entry (map unlocated xs) or_else unprocessed_in Entry (map unlocated ys))
 oids-append [] ys = refl
-oids-append (x ∷ xs) ys = by_test (oids-append xs ys) (is_unprocessed Entry (said x))
+oids-append (x ∷ xs) ys = by_test (oids-append xs ys) (is_unprocessed Entry (unlocated x))
   where
     oid : Option Extension → Option (List ℕ)
     oid o = option_map (λ y. y.extnID) o
 
-    by_test : unprocessed_in Entry (map said (xs ++ ys)) ≡ (unprocessed_in Entry (map said xs) or_else unprocessed_in Entry (map said ys))
-        → (b : Bool) → option_map (λ y. y.extnID) (cond b (Some (said x)) (find (is_unprocessed Entry) (map said (xs ++ ys))))
-        ≡ (option_map (λ y. y.extnID) (cond b (Some (said x)) (find (is_unprocessed Entry) (map said xs))) or_else unprocessed_in Entry (map said ys))
+    by_test : unprocessed_in Entry (map unlocated (xs ++ ys)) ≡ (unprocessed_in Entry (map unlocated xs) or_else unprocessed_in Entry (map unlocated ys))
+        → (b : Bool) → option_map (λ y. y.extnID) (cond b (Some (unlocated x)) (find (is_unprocessed Entry) (map unlocated (xs ++ ys))))
+        ≡ (option_map (λ y. y.extnID) (cond b (Some (unlocated x)) (find (is_unprocessed Entry) (map unlocated xs))) or_else unprocessed_in Entry (map unlocated ys))
     by_test more true = refl
     by_test more false = more
 
 -- one more extension
-pub extension-joined : (xs : List Standing) (x : Standing) (first f g : Findings) → f ≡ joined first (found_among xs)
+pub extension-joined : (xs : List Located) (x : Located) (first f g : Findings) → f ≡ joined first (found_among xs)
     → g.old_version ≡ f.old_version → g.repeated ≡ f.repeated → g.value ≡ (f.value or_else value_fault Entry x)
-    → g.unprocessed ≡ (f.unprocessed or_else unprocessed_in Entry (said x ∷ [])) → g.issuer ≡ (f.issuer || is_known CertificateIssuer (said x)) → g ≡ joined first (found_among (xs ++ x ∷ []))
+    → g.unprocessed ≡ (f.unprocessed or_else unprocessed_in Entry (unlocated x ∷ [])) → g.issuer ≡ (f.issuer || is_known CertificateIssuer (unlocated x)) → g ≡ joined first (found_among (xs ++ x ∷ []))
 extension-joined xs x first f g before a b c d e = noted ∙ (ap (λ (h : Findings). joined h (found_among one)) before ∙ (sym (joined-three first (found_among xs) (found_among one)) ∙ ap (joined first) (sym append)))
   where
-    one : List Standing
+    one : List Located
     one = x ∷ []
 
     noted : g ≡ joined f (found_among (x ∷ []))
     noted =
         parts-alike g (joined f (found_among (x ∷ [])))
         (a ∙ sym (last f.old_version)) (b ∙ sym (last f.repeated)) (c ∙ ap (λ (o : Option CertFault). f.value or_else o) (sym (last (value_fault Entry x)))) d
-        (e ∙ ap (λ (i : Bool). f.issuer || i) (sym (or-last (is_known CertificateIssuer (said x)))))
+        (e ∙ ap (λ (i : Bool). f.issuer || i) (sym (or-last (is_known CertificateIssuer (unlocated x)))))
 
     append : found_among (xs ++ x ∷ []) ≡ joined (found_among xs) (found_among (x ∷ []))
     append =
         parts-alike (found_among (xs ++ x ∷ [])) (joined (found_among xs) (found_among (x ∷ []))) refl refl
-        (values-append xs (x ∷ [])) (oids-append xs (x ∷ [])) (any-append said (is_known CertificateIssuer) xs (x ∷ []))
+        (values-append xs (x ∷ [])) (oids-append xs (x ∷ [])) (any-append unlocated (is_known CertificateIssuer) xs (x ∷ []))
 
 -- no extension
 pub no-extension-joined : (f : Findings) → f ≡ joined f (found_among [])
 no-extension-joined f = sym (joined-none f)
 
 -- all of them, and what their list as a whole breaks
-pub placed-joined : (first f g : Findings) (x : StandingExtensions) → f ≡ joined first (found_among x.extensions)
+pub placed-joined : (first f g : Findings) (x : LocatedExtensions) → f ≡ joined first (found_among x.extensions)
     → g.old_version ≡ (f.old_version or_else rule_fault OldVersion Entry x) → g.repeated ≡ (f.repeated or_else rule_fault Repeated Entry x)
     → g.value ≡ f.value → g.unprocessed ≡ f.unprocessed → g.issuer ≡ f.issuer → g ≡ joined first (found_in x)
 placed-joined first f g x before a b c d e =
@@ -171,25 +171,25 @@ placed-joined first f g x before a b c d e =
     (c ∙ ap (λ (h : Findings). h.value) before) (d ∙ ap (λ (h : Findings). h.unprocessed) before) (e ∙ ap (λ (h : Findings). h.issuer) before)
 
 -- one extension repeats none
-one-unrepeated : (xs : List Standing) → length xs ≤ 1 → first_repeated (λ x. x.extnID) [] xs ≡ None
+one-unrepeated : (xs : List Located) → length xs ≤ 1 → first_repeated (λ x. x.extnID) [] xs ≡ None
 unfolding first_repeated
 one-unrepeated [] few = refl
 one-unrepeated (x ∷ []) few = refl
 one-unrepeated (x ∷ y ∷ xs) few = absurd (omega arith)
 
-pub one-repeats_none : (found : Option CertFault) (x : StandingExtensions) → length x.extensions ≤ 1 → found ≡ (found or_else rule_fault Repeated Entry x)
+pub one-repeats_none : (found : Option CertFault) (x : LocatedExtensions) → length x.extensions ≤ 1 → found ≡ (found or_else rule_fault Repeated Entry x)
 one-repeats_none found x few = rw (one-unrepeated x.extensions few) (sym (last found))
 
 -- ---- readings of parts that were read
 
-pub entry-read : (e : Tlv) (serial : List ℕ) (date : Time) (xs : Option StandingExtensions) (p q r : Place)
+pub entry-read : (e : Tlv) (serial : List ℕ) (date : Time) (xs : Option LocatedExtensions) (p q r : Place)
     → integer_at (inside e) ≡ Ok (serial, p) → time_at p ≡ Ok (date, q) → optional_of 0x30 extensions_of q ≡ Ok (xs, r) → end_at r ≡ Ok tt
     → entry_of e ≡ Ok (record { userCertificate = serial; revocationDate = date; crlEntryExtensions = xs })
 unfolding entry_of
 entry-read e serial date xs p q r a b c d = rw (a, b, c, d) refl
 
 -- entries that were read are those of a walk
-pub entries-walked : (e : Tlv) (es : List StandingEntry) → revoked_of e ≡ Ok es → (refusal (revoked_of e) ≡ None) × (revoked_of e ≡ Ok (items_at entry_in (inside e))) × (es ≡ items_at entry_in (inside e))
+pub entries-walked : (e : Tlv) (es : List LocatedEntry) → revoked_of e ≡ Ok es → (refusal (revoked_of e) ≡ None) × (revoked_of e ≡ Ok (items_at entry_in (inside e))) × (es ≡ items_at entry_in (inside e))
 entries-walked e es read =
     let are = many-walked entry_in (inside e) (ap (λ r. refusal r) (sym read)) in
     (ap (λ r. refusal r) read, are, ok_is {E = Fault} es (items_at entry_in (inside e)) (sym read ∙ are))

@@ -33,12 +33,12 @@ use Rattle.ts_crl.specs.declared.version.ListVersion.{ListVersion}
 use Rattle.ts_crl.specs.declared.version.ListVersion.TheVariants.{V1, V2}
 use Rattle.ts_crl.specs.declared.fault.CrlFault.{CrlFault}
 use Rattle.ts_crl.specs.Fault.{ListFault, broken, fault_in, AnswersBy}
-use Rattle.ts_crl.specs.List.{StandingTbs, StandingList, CertificateList, said_extensions}
+use Rattle.ts_crl.specs.List.{LocatedTbsList, LocatedList, CertificateList, unlocated_extensions}
 use Rattle.ts_crl.specs.Reading.{extensions_of, wrapped_extensions_of, entry_of, entry_in, revoked_of, tbs_of, signed_of, whole_of, shape_of}
 use Rattle.ts_crl.specs.Table.{is_version, version_rules, version, extensions, entry_fields, revoked_certificates, crl_extensions, tbs_fields, tbs_cert_list, certificate_list, shape_fault, list_fault, list_fault_of, crl_fault, as_list, unless_broken, crl_of}
 use Rattle.ts_crl.specs.Version.{version_named, version_of, version_if, version_at}
 use Rattle.ts_crl.proofs.Saying.{say}
-use Rattle.ts_crl.proofs.EntryParts.{extensions-said, wrapped-said}
+use Rattle.ts_crl.proofs.EntryParts.{extensions-unlocated, wrapped-unlocated}
 use Rattle.ts_crl.proofs.Updates.{update-judged}
 
 -- ---- the version
@@ -70,7 +70,7 @@ beside after v = Ok (v, after)
 abbrev that_stands : Tlv × Place → Result (Option Tlv × Place) Fault
 that_stands x = Ok (Some x.0, x.1)
 
--- a version, where one stands
+-- a version, where one is
 version-then : {B : Type 0} (others : Shape) (here : Place) (f : ListVersion × Place → Result B CertFault) (Q : B → Type 0)
     → ((v : ListVersion) (after : Place) → Judged (f (v, after)) (judge others after) Q)
     → Judged (version_at here >>= f) (judge (optional version then others) here) Q
@@ -97,20 +97,20 @@ version-then {B} others here f Q k = by_start (begins_with 0x02 here.rest)
 
 -- ---- extensions
 
--- what is said is judged as what is read
+-- the value without its offsets is checked as the one that was read
 unsaid : {A B : Type 0} (f : A → B) (r : Result A Fault) (o : Option CertFault) → Judged (der (say f r)) o (λ y. Unit {0}) → Judged (der r) o (λ x. Unit {0})
 unsaid f (Ok x) o j = (j.0, tt)
 unsaid f (Err d) o j = j
 
 extensions-judged : (e : Tlv) → Judged (der (extensions_of e)) (judge extension_items (inside e) or_else option_map (breaks e.at) (list_rules e.content)) (λ x. Unit {0})
 extensions-judged e =
-    unsaid said_extensions (extensions_of e) _
-    (subst (λ r. Judged (der r) (judge extension_items (inside e) or_else option_map (breaks e.at) (list_rules e.content)) (λ x. Unit {0})) (extensions-said e) (extensions-format.judged e))
+    unsaid unlocated_extensions (extensions_of e) _
+    (subst (λ r. Judged (der r) (judge extension_items (inside e) or_else option_map (breaks e.at) (list_rules e.content)) (λ x. Unit {0})) (extensions-unlocated e) (extensions-format.judged e))
 
 wrapped-judged : (e : Tlv) → Judged (der (wrapped_extensions_of e)) (judge (extensions then nothing) (inside e) or_else None) (λ x. Unit {0})
 wrapped-judged e =
-    unsaid said_extensions (wrapped_extensions_of e) _
-    (subst (λ r. Judged (der r) (judge (extensions then nothing) (inside e) or_else None) (λ x. Unit {0})) (wrapped-said e)
+    unsaid unlocated_extensions (wrapped_extensions_of e) _
+    (subst (λ r. Judged (der r) (judge (extensions then nothing) (inside e) or_else None) (λ x. Unit {0})) (wrapped-unlocated e)
     (alone-judged extensions (of_tag 0x30 stated_of) Whatever (λ octets. refl) (tag-reads 0x30 extension_items list_rules stated_of Whatever (λ x. extensions-format.judged x)) e))
 
 -- ---- entries
@@ -149,7 +149,7 @@ tbs-judged e =
     no_less _ _ _
     (end-judged at7 _ None All (λ done. (refl, tt)))))))))))
   where
-    All : StandingTbs → Type 0
+    All : LocatedTbsList → Type 0
     All t = Unit {0}
 
 signed-judged : (e : Tlv) → Judged (signed_of e) (judge (tbs_cert_list then algorithm_identifier then bit_string then nothing) (inside e) or_else None) (λ l. Unit {0})
@@ -162,7 +162,7 @@ signed-judged e =
     no_less _ _ _
     (end-judged (behind (behind (behind (inside e)))) _ None All (λ done. (refl, tt)))))))
   where
-    All : StandingList → Type 0
+    All : LocatedList → Type 0
     All l = Unit {0}
 
 whole-judged : (octets : List ℕ) → Judged (whole_of octets) (judge (certificate_list then nothing) (from_front octets)) (λ l. Unit {0})
@@ -186,11 +186,11 @@ pub judged : (octets : List ℕ) → refusal (crl_of octets) ≡ crl_fault octet
 unfolding crl_of
 judged octets = by_shape (shape_of octets) (shape_fault octets) (shape-judged octets)
   where
-    by_rule : (l : StandingList) (o : Option ListFault) → refusal (unless_broken l o) ≡ o
+    by_rule : (l : LocatedList) (o : Option ListFault) → refusal (unless_broken l o) ≡ o
     by_rule l None = refl
     by_rule l (Some f) = refl
 
-    by_shape : (r : Result StandingList CertFault) (o : Option CertFault) → Judged r o (λ l. Unit {0})
+    by_shape : (r : Result LocatedList CertFault) (o : Option CertFault) → Judged r o (λ l. Unit {0})
         → refusal (as_list r >>= λ l. unless_broken l (list_fault l)) ≡ (option_map (λ f. broken f) o or_else list_fault_of r)
     by_shape (Ok l) o j = by_rule l (list_fault l) ∙ ap (λ (q : Option CertFault). option_map (λ f. broken f) q or_else list_fault l) (sym j.0)
     by_shape (Err f) o j = ap (λ (q : Option CertFault). option_map (λ f. broken f) q or_else None) (sym j)

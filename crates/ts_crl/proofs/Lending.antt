@@ -18,13 +18,13 @@ use Rattle.ts_shape.specs.Fields.{within, optional_of}
 use Rattle.ts_shape.specs.Items.{each, alone, tagged_as, of_tag, some_of, items_at}
 use Rattle.ts_shape.specs.Shape.{◌or_else◌}
 use Rattle.ts_shape.proofs.ItemParts.{some-walked}
-use Rattle.ts_ext.specs.Extension.{Standing, standing_in}
+use Rattle.ts_ext.specs.Extension.{Located, located_in}
 use Rattle.ts_crl.specs.declared.extension_rule.ExtensionRule.TheVariants.{OldVersion, Repeated, Values}
 use Rattle.ts_crl.specs.Entries.{entries_of}
 use Rattle.ts_crl.specs.Fault.{ListFault, broken, criticalCrlExtension, indirect}
 use Rattle.ts_crl.specs.Findings.{findings_of}
 use Rattle.ts_crl.specs.Kept.{first_place, only_place, HavePlace, EntriesRead, SignedRead, WasRead}
-use Rattle.ts_crl.specs.List.{StandingEntry, StandingList, CertificateList, said_entry, said_list}
+use Rattle.ts_crl.specs.List.{LocatedEntry, LocatedList, CertificateList, unlocated_entry, unlocated_list}
 use Rattle.ts_crl.specs.Profile.{profile_fault, unprocessed, unprocessed_of_entries, names_issuer, is_indirect}
 use Rattle.ts_crl.specs.Reading.{entry_in, revoked_of, signed_of, whole_of, shape_of}
 use Rattle.ts_crl.specs.Rules.{entries_fault, fault_by_place, version_fault, algorithms_fault, placed_fault}
@@ -98,10 +98,10 @@ pub entries-kept : (first : Option CertFault) (here : Place) (o : Option Tlv) (e
 entries-kept first here o e after stood some (x, read, found) =
     let b = bind_ok (revoked_of e) (λ es. beside_some es) x (sym (optional-is 0x30 revoked_of here o e after stood some) ∙ read) in
     let walked = entries-walked e b.0 b.1 in
-    let there : HavePlace first (Some b.0) = subst (λ (y : Option (List StandingEntry) × Place). HavePlace first y.0) (sym (ok_is {A = Option (List StandingEntry) × Place} {E = Fault} (Some b.0, after) x b.2)) found in
+    let there : HavePlace first (Some b.0) = subst (λ (y : Option (List LocatedEntry) × Place). HavePlace first y.0) (sym (ok_is {A = Option (List LocatedEntry) × Place} {E = Fault} (Some b.0, after) x b.2)) found in
     (walked.1, ap findings_of (sym walked.2) ∙ there)
   where
-    beside_some : List StandingEntry → Result (Option (List StandingEntry) × Place) Fault
+    beside_some : List LocatedEntry → Result (Option (List LocatedEntry) × Place) Fault
     beside_some es = Ok (Some es, after)
 
 pub entries-again : (first : Option CertFault) (here : Place) (o : Option Tlv) (e : Tlv) (after : Place) → optional_at 0x30 here ≡ Ok (o, after) → o ≡ Some e → EntriesRead first here
@@ -111,48 +111,48 @@ entries-again first here o e after stood some was =
 
 -- ---- extensions
 
-abbrev at_end : Result (List Standing × Place) Fault → Result (List Standing) Fault
+abbrev at_end : Result (List Located × Place) Fault → Result (List Located) Fault
 at_end r = r >>= λ x. end_at x.1 >>= λ done. Ok x.0
 
-abbrev as_items : Result Tlv Fault → Result (List Standing) Fault
-as_items r = r >>= some_of standing_in
+abbrev as_items : Result Tlv Fault → Result (List Located) Fault
+as_items r = r >>= some_of located_in
 
-abbrev in_next : Result (Tlv × Place) Fault → Result (List Standing × Place) Fault
+abbrev in_next : Result (Tlv × Place) Fault → Result (List Located × Place) Fault
 in_next r = r >>= λ x. beside x.1 (as_items (tagged_as 0x30 x.0))
 
 -- those within a SEQUENCE that was read
-pub extensions-kept : (e inner set : Tlv) (after : Place) → next_at (inside e) ≡ Ok (inner, after) → tagged_as 0x30 inner ≡ Ok set → IsOk (alone (of_tag 0x30 (some_of standing_in)) e)
-    → some_of standing_in set ≡ Ok (items_at standing_in (inside set))
+pub extensions-kept : (e inner set : Tlv) (after : Place) → next_at (inside e) ≡ Ok (inner, after) → tagged_as 0x30 inner ≡ Ok set → IsOk (alone (of_tag 0x30 (some_of located_in)) e)
+    → some_of located_in set ≡ Ok (items_at located_in (inside set))
 unfolding alone each of_tag
 extensions-kept e inner set after stood tagged ok =
-    some-walked standing_in set (sym (by_read (some_of standing_in set) (subst (λ (r : Result Tlv Fault). IsOk (at_end (beside after (as_items r)))) tagged (subst (λ (r : Result (Tlv × Place) Fault). IsOk (at_end (in_next r))) stood ok))))
+    some-walked located_in set (sym (by_read (some_of located_in set) (subst (λ (r : Result Tlv Fault). IsOk (at_end (beside after (as_items r)))) tagged (subst (λ (r : Result (Tlv × Place) Fault). IsOk (at_end (in_next r))) stood ok))))
   where
-    by_read : (r : Result (List Standing) Fault) → IsOk (at_end (beside after r)) → refusal r ≡ None
+    by_read : (r : Result (List Located) Fault) → IsOk (at_end (beside after r)) → refusal r ≡ None
     by_read (Ok y) ok = refl
     by_read (Err f) ok = absurd cc
 
-pub extensions-again : (e inner set : Tlv) (after : Place) → next_at (inside e) ≡ Ok (inner, after) → tagged_as 0x30 inner ≡ Ok set → (done : Unit {0}) → end_at after ≡ Ok done → IsOk (alone (of_tag 0x30 (some_of standing_in)) e)
-    → alone (of_tag 0x30 (some_of standing_in)) e ≡ Ok (items_at standing_in (inside set))
+pub extensions-again : (e inner set : Tlv) (after : Place) → next_at (inside e) ≡ Ok (inner, after) → tagged_as 0x30 inner ≡ Ok set → (done : Unit {0}) → end_at after ≡ Ok done → IsOk (alone (of_tag 0x30 (some_of located_in)) e)
+    → alone (of_tag 0x30 (some_of located_in)) e ≡ Ok (items_at located_in (inside set))
 unfolding alone each of_tag
 extensions-again e inner set after stood tagged done end ok =
     ap (λ (r : Result (Tlv × Place) Fault). at_end (in_next r)) stood
     ∙ (ap (λ (r : Result Tlv Fault). at_end (beside after (as_items r))) tagged
-    ∙ (ap (λ (r : Result (List Standing) Fault). at_end (beside after r)) (extensions-kept e inner set after stood tagged ok)
-    ∙ ap (λ (r : Result (Unit {0}) Fault). r >>= λ d. Ok (items_at standing_in (inside set))) end))
+    ∙ (ap (λ (r : Result (List Located) Fault). at_end (beside after r)) (extensions-kept e inner set after stood tagged ok)
+    ∙ ap (λ (r : Result (Unit {0}) Fault). r >>= λ d. Ok (items_at located_in (inside set))) end))
 
 -- ---- a list
 
 -- where the whole was read, so was what is signed
-pub signed-kept : (first : Option CertFault) (octets : List ℕ) (here : Place) (e : Tlv) (after : Place) → here ≡ record { rest = octets; at = 0 } → element_at 0x30 here ≡ Ok (e, after) → (l : StandingList) → whole_of octets ≡ Ok l → HavePlace first l.tbsCertList.revokedCertificates → SignedRead first e
+pub signed-kept : (first : Option CertFault) (octets : List ℕ) (here : Place) (e : Tlv) (after : Place) → here ≡ record { rest = octets; at = 0 } → element_at 0x30 here ≡ Ok (e, after) → (l : LocatedList) → whole_of octets ≡ Ok l → HavePlace first l.tbsCertList.revokedCertificates → SignedRead first e
 unfolding whole_of
 signed-kept first octets here e after front stood l read found =
     let b = bind_ok (der (element_at 0x30 (record { rest = octets; at = 0 }))) (λ x. signed_of x.0 >>= λ signed. der (end_at x.1) >>= λ done. Ok signed) l read in
     let same : (e, after) ≡ b.0 = ok_is {A = Tlv × Place} {E = CertFault} (e, after) b.0 (ap der (sym stood ∙ ap (element_at 0x30) front) ∙ b.1) in
     let s = bind_ok (signed_of b.0.0) (λ signed. der (end_at b.0.1) >>= λ done. Ok signed) l b.2 in
     let d = bind_ok (der (end_at b.0.1)) (λ done. Ok s.0) l s.2 in
-    (s.0, ap (λ (p : Tlv × Place). signed_of p.0) same ∙ s.1, subst (λ (x : StandingList). HavePlace first x.tbsCertList.revokedCertificates) (sym (ok_is {E = CertFault} s.0 l d.2)) found)
+    (s.0, ap (λ (p : Tlv × Place). signed_of p.0) same ∙ s.1, subst (λ (x : LocatedList). HavePlace first x.tbsCertList.revokedCertificates) (sym (ok_is {E = CertFault} s.0 l d.2)) found)
 
-pub whole-kept : (octets : List ℕ) (l : StandingList) → shape_of octets ≡ Ok l → whole_of octets ≡ Ok l
+pub whole-kept : (octets : List ℕ) (l : LocatedList) → shape_of octets ≡ Ok l → whole_of octets ≡ Ok l
 unfolding shape_of
 whole-kept octets l read = by_size (nat_lt 4194304 (length octets)) read
   where
@@ -161,15 +161,15 @@ whole-kept octets l read = by_size (nat_lt 4194304 (length octets)) read
     by_size false e = e
 
 -- what was read is a list
-pub list-is : (first : Option CertFault) (octets : List ℕ) → (w : WasRead first octets) → crl_of octets ≡ Ok (said_list w.list)
+pub list-is : (first : Option CertFault) (octets : List ℕ) → (w : WasRead first octets) → crl_of octets ≡ Ok (unlocated_list w.list)
 unfolding crl_of
 list-is first octets w =
-    ap (λ (r : Result StandingList CertFault). as_list r >>= λ l. unless_broken l (list_fault l)) w.shape ∙ ap (unless_broken w.list) w.unbroken
+    ap (λ (r : Result LocatedList CertFault). as_list r >>= λ l. unless_broken l (list_fault l)) w.shape ∙ ap (unless_broken w.list) w.unbroken
 
 -- the list that was lent is that list
-pub lent-is : (first : Option CertFault) (octets lent : List ℕ) → lent ≡ octets → WasRead first octets → (l : StandingList) → whole_of lent ≡ Ok l → crl_of octets ≡ Ok (said_list l)
+pub lent-is : (first : Option CertFault) (octets lent : List ℕ) → lent ≡ octets → WasRead first octets → (l : LocatedList) → whole_of lent ≡ Ok l → crl_of octets ≡ Ok (unlocated_list l)
 lent-is first octets lent same w l read =
-    list-is first octets w ∙ ap (λ (x : StandingList). Ok (said_list x)) (ok_is {E = CertFault} w.list l (sym (whole-kept octets w.list w.shape) ∙ (ap whole_of (sym same) ∙ read)))
+    list-is first octets w ∙ ap (λ (x : LocatedList). Ok (unlocated_list x)) (ok_is {E = CertFault} w.list l (sym (whole-kept octets w.list w.shape) ∙ (ap whole_of (sym same) ∙ read)))
 
 pub never-lent : (first : Option CertFault) (octets lent : List ℕ) (f : CertFault) → lent ≡ octets → WasRead first octets → whole_of lent ≡ Err f → ⊥
 never-lent first octets lent f same w refused = err_not_ok {E = CertFault} (sym refused ∙ (ap whole_of same ∙ whole-kept octets w.list w.shape))
@@ -184,9 +184,9 @@ last-false : (a b : Bool) → a || b ≡ false → b ≡ false
 last-false true b e = absurd cc
 last-false false b e = e
 
-pub quiet : (l : StandingList) → list_fault l ≡ None → HavePlace (first_place l.tbsCertList.revokedCertificates) l.tbsCertList.revokedCertificates
+pub quiet : (l : LocatedList) → list_fault l ≡ None → HavePlace (first_place l.tbsCertList.revokedCertificates) l.tbsCertList.revokedCertificates
 quiet l unbroken =
-    let c = said_list l in
+    let c = unlocated_list l in
     let rules = neither (option_map (λ f. broken f) (placed_fault l)) (profile_fault c) unbroken in
     let values = neither (algorithms_fault l or_else version_fault l.tbsCertList.version l or_else fault_by_place Repeated l) (fault_by_place Values l) (unmapped (λ f. broken f) (placed_fault l) rules.0) in
     let repeats = neither (algorithms_fault l or_else version_fault l.tbsCertList.version l) (fault_by_place Repeated l) values.0 in
@@ -198,8 +198,8 @@ quiet l unbroken =
     let own = last-false _ (list_any names_issuer (entries_of c)) (none-false (is_indirect c) indirect indirects.1) in
     by_entries l.tbsCertList.revokedCertificates (neither _ _ repeats.1).0 (neither _ _ values.1).0 processed.1 own
   where
-    by_entries : (o : Option (List StandingEntry)) → entries_fault Repeated (unwrap_or o []) ≡ None → entries_fault Values (unwrap_or o []) ≡ None
-        → unprocessed_of_entries (unwrap_or (option_map (map said_entry) o) []) ≡ None → list_any names_issuer (unwrap_or (option_map (map said_entry) o) []) ≡ false → HavePlace (first_place o) o
+    by_entries : (o : Option (List LocatedEntry)) → entries_fault Repeated (unwrap_or o []) ≡ None → entries_fault Values (unwrap_or o []) ≡ None
+        → unprocessed_of_entries (unwrap_or (option_map (map unlocated_entry) o) []) ≡ None → list_any names_issuer (unwrap_or (option_map (map unlocated_entry) o) []) ≡ false → HavePlace (first_place o) o
     by_entries None r v u n = tt
     by_entries (Some es) r v u n = λ i. record { old_version = entries_fault OldVersion es; repeated = r i; value = v i; unprocessed = u i; issuer = n i }
 

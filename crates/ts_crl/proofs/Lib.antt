@@ -12,7 +12,7 @@ pub mod Keeping
 pub mod PlacedLaws
 pub mod Crls
 pub mod Judging
-pub mod OneSpelling
+pub mod OneEncoding
 mod Lending
 pub mod SameNames
 mod Magnitudes

@@ -18,7 +18,7 @@ use Rattle.ts_cert.specs.Time.{time_at}
 use Rattle.ts_crl.specs.declared.entry.Entry.{Entry}
 use Rattle.ts_crl.specs.Entries.{has_serial}
 use Rattle.ts_crl.specs.EntryView.{entry_as, entry_in as said_in}
-use Rattle.ts_crl.specs.List.{StandingEntry, said_entry}
+use Rattle.ts_crl.specs.List.{LocatedEntry, unlocated_entry}
 use Rattle.ts_crl.specs.Marks.{Mark, mark_of}
 use Rattle.ts_crl.specs.Reading.{extensions_of, entry_of, entry_in, revoked_of}
 use Rattle.ts_crl.proofs.Walks.{many-walked}
@@ -30,25 +30,25 @@ value-is true at x y e = ok_is {E = Fault} x y e
 value-is false at x y e = absurd cc
 
 -- the mark of an entry
-abbrev mark : StandingEntry → Tlv → Mark
+abbrev mark : LocatedEntry → Tlv → Mark
 mark x e = record { userCertificate = x.userCertificate; entry = e }
 
-entry-marked : (e : Tlv) (x : StandingEntry) → entry_of e ≡ Ok x → mark_of e ≡ Ok (mark x e)
+entry-marked : (e : Tlv) (x : LocatedEntry) → entry_of e ≡ Ok x → mark_of e ≡ Ok (mark x e)
 unfolding entry_of mark_of integer_at within
 entry-marked e x read =
     let n = bind_ok (integer_at (inside e)) _ x read in
     let d = bind_ok (time_at n.0.1) _ x n.2 in
     let o = bind_ok (optional_of 0x30 extensions_of d.0.1) _ x d.2 in
     let z = bind_ok (end_at o.0.1) _ x o.2 in
-    let made : StandingEntry = record { userCertificate = n.0.0; revocationDate = d.0.0; crlEntryExtensions = o.0.0 } in
-    let same : made ≡ x = ok_is {A = StandingEntry} {E = Fault} made x z.2 in
+    let made : LocatedEntry = record { userCertificate = n.0.0; revocationDate = d.0.0; crlEntryExtensions = o.0.0 } in
+    let same : made ≡ x = ok_is {A = LocatedEntry} {E = Fault} made x z.2 in
     let i = bind_ok (element_at 0x02 (inside e)) (λ i. value_at integer_rules (λ c. c) i.0 >>= λ y. Ok (y, i.1)) n.0 n.1 in
     let v = bind_ok (value_at integer_rules (λ c. c) i.0.0) (λ y. Ok (y, i.0.1)) n.0 i.2 in
     let whole : i.0.0.content ≡ v.0 = value-is (is_shortest i.0.0.content) i.0.0.at i.0.0.content v.0 v.1 in
     let number : v.0 ≡ n.0.0 = ap (λ (p : List ℕ × Place). p.0) (ok_is {A = List ℕ × Place} {E = Fault} (v.0, i.0.1) n.0 v.2) in
-    rw i.1 (ap (λ (s : List ℕ). Ok (record { userCertificate = s; entry = e })) (whole ∙ (number ∙ ap (λ (y : StandingEntry). y.userCertificate) same)))
+    rw i.1 (ap (λ (s : List ℕ). Ok (record { userCertificate = s; entry = e })) (whole ∙ (number ∙ ap (λ (y : LocatedEntry). y.userCertificate) same)))
 
-tagged-marked : (e : Tlv) (x : StandingEntry) → entry_in e ≡ Ok x → mark_of e ≡ Ok (mark x e)
+tagged-marked : (e : Tlv) (x : LocatedEntry) → entry_in e ≡ Ok x → mark_of e ≡ Ok (mark x e)
 unfolding of_tag tagged_as
 tagged-marked e x read = by_tag (eqb e.tag 0x30) _ read
   where
@@ -58,57 +58,57 @@ tagged-marked e x read = by_tag (eqb e.tag 0x30) _ read
 
 -- ---- all of them
 
-abbrev Marked : List StandingEntry → List Mark → Type 0
+abbrev Marked : List LocatedEntry → List Mark → Type 0
 Marked [] [] = Unit {0}
 Marked (x ∷ xs) (m ∷ ms) = (entry_in m.entry ≡ Ok x) × (m.userCertificate ≡ x.userCertificate) × Marked xs ms
 Marked [] (m ∷ ms) = ⊥
 Marked (x ∷ xs) [] = ⊥
 
--- the entry that stands next, and its mark
-record Next (here : Place) (x : StandingEntry) (after : Place) : Type 0 where
+-- the entry that is next, and its mark
+record Next (here : Place) (x : LocatedEntry) (after : Place) : Type 0 where
   pub element : Tlv
   pub read : entry_in element ≡ Ok x
   pub marked : each mark_of here ≡ Ok (mark x element, after)
 
-stands-marked : (here : Place) (e : Tlv) (after : Place) (x : StandingEntry) → next_at here ≡ Ok (e, after) → entry_in e ≡ Ok x → each mark_of here ≡ Ok (mark x e, after)
+stands-marked : (here : Place) (e : Tlv) (after : Place) (x : LocatedEntry) → next_at here ≡ Ok (e, after) → entry_in e ≡ Ok x → each mark_of here ≡ Ok (mark x e, after)
 unfolding each
 stands-marked here e after x next read = rw (next, tagged-marked e x read) refl
 
-next-marked : (here : Place) (x : StandingEntry) (after : Place) → each entry_in here ≡ Ok (x, after) → Next here x after
+next-marked : (here : Place) (x : LocatedEntry) (after : Place) → each entry_in here ≡ Ok (x, after) → Next here x after
 unfolding each
 next-marked here x after read =
     let e = bind_ok (next_at here) (λ e. entry_in e.0 >>= λ y. Ok (y, e.1)) (x, after) read in
     let v = bind_ok (entry_in e.0.0) (λ y. Ok (y, e.0.1)) (x, after) e.2 in
-    subst (λ (p : StandingEntry × Place). Next here p.0 p.1) (ok_is {A = StandingEntry × Place} {E = Fault} (v.0, e.0.1) (x, after) v.2)
+    subst (λ (p : LocatedEntry × Place). Next here p.0 p.1) (ok_is {A = LocatedEntry × Place} {E = Fault} (v.0, e.0.1) (x, after) v.2)
     (record { element = e.0.0; read = v.1; marked = stands-marked here e.0.0 e.0.1 v.0 e.1 v.1 })
 
-all-marked : (n : ℕ) (here : Place) (xs : List StandingEntry) → many_from n (each entry_in) here ≡ Ok xs → Marked xs (upto_from n mark_of here)
-all-marked zero here xs read = subst (λ (ys : List StandingEntry). Marked ys []) (ok_is {A = List StandingEntry} {E = Fault} [] xs read) tt
+all-marked : (n : ℕ) (here : Place) (xs : List LocatedEntry) → many_from n (each entry_in) here ≡ Ok xs → Marked xs (upto_from n mark_of here)
+all-marked zero here xs read = subst (λ (ys : List LocatedEntry). Marked ys []) (ok_is {A = List LocatedEntry} {E = Fault} [] xs read) tt
 all-marked (suc n) here xs read = by_end (λ after ys r. all-marked n after ys r) (is_end here.rest) read
   where
     they : Type 0
-    they = (after : Place) (ys : List StandingEntry) → many_from n (each entry_in) after ≡ Ok ys → Marked ys (upto_from n mark_of after)
+    they = (after : Place) (ys : List LocatedEntry) → many_from n (each entry_in) after ≡ Ok ys → Marked ys (upto_from n mark_of after)
 
-    others : StandingEntry × Place → Result (List StandingEntry) Fault
+    others : LocatedEntry × Place → Result (List LocatedEntry) Fault
     others x = many_from n (each entry_in) x.1 >>= λ ys. Ok (x.0 ∷ ys)
 
     by_end : they → (b : Bool) → cond b (Ok []) (each entry_in here >>= others) ≡ Ok xs → Marked xs (cond b [] (first_then (each mark_of here) (upto_from n mark_of)))
-    by_end more true r = subst (λ (ys : List StandingEntry). Marked ys []) (ok_is {A = List StandingEntry} {E = Fault} [] xs r) tt
+    by_end more true r = subst (λ (ys : List LocatedEntry). Marked ys []) (ok_is {A = List LocatedEntry} {E = Fault} [] xs r) tt
     by_end more false r =
         let x = bind_ok (each entry_in here) others xs r in
         let ys = bind_ok (many_from n (each entry_in) x.0.1) (λ ys. Ok (x.0.0 ∷ ys)) xs x.2 in
         let next = next-marked here x.0.0 x.0.1 x.1 in
         let are : Marked (x.0.0 ∷ ys.0) (first_then (each mark_of here) (upto_from n mark_of)) = rw next.marked (next.read, refl, more x.0.1 ys.0 ys.1) in
-        subst (λ (zs : List StandingEntry). Marked zs (first_then (each mark_of here) (upto_from n mark_of))) (ok_is {A = List StandingEntry} {E = Fault} (x.0.0 ∷ ys.0) xs ys.2) are
+        subst (λ (zs : List LocatedEntry). Marked zs (first_then (each mark_of here) (upto_from n mark_of))) (ok_is {A = List LocatedEntry} {E = Fault} (x.0.0 ∷ ys.0) xs ys.2) are
 
 -- ---- the first of a serial number
 
 -- what is found by its mark is the entry
-abbrev pub Found : List ℕ → List StandingEntry → Option Mark → Type 0
-Found s xs None = find (has_serial s) (map said_entry xs) ≡ None
-Found s xs (Some m) = (x : StandingEntry) × (entry_in m.entry ≡ Ok x) × (find (has_serial s) (map said_entry xs) ≡ Some (said_entry x))
+abbrev pub Found : List ℕ → List LocatedEntry → Option Mark → Type 0
+Found s xs None = find (has_serial s) (map unlocated_entry xs) ≡ None
+Found s xs (Some m) = (x : LocatedEntry) × (entry_in m.entry ≡ Ok x) × (find (has_serial s) (map unlocated_entry xs) ≡ Some (unlocated_entry x))
 
-find-marked : (s : List ℕ) (xs : List StandingEntry) (ms : List Mark) → Marked xs ms → Found s xs (find (λ m. bytes_eq m.userCertificate s) ms)
+find-marked : (s : List ℕ) (xs : List LocatedEntry) (ms : List Mark) → Marked xs ms → Found s xs (find (λ m. bytes_eq m.userCertificate s) ms)
 find-marked s [] [] are = refl
 find-marked s [] (m ∷ ms) are = absurd are
 find-marked s (x ∷ xs) [] are = absurd are
@@ -129,6 +129,6 @@ first-marked e s ok = find-marked s (items_at entry_in (inside e)) (items_at mar
 
 -- ---- and it is read once more
 
-pub read-again : (r : Result Entry Fault) (reading : Result StandingEntry Fault) (x : StandingEntry) → Answers entry_as r reading → reading ≡ Ok x → option_map said_in (result_ok r) ≡ Some (said_entry x)
-read-again (Ok y) reading x answers read = ap (λ (z : StandingEntry). Some (said_entry z)) (ok_is {A = StandingEntry} {E = Fault} (entry_as y) x (sym answers ∙ read))
+pub read-again : (r : Result Entry Fault) (reading : Result LocatedEntry Fault) (x : LocatedEntry) → Answers entry_as r reading → reading ≡ Ok x → option_map said_in (result_ok r) ≡ Some (unlocated_entry x)
+read-again (Ok y) reading x answers read = ap (λ (z : LocatedEntry). Some (unlocated_entry z)) (ok_is {A = LocatedEntry} {E = Fault} (entry_as y) x (sym answers ∙ read))
 read-again (Err f) reading x answers read = absurd (let no = sym answers ∙ read in cc)

@@ -15,31 +15,31 @@ use Rattle.ts_shape.proofs.FieldParts.{integer-part}
 use Rattle.ts_shape.proofs.Parts.{took, element-took}
 use Rattle.ts_cert.specs.Time.{time_at}
 use Rattle.ts_cert.proofs.Periods.{time-part}
-use Rattle.ts_ext.specs.Extension.{standing_in}
-use Rattle.ts_ext.proofs.Soundness.{AllOctets, some-octets}
-use Rattle.ts_crl.specs.List.{StandingExtensions, StandingEntry, StandingTbs}
+use Rattle.ts_ext.specs.Extension.{located_in}
+use Rattle.ts_ext.proofs.ValidExtensions.{AllOctets, some-octets}
+use Rattle.ts_crl.specs.List.{LocatedExtensions, LocatedEntry, LocatedTbsList}
 use Rattle.ts_crl.specs.Reading.{extensions_of, wrapped_extensions_of, entry_of, entry_in, revoked_of}
 
 -- extensions whose values are octets
-abbrev pub Ready : StandingExtensions → Type 0
+abbrev pub Ready : LocatedExtensions → Type 0
 Ready x = AllOctets x.extensions
 
 abbrev pub IfReady : {A : Type 0} → (A → Type 0) → Option A → Type 0
 IfReady P None = Unit {0}
 IfReady P (Some x) = P x
 
-abbrev pub EntriesReady : List StandingEntry → Type 0
+abbrev pub EntriesReady : List LocatedEntry → Type 0
 EntriesReady [] = Unit {0}
 EntriesReady (e ∷ es) = IfReady Ready e.crlEntryExtensions × EntriesReady es
 
-abbrev pub ReadyTbs : StandingTbs → Type 0
+abbrev pub ReadyTbs : LocatedTbsList → Type 0
 ReadyTbs t = EntriesReady (unwrap_or t.revokedCertificates []) × IfReady Ready t.crlExtensions
 
 -- what is read of the content of elements has a property
 abbrev pub Gets : {A : Type 0} → (Tlv → Result A Fault) → (A → Type 0) → Type 0
 Gets {A} value P = (e : Tlv) (x : A) → AreOctets e.content → value e ≡ Ok x → P x
 
-some-ready : Gets (some_of standing_in) AllOctets
+some-ready : Gets (some_of located_in) AllOctets
 some-ready = some-octets
 
 tagged-is : (tag : ℕ) (e y : Tlv) → tagged_as tag e ≡ Ok y → e ≡ y
@@ -50,7 +50,7 @@ tagged-is tag e y r = by_tag _ y _ r
     by_tag true y f r = ok_is {E = Fault} e y r
     by_tag false y f r = absurd cc
 
--- the element that stands next, if it has a tag
+-- the element that is next, if it has a tag
 each-gets : {A : Type 0} (tag : ℕ) (value : Tlv → Result A Fault) (P : A → Type 0) → Gets value P
     → (here : Place) (x : A) (after : Place) → AreOctets here.rest → each (of_tag tag value) here ≡ Ok (x, after) → P x × AreOctets after.rest
 unfolding each of_tag
@@ -59,7 +59,7 @@ each-gets {A} tag value P all here x after fits read =
     let v = bind_ok (of_tag tag value n.0.0) (λ v. Ok (v, n.0.1)) (x, after) n.2 in
     let t = bind_ok (tagged_as tag n.0.0) value v.0 v.1 in
     let s = next-found here n.0.0 n.0.1 fits n.1 in
-    let inner : AreOctets n.0.0.content = AreOctets-part n.0.0.tag n.0.0.content n.0.1.rest (subst AreOctets (s.whole ∙ ap (λ (w : List ℕ). w ++ n.0.1.rest) s.spelled) fits) in
+    let inner : AreOctets n.0.0.content = AreOctets-part n.0.0.tag n.0.0.content n.0.1.rest (subst AreOctets (s.whole ∙ ap (λ (w : List ℕ). w ++ n.0.1.rest) s.encoded) fits) in
     let outer : AreOctets n.0.1.rest = AreOctets-back n.0.0.whole n.0.1.rest (subst AreOctets s.whole fits) in
     subst (λ (p : A × Place). P p.0 × AreOctets p.1.rest) (ok_is {A = A × Place} {E = Fault} (v.0, n.0.1) (x, after) v.2)
     (all t.0 v.0 (subst (λ (y : Tlv). AreOctets y.content) (tagged-is tag n.0.0 t.0 t.1) inner) t.2, outer)
@@ -89,14 +89,14 @@ optional-gets {A} tag value P all here x after fits read = by_start (begins_with
 extensions-ready : Gets extensions_of Ready
 unfolding extensions_of
 extensions-ready e x fits read =
-    let s = bind_ok (some_of standing_in e) _ x read in
-    subst Ready (ok_is {A = StandingExtensions} {E = Fault} (record { at = e.at; extensions = s.0 }) x s.2) (some-ready e s.0 fits s.1)
+    let s = bind_ok (some_of located_in e) _ x read in
+    subst Ready (ok_is {A = LocatedExtensions} {E = Fault} (record { at = e.at; extensions = s.0 }) x s.2) (some-ready e s.0 fits s.1)
 
 pub wrapped-ready : Gets wrapped_extensions_of Ready
 unfolding wrapped_extensions_of
 wrapped-ready e x fits read =
-    let s = bind_ok (alone (of_tag 0x30 (some_of standing_in)) e) _ x read in
-    subst Ready (ok_is {A = StandingExtensions} {E = Fault} (record { at = e.at; extensions = s.0 }) x s.2) (alone-gets 0x30 (some_of standing_in) AllOctets some-ready e s.0 fits s.1)
+    let s = bind_ok (alone (of_tag 0x30 (some_of located_in)) e) _ x read in
+    subst Ready (ok_is {A = LocatedExtensions} {E = Fault} (record { at = e.at; extensions = s.0 }) x s.2) (alone-gets 0x30 (some_of located_in) AllOctets some-ready e s.0 fits s.1)
 
 -- ---- entries
 
@@ -107,29 +107,29 @@ entry-ready e x fits read =
     let d = bind_ok (time_at s.0.1) _ x s.2 in
     let o = bind_ok (optional_of 0x30 extensions_of d.0.1) _ x d.2 in
     let z = bind_ok (end_at o.0.1) _ x o.2 in
-    let made : StandingEntry = record { userCertificate = s.0.0; revocationDate = d.0.0; crlEntryExtensions = o.0.0 } in
+    let made : LocatedEntry = record { userCertificate = s.0.0; revocationDate = d.0.0; crlEntryExtensions = o.0.0 } in
     let serial = took integer-part (inside e) s.0.0 s.0.1 fits s.1 in
     let date = took time-part s.0.1 d.0.0 d.0.1 serial.3 d.1 in
-    subst (λ (y : StandingEntry). IfReady Ready y.crlEntryExtensions) (ok_is {A = StandingEntry} {E = Fault} made x z.2)
+    subst (λ (y : LocatedEntry). IfReady Ready y.crlEntryExtensions) (ok_is {A = LocatedEntry} {E = Fault} made x z.2)
     (optional-gets 0x30 extensions_of Ready extensions-ready d.0.1 o.0.0 o.0.1 date.3 o.1)
 
-entries-ready : (n : ℕ) (here : Place) (xs : List StandingEntry) → AreOctets here.rest → many_from n (each entry_in) here ≡ Ok xs → EntriesReady xs
-entries-ready zero here xs fits read = subst EntriesReady (ok_is {A = List StandingEntry} {E = Fault} [] xs read) tt
+entries-ready : (n : ℕ) (here : Place) (xs : List LocatedEntry) → AreOctets here.rest → many_from n (each entry_in) here ≡ Ok xs → EntriesReady xs
+entries-ready zero here xs fits read = subst EntriesReady (ok_is {A = List LocatedEntry} {E = Fault} [] xs read) tt
 entries-ready (suc n) here xs fits read = by_end (λ after ys fits more. entries-ready n after ys fits more) (is_end here.rest) read
   where
-    by_end : ((after : Place) (ys : List StandingEntry) → AreOctets after.rest → many_from n (each entry_in) after ≡ Ok ys → EntriesReady ys)
+    by_end : ((after : Place) (ys : List LocatedEntry) → AreOctets after.rest → many_from n (each entry_in) after ≡ Ok ys → EntriesReady ys)
         → (b : Bool) → cond b (Ok []) (each entry_in here >>= λ x. many_from n (each entry_in) x.1 >>= λ ys. Ok (x.0 ∷ ys)) ≡ Ok xs → EntriesReady xs
-    by_end more true e = subst EntriesReady (ok_is {A = List StandingEntry} {E = Fault} [] xs e) tt
+    by_end more true e = subst EntriesReady (ok_is {A = List LocatedEntry} {E = Fault} [] xs e) tt
     by_end more false e =
         let a = bind_ok (each entry_in here) (λ x. many_from n (each entry_in) x.1 >>= λ ys. Ok (x.0 ∷ ys)) xs e in
         let b = bind_ok (many_from n (each entry_in) a.0.1) (λ ys. Ok (a.0.0 ∷ ys)) xs a.2 in
         let first = each-gets 0x30 entry_of (λ x. IfReady Ready x.crlEntryExtensions) entry-ready here a.0.0 a.0.1 fits a.1 in
-        subst EntriesReady (ok_is {A = List StandingEntry} {E = Fault} (a.0.0 ∷ b.0) xs b.2) (first.0, more a.0.1 b.0 first.1 b.1)
+        subst EntriesReady (ok_is {A = List LocatedEntry} {E = Fault} (a.0.0 ∷ b.0) xs b.2) (first.0, more a.0.1 b.0 first.1 b.1)
 
 pub revoked-ready : Gets revoked_of EntriesReady
 unfolding many
 revoked-ready e xs fits read = entries-ready (length e.content) (inside e) xs fits read
 
-pub entries-if-any : (o : Option (List StandingEntry)) → IfReady EntriesReady o → EntriesReady (unwrap_or o [])
+pub entries-if-any : (o : Option (List LocatedEntry)) → IfReady EntriesReady o → EntriesReady (unwrap_or o [])
 entries-if-any None are = tt
 entries-if-any (Some es) are = are

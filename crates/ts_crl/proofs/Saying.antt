@@ -1,4 +1,4 @@
--- Reading and then keeping what is said, wherever it stands, is reading what is said.
+-- Reading with offsets and then dropping them is reading without them.
 use Rattle.std.proofs.Common.{◌≡◌, ℕ, zero, suc, Bool, true, false, cond, List, [], ◌∷◌, length, Option, Some, None, Result, Ok, Err, refl, ap, ◌∙◌}
 use Rattle.std.specs.Prelude.{map, option_map}
 use Rattle.ts_der.specs.declared.fault.Fault.{Fault}
@@ -13,11 +13,11 @@ use Rattle.ts_shape.specs.Fields.{optional_of}
 abbrev pub say : {A B : Type 0} → (A → B) → Result A Fault → Result B Fault
 say f r = r >>= λ x. Ok (f x)
 
--- the same, and the place behind it
+-- the same, and the place after it
 abbrev pub say_at : {A B : Type 0} → (A → B) → Result (A × Place) Fault → Result (B × Place) Fault
 say_at f r = r >>= λ x. Ok (f x.0, x.1)
 
--- a value, and the place behind it
+-- a value, and the place after it
 abbrev beside : {A : Type 0} → Place → A → Result (A × Place) Fault
 beside after x = Ok (x, after)
 
@@ -28,7 +28,7 @@ beside_some after x = Ok (Some x, after)
 abbrev pub Says : {A B : Type 0} → (A → B) → (Tlv → Result A Fault) → (Tlv → Result B Fault) → Type 0
 Says f value other = (e : Tlv) → other e ≡ say f (value e)
 
--- what is said was read
+-- the value without its offsets was read
 pub unsaid : {A B : Type 0} (f : A → B) (r : Result A Fault) (y : B) → say f r ≡ Ok y → (x : A) × (r ≡ Ok x) × (f x ≡ y)
 unsaid {A} {B} f (Ok x) y e = (x, refl, ok_is {E = Fault} (f x) y e)
 unsaid {A} {B} f (Err d) y e = absurd cc
@@ -48,7 +48,7 @@ tagged-say {A} {B} tag f value other h e = by_tag (tagged_as tag e)
     by_tag (Ok t) = h t
     by_tag (Err d) = refl
 
--- of the element that stands next
+-- of the element that is next
 pub each-say : {A B : Type 0} (f : A → B) (value : Tlv → Result A Fault) (other : Tlv → Result B Fault) → Says f value other → (here : Place) → each other here ≡ say_at f (each value here)
 unfolding each
 each-say {A} {B} f value other h here = by_next (next_at here)

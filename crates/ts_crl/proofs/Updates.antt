@@ -1,4 +1,4 @@
--- A time that may be absent: what is read is spelled so, what is spelled so is read, and the first rule that is broken.
+-- A time that may be absent: what is read is encoded so, what is encoded so is read, and the first rule that is broken.
 use Rattle.std.proofs.Common.{◌≡◌, ℕ, ◌+◌, Bool, true, false, cond, not, ◌||◌, eqb, List, [], ◌∷◌, ◌++◌, length, Option, Some, None, Result, Ok, Err, refl, sym, ap, subst, ◌∙◌, arith}
 use Rattle.ts_der.specs.declared.fault.DerFault.{DerFault}
 use Rattle.ts_der.specs.declared.fault.DerFault.TheVariants.{WrongTag}
@@ -20,13 +20,13 @@ use Rattle.ts_shape.proofs.Parts.{took}
 use Rattle.ts_cert.specs.declared.time.Time.{Time}
 use Rattle.ts_cert.specs.declared.time.TimeForm.{TimeForm}
 use Rattle.ts_cert.specs.declared.time.TimeForm.TheVariants.{Utc, General}
-use Rattle.ts_cert.specs.Spelling.{IsTimeIn}
+use Rattle.ts_cert.specs.Encoding.{IsTimeIn}
 use Rattle.ts_cert.specs.Table.{time}
 use Rattle.ts_cert.specs.Time.{time_of, time_at}
 use Rattle.ts_cert.proofs.Judging.{time-reads}
 use Rattle.ts_cert.proofs.Periods.{time-part}
 use Rattle.ts_crl.specs.Reading.{or_general, next_update_at}
-use Rattle.ts_crl.specs.Spelling.{IsTimeIfAny}
+use Rattle.ts_crl.specs.Encoding.{IsTimeIfAny}
 
 -- a time that stands
 abbrev some_time : Place → Result (Option Time × Place) Fault
@@ -70,7 +70,7 @@ form-is tag here = by_start (begins_with tag here.rest) refl
     by_start true e = ap (λ (r : Result (Tlv × Place) Fault). r >>= λ x. time_of x.0 >>= λ t. beside_some x.1 t) (element-next tag here e) ∙ by_next (next_at here)
     by_start false e = refl
 
--- a time of either form, where one stands
+-- a time of either form, where one is
 update-is : (here : Place) → next_update_at here ≡ cond (begins_with 0x17 here.rest) (some_time here) (cond (begins_with 0x18 here.rest) (some_time here) (no_time here))
 unfolding next_update_at
 update-is here = ap (λ (r : Result (Option Time × Place) Fault). r >>= λ t. or_general t) (form-is 0x17 here) ∙ by_start (begins_with 0x17 here.rest)
@@ -124,7 +124,7 @@ update-again here (Some t) w rest is utc general e =
     by_form Utc is false false p q = absurd (let yes : begins_with 0x17 here.rest ≡ true = ap (begins_with 0x17) e ∙ begins-within is rest in let no = sym yes ∙ p in cc)
     by_form General is false false p q = absurd (let yes : begins_with 0x18 here.rest ≡ true = ap (begins_with 0x18) e ∙ begins-within is rest in let no = sym yes ∙ q in cc)
 
--- a field that a time may stand before does not begin with another tag
+-- a field that a time may precede does not begin with another tag
 pub begins-if-time : (w : List ℕ) (x : Option Time) → IsTimeIfAny w x → (rest : List ℕ) → begins_with 0x30 rest ≡ false → begins_with 0x30 (w ++ rest) ≡ false
 begins-if-time w None is rest absent = subst (λ (o : List ℕ). begins_with 0x30 (o ++ rest) ≡ false) (sym is) absent
 begins-if-time w (Some t) is rest absent = by_form t.form is

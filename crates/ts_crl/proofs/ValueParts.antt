@@ -5,7 +5,7 @@ use Rattle.std.specs.Result.{result_ok}
 use Rattle.ts_der.specs.declared.fault.Fault.{Fault}
 use Rattle.ts_der.specs.Octets.{AreOctets}
 use Rattle.ts_der.specs.Answer.{Answers}
-use Rattle.ts_der.specs.Element.{Tlv, spelled_at}
+use Rattle.ts_der.specs.Element.{Tlv, encoded_at}
 use Rattle.ts_ext.specs.declared.ext.Ext.{Ext}
 use Rattle.ts_ext.specs.declared.known.Known.{Known}
 use Rattle.ts_ext.specs.Ext.{ExtValue, IsExt, ext_of}
@@ -22,7 +22,7 @@ unfolding value_in_octets
 anywhere known e fits = by_value (ext_of known e) refl (ext_of known front) refl
   where
     front : Tlv
-    front = spelled_at 0 0x04 e.content
+    front = encoded_at 0 0x04 e.content
 
     by_value : (r : Result ExtValue Fault) → ext_of known e ≡ r → (s : Result ExtValue Fault) → ext_of known front ≡ s → ok_of r ≡ ok_of s
     by_value (Ok x) a s b = ap (λ (q : Result ExtValue Fault). ok_of q) (sym (moved known e front x refl fits a) ∙ b)

@@ -5,33 +5,33 @@ use Rattle.ts_der.specs.View.{now}
 use Rattle.ts_shape.specs.Items.{items_at}
 use Rattle.ts_cert.specs.Period.{time_in}
 use Rattle.ts_ext.specs.declared.extension.Extension.{Extension as Lent}
-use Rattle.ts_ext.specs.Extension.{Extension, Standing, said, standing_in}
-use Rattle.ts_ext.specs.ExtensionView.{standing_as}
+use Rattle.ts_ext.specs.Extension.{Extension, Located, unlocated, located_in}
+use Rattle.ts_ext.specs.ExtensionView.{located_as}
 use Rattle.ts_crl.specs.declared.extension_list.ExtensionList.{ExtensionList}
 use Rattle.ts_crl.specs.declared.placed.Placed.{Placed}
 use Rattle.ts_crl.specs.declared.entry.Entry.{Entry}
 use Rattle.ts_crl.specs.declared.revoked.Revoked.{Revoked}
-use Rattle.ts_crl.specs.List.{StandingExtensions, StandingEntry, RevokedCertificate, said_entry}
+use Rattle.ts_crl.specs.List.{LocatedExtensions, LocatedEntry, RevokedCertificate, unlocated_entry}
 use Rattle.ts_crl.specs.Reading.{entry_in as reading_of}
 
-abbrev pub listed_in : ExtensionList → List Standing
-listed_in l = items_at standing_in (inside (now l.element))
+abbrev pub listed_in : ExtensionList → List Located
+listed_in l = items_at located_in (inside (now l.element))
 
-abbrev pub placed_in : Placed → StandingExtensions
+abbrev pub placed_in : Placed → LocatedExtensions
 placed_in p = record { at = p.at; extensions = listed_in p.list }
 
-abbrev pub entry_as : Entry → StandingEntry
+abbrev pub entry_as : Entry → LocatedEntry
 entry_as e = record { userCertificate = e.serial_number.octets.now; revocationDate = time_in e.date; crlEntryExtensions = option_map placed_in e.extensions }
 
-abbrev pub revoked_in : Revoked → List StandingEntry
+abbrev pub revoked_in : Revoked → List LocatedEntry
 revoked_in r = items_at reading_of (inside (now r.element))
 
 -- and what they say, wherever they stand
 abbrev pub entry_in : Entry → RevokedCertificate
-entry_in e = said_entry (entry_as e)
+entry_in e = unlocated_entry (entry_as e)
 
 abbrev pub entries_in : Revoked → List RevokedCertificate
-entries_in r = map said_entry (revoked_in r)
+entries_in r = map unlocated_entry (revoked_in r)
 
 abbrev pub extension_as : Lent → Extension
-extension_as x = said (standing_as x)
+extension_as x = unlocated (located_as x)

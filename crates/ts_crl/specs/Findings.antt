@@ -8,10 +8,10 @@ use Rattle.ts_shape.specs.declared.fault.CertFault.{CertFault}
 use Rattle.ts_shape.specs.Shape.{◌or_else◌}
 use Rattle.ts_ext.specs.declared.known.Holder.TheVariants.{Entry}
 use Rattle.ts_ext.specs.declared.known.Known.TheVariants.{CertificateIssuer}
-use Rattle.ts_ext.specs.Extension.{Standing, said}
+use Rattle.ts_ext.specs.Extension.{Located, unlocated}
 use Rattle.ts_ext.specs.ValueRules.{values_fault}
 use Rattle.ts_crl.specs.declared.extension_rule.ExtensionRule.TheVariants.{OldVersion, Repeated, Values}
-use Rattle.ts_crl.specs.List.{StandingExtensions, StandingEntry, said_entry}
+use Rattle.ts_crl.specs.List.{LocatedExtensions, LocatedEntry, unlocated_entry}
 use Rattle.ts_crl.specs.Profile.{unprocessed_in, unprocessed_of_entries, names_issuer}
 use Rattle.ts_crl.specs.Rules.{rule_fault, entries_fault}
 use Rattle.ts_crl.specs.Values.{is_known}
@@ -26,17 +26,17 @@ pub record Findings : Type 0 where
   pub issuer : Bool
 
 -- what is found in entries, one after another
-abbrev pub findings_of : List StandingEntry → Findings
+abbrev pub findings_of : List LocatedEntry → Findings
 findings_of es =
     record {
       old_version = entries_fault OldVersion es;
       repeated = entries_fault Repeated es;
       value = entries_fault Values es;
-      unprocessed = unprocessed_of_entries (map said_entry es);
-      issuer = list_any names_issuer (map said_entry es);
+      unprocessed = unprocessed_of_entries (map unlocated_entry es);
+      issuer = list_any names_issuer (map unlocated_entry es);
     }
 
--- what is found in entries and in others behind them
+-- what is found in entries and in others after them
 abbrev pub joined : Findings → Findings → Findings
 joined f g =
     record {
@@ -50,22 +50,22 @@ joined f g =
 -- ---- one entry
 
 -- what is found in extensions, looked at one by one
-abbrev pub found_among : List Standing → Findings
+abbrev pub found_among : List Located → Findings
 found_among xs =
     record {
       old_version = None;
       repeated = None;
       value = values_fault Entry xs;
-      unprocessed = unprocessed_in Entry (map said xs);
-      issuer = list_any (is_known CertificateIssuer) (map said xs);
+      unprocessed = unprocessed_in Entry (map unlocated xs);
+      issuer = list_any (is_known CertificateIssuer) (map unlocated xs);
     }
 
 -- what is found in the extensions of an entry
-abbrev pub found_in : StandingExtensions → Findings
+abbrev pub found_in : LocatedExtensions → Findings
 found_in x = record (found_among x.extensions) { old_version = rule_fault OldVersion Entry x; repeated = rule_fault Repeated Entry x }
 
 -- the same where there may be none
-abbrev pub found_if_any : Option StandingExtensions → Findings
+abbrev pub found_if_any : Option LocatedExtensions → Findings
 found_if_any None = findings_of []
 found_if_any (Some x) = found_in x
 
@@ -76,17 +76,17 @@ abbrev pub Notes : {A : Type 0} → (A → Findings) → Findings → Findings �
 Notes {A} found old new (Ok done) reading = (x : A) × (reading ≡ Ok x) × (new ≡ joined old (found x))
 Notes found old new (Err f) reading = reading ≡ Err f
 
--- the same of what stands next, and the reader has passed it
+-- the same for what is next, and the reader has passed it
 abbrev pub NotesNext : {A : Type 0} → (A → Findings) → Place → Findings → Findings → Result (Unit {0}) Fault → Result (A × Place) Fault → Type 0
 NotesNext {A} found after old new (Ok done) reading = (x : A) × (reading ≡ Ok (x, after)) × (new ≡ joined old (found x))
 NotesNext found after old new (Err f) reading = reading ≡ Err f
 
--- the same of extensions, which are counted
-abbrev pub NotesAmong : Findings → Findings → Result ℕ Fault → Result (List Standing) Fault → Type 0
-NotesAmong old new (Ok count) reading = (xs : List Standing) × (reading ≡ Ok xs) × (new ≡ joined old (found_among xs)) × (count ≡ length xs)
+-- the same for extensions, which are counted
+abbrev pub NotesAmong : Findings → Findings → Result ℕ Fault → Result (List Located) Fault → Type 0
+NotesAmong old new (Ok count) reading = (xs : List Located) × (reading ≡ Ok xs) × (new ≡ joined old (found_among xs)) × (count ≡ length xs)
 NotesAmong old new (Err f) reading = reading ≡ Err f
 
 -- a call read entries, and answered what is found in them
-abbrev pub Finds : {X : Type 0} → (X → Findings) → Result X Fault → Result (List StandingEntry) Fault → Type 0
-Finds view (Ok f) reading = (es : List StandingEntry) × (reading ≡ Ok es) × (view f ≡ findings_of es)
+abbrev pub Finds : {X : Type 0} → (X → Findings) → Result X Fault → Result (List LocatedEntry) Fault → Type 0
+Finds view (Ok f) reading = (es : List LocatedEntry) × (reading ≡ Ok es) × (view f ≡ findings_of es)
 Finds view (Err f) reading = reading ≡ Err f

@@ -10,7 +10,7 @@ use Rattle.ts_crl.specs.declared.owned.OwnedCrlFault.{OwnedCrlFault}
 use Rattle.ts_crl.specs.declared.owned.OwnedCrlFault.TheVariants.{Memory, Unreadable}
 use Rattle.ts_crl.specs.Fault.{ListFault, fault_in, fault_text}
 use Rattle.ts_crl.specs.Findings.{Findings, findings_of}
-use Rattle.ts_crl.specs.List.{StandingEntry, StandingTbs, StandingList}
+use Rattle.ts_crl.specs.List.{LocatedEntry, LocatedTbsList, LocatedList}
 use Rattle.ts_crl.specs.Reading.{revoked_of, tbs_of, signed_of, shape_of}
 use Rattle.ts_crl.specs.Table.{list_fault, crl_of}
 use Rattle.ts_crl.specs.Rules.{entries_fault}
@@ -26,7 +26,7 @@ RefusedFor octets Memory = Unit {0}
 RefusedFor octets (Unreadable fault) = crl_of octets ≡ Err (fault_in fault)
 
 -- where the first extensions of entries are
-abbrev pub first_place : Option (List StandingEntry) → Option CertFault
+abbrev pub first_place : Option (List LocatedEntry) → Option CertFault
 first_place None = None
 first_place (Some es) = entries_fault OldVersion es
 
@@ -39,24 +39,24 @@ kept_text (Unreadable fault) = codes "Unreadable(" ++ (fault_text (fault_in faul
 abbrev pub only_place : Option CertFault → Findings
 only_place first = record { old_version = first; repeated = None; value = None; unprocessed = None; issuer = false }
 
-abbrev pub HavePlace : Option CertFault → Option (List StandingEntry) → Type 0
+abbrev pub HavePlace : Option CertFault → Option (List LocatedEntry) → Type 0
 HavePlace first None = Unit {0}
 HavePlace first (Some es) = findings_of es ≡ only_place first
 
--- the entries that may stand next, the fields that are signed, and a list were read, and that is what was found
+-- the entries that may be next, the fields that are signed, and a list were read, and that is what was found
 abbrev pub EntriesRead : Option CertFault → Place → Type 0
-EntriesRead first here = (x : Option (List StandingEntry) × Place) × (optional_of 0x30 revoked_of here ≡ Ok x) × HavePlace first x.0
+EntriesRead first here = (x : Option (List LocatedEntry) × Place) × (optional_of 0x30 revoked_of here ≡ Ok x) × HavePlace first x.0
 
 abbrev pub TbsRead : Option CertFault → Tlv → Type 0
-TbsRead first e = (t : StandingTbs) × (tbs_of e ≡ Ok t) × HavePlace first t.revokedCertificates
+TbsRead first e = (t : LocatedTbsList) × (tbs_of e ≡ Ok t) × HavePlace first t.revokedCertificates
 
 abbrev pub SignedRead : Option CertFault → Tlv → Type 0
-SignedRead first e = (l : StandingList) × (signed_of e ≡ Ok l) × HavePlace first l.tbsCertList.revokedCertificates
+SignedRead first e = (l : LocatedList) × (signed_of e ≡ Ok l) × HavePlace first l.tbsCertList.revokedCertificates
 
 -- octets are a list that breaks no rule, and that was found in its entries
 pub record WasRead (first : Option CertFault) (octets : List ℕ) : Type 0 where
   pub are_octets : AreOctets octets
-  pub list : StandingList
+  pub list : LocatedList
   pub shape : shape_of octets ≡ Ok list
   pub unbroken : list_fault list ≡ None
   pub entries : HavePlace first list.tbsCertList.revokedCertificates

@@ -6,7 +6,7 @@ pub mod Reading
 pub mod Rules
 pub mod Values
 pub mod Profile
-pub mod Spelling
+pub mod Encoding
 pub mod Table
 pub mod Findings
 pub mod FindingsView

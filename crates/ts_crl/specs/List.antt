@@ -3,7 +3,7 @@ use Rattle.std.specs.Prelude.{ℕ, List, Option, map, option_map}
 use Rattle.ts_name.specs.Canon.{Attr}
 use Rattle.ts_cert.specs.declared.time.Time.{Time}
 use Rattle.ts_cert.specs.Certificate.{Algorithm}
-use Rattle.ts_ext.specs.Extension.{Extension, Standing, said}
+use Rattle.ts_ext.specs.Extension.{Extension, Located, unlocated}
 use Rattle.ts_crl.specs.declared.version.ListVersion.{ListVersion}
 
 -- a member of revokedCertificates (5.1.2.6): the serial number is the content of its INTEGER
@@ -29,44 +29,44 @@ pub record CertificateList : Type 0 where
   pub signatureAlgorithm : Algorithm
   pub signatureValue : List ℕ
 
--- ---- the same where it stands
+-- ---- the same where it is
 
 -- extensions, and the place of the element that a list or an entry has them in
-pub record StandingExtensions : Type 0 where
+pub record LocatedExtensions : Type 0 where
   pub at : ℕ
-  pub extensions : List Standing
+  pub extensions : List Located
 
-pub record StandingEntry : Type 0 where
+pub record LocatedEntry : Type 0 where
   pub userCertificate : List ℕ
   pub revocationDate : Time
-  pub crlEntryExtensions : Option StandingExtensions
+  pub crlEntryExtensions : Option LocatedExtensions
 
-pub record StandingTbs : Type 0 where
+pub record LocatedTbsList : Type 0 where
   pub version : ListVersion
   pub signature : Algorithm
   pub issuer : List (List Attr)
   pub thisUpdate : Time
   pub nextUpdate : Option Time
-  pub revokedCertificates : Option (List StandingEntry)
-  pub crlExtensions : Option StandingExtensions
+  pub revokedCertificates : Option (List LocatedEntry)
+  pub crlExtensions : Option LocatedExtensions
 
 -- with the place of the algorithm identifier beside the signature
-pub record StandingList : Type 0 where
+pub record LocatedList : Type 0 where
   pub tbs : List ℕ
-  pub tbsCertList : StandingTbs
+  pub tbsCertList : LocatedTbsList
   pub signatureAlgorithm : Algorithm
   pub identifier_at : ℕ
   pub signatureValue : List ℕ
 
 -- ---- what it says, wherever it stands
 
-abbrev pub said_extensions : StandingExtensions → List Extension
-said_extensions x = map said x.extensions
+abbrev pub unlocated_extensions : LocatedExtensions → List Extension
+unlocated_extensions x = map unlocated x.extensions
 
-abbrev pub said_entry : StandingEntry → RevokedCertificate
-said_entry e = record { userCertificate = e.userCertificate; revocationDate = e.revocationDate; crlEntryExtensions = option_map said_extensions e.crlEntryExtensions }
+abbrev pub unlocated_entry : LocatedEntry → RevokedCertificate
+unlocated_entry e = record { userCertificate = e.userCertificate; revocationDate = e.revocationDate; crlEntryExtensions = option_map unlocated_extensions e.crlEntryExtensions }
 
-abbrev pub said_tbs : StandingTbs → TbsCertList
+abbrev pub said_tbs : LocatedTbsList → TbsCertList
 said_tbs t =
     record {
       version = t.version;
@@ -74,9 +74,9 @@ said_tbs t =
       issuer = t.issuer;
       thisUpdate = t.thisUpdate;
       nextUpdate = t.nextUpdate;
-      revokedCertificates = option_map (map said_entry) t.revokedCertificates;
-      crlExtensions = option_map said_extensions t.crlExtensions;
+      revokedCertificates = option_map (map unlocated_entry) t.revokedCertificates;
+      crlExtensions = option_map unlocated_extensions t.crlExtensions;
     }
 
-abbrev pub said_list : StandingList → CertificateList
-said_list l = record { tbs = l.tbs; tbsCertList = said_tbs l.tbsCertList; signatureAlgorithm = l.signatureAlgorithm; signatureValue = l.signatureValue }
+abbrev pub unlocated_list : LocatedList → CertificateList
+unlocated_list l = record { tbs = l.tbs; tbsCertList = said_tbs l.tbsCertList; signatureAlgorithm = l.signatureAlgorithm; signatureValue = l.signatureValue }

@@ -6,9 +6,9 @@ use Rattle.ts_cert.specs.View.{algorithm_in}
 use Rattle.ts_crl.specs.declared.crl.Crl.{Crl}
 use Rattle.ts_crl.specs.declared.tbs.TbsCertList.{TbsCertList}
 use Rattle.ts_crl.specs.EntryView.{placed_in, revoked_in}
-use Rattle.ts_crl.specs.List.{CertificateList, StandingTbs, StandingList, said_list}
+use Rattle.ts_crl.specs.List.{CertificateList, LocatedTbsList, LocatedList, unlocated_list}
 
-abbrev pub tbs_in : TbsCertList → StandingTbs
+abbrev pub tbs_in : TbsCertList → LocatedTbsList
 tbs_in t =
     record {
       version = t.version;
@@ -20,8 +20,8 @@ tbs_in t =
       crlExtensions = option_map placed_in t.extensions;
     }
 
-abbrev pub standing_list_in : Crl → StandingList
-standing_list_in c =
+abbrev pub located_list_in : Crl → LocatedList
+located_list_in c =
     record {
       tbs = c.tbs.now;
       tbsCertList = record {
@@ -39,4 +39,4 @@ standing_list_in c =
     }
 
 abbrev pub crl_in : Crl → CertificateList
-crl_in c = said_list (standing_list_in c)
+crl_in c = unlocated_list (located_list_in c)

@@ -17,7 +17,7 @@ use Rattle.ts_crl.specs.Values.{is_known, extensions_of, entry_extensions_of, va
 
 -- ---- critical extensions
 
--- an extension is critical, and not one of those that are processed where it stands
+-- an extension is critical, and not one of those that are processed where it is
 abbrev pub is_unprocessed : Holder → Extension → Bool
 is_unprocessed holder x = x.critical && is_none (known_at holder x.extnID)
 

@@ -15,20 +15,20 @@ use Rattle.ts_shape.specs.Items.{each, alone, of_tag, some_of}
 use Rattle.ts_cert.specs.declared.time.Time.{Time}
 use Rattle.ts_cert.specs.Reading.{algorithm_of, algorithm_at}
 use Rattle.ts_cert.specs.Time.{time_of, time_at}
-use Rattle.ts_ext.specs.Extension.{standing_in}
-use Rattle.ts_crl.specs.List.{StandingExtensions, StandingEntry, StandingTbs, StandingList}
+use Rattle.ts_ext.specs.Extension.{located_in}
+use Rattle.ts_crl.specs.List.{LocatedExtensions, LocatedEntry, LocatedTbsList, LocatedList}
 use Rattle.ts_crl.specs.Version.{version_at}
 
 -- Extensions ::= SEQUENCE SIZE (1..MAX) OF Extension
-unfoldable pub extensions_of : Tlv → Result StandingExtensions Fault
-extensions_of e = some_of standing_in e >>= λ xs. Ok (record { at = e.at; extensions = xs })
+unfoldable pub extensions_of : Tlv → Result LocatedExtensions Fault
+extensions_of e = some_of located_in e >>= λ xs. Ok (record { at = e.at; extensions = xs })
 
 -- [0] EXPLICIT Extensions
-unfoldable pub wrapped_extensions_of : Tlv → Result StandingExtensions Fault
-wrapped_extensions_of e = alone (of_tag 0x30 (some_of standing_in)) e >>= λ xs. Ok (record { at = e.at; extensions = xs })
+unfoldable pub wrapped_extensions_of : Tlv → Result LocatedExtensions Fault
+wrapped_extensions_of e = alone (of_tag 0x30 (some_of located_in)) e >>= λ xs. Ok (record { at = e.at; extensions = xs })
 
 -- a member of revokedCertificates ::= SEQUENCE { userCertificate, revocationDate, crlEntryExtensions }
-unfoldable pub entry_of : Tlv → Result StandingEntry Fault
+unfoldable pub entry_of : Tlv → Result LocatedEntry Fault
 entry_of e = do
   serial ← integer_at (inside e)
   date ← time_at serial.1
@@ -36,11 +36,11 @@ entry_of e = do
   done ← end_at extensions.1
   Ok (record { userCertificate = serial.0; revocationDate = date.0; crlEntryExtensions = extensions.0 })
 
-abbrev pub entry_in : Tlv → Result StandingEntry Fault
+abbrev pub entry_in : Tlv → Result LocatedEntry Fault
 entry_in = of_tag 0x30 entry_of
 
 -- revokedCertificates ::= SEQUENCE OF, of which there may be none
-abbrev pub revoked_of : Tlv → Result (List StandingEntry) Fault
+abbrev pub revoked_of : Tlv → Result (List LocatedEntry) Fault
 revoked_of e = many (each entry_in) (inside e)
 
 -- a GeneralizedTime, where no UTCTime stood
@@ -53,7 +53,7 @@ unfoldable pub next_update_at : Place → Result (Option Time × Place) Fault
 next_update_at here = optional_of 0x17 time_of here >>= λ utc. or_general utc
 
 -- TBSCertList ::= SEQUENCE { version, signature, issuer, thisUpdate, nextUpdate, revokedCertificates, crlExtensions }
-unfoldable pub tbs_of : Tlv → Result StandingTbs CertFault
+unfoldable pub tbs_of : Tlv → Result LocatedTbsList CertFault
 tbs_of e = do
   version ← version_at (inside e)
   signature ← der (algorithm_at version.1)
@@ -74,7 +74,7 @@ tbs_of e = do
   })
 
 -- CertificateList ::= SEQUENCE { tbsCertList, signatureAlgorithm, signatureValue BIT STRING }
-unfoldable pub signed_of : Tlv → Result StandingList CertFault
+unfoldable pub signed_of : Tlv → Result LocatedList CertFault
 signed_of e = do
   tbs ← der (element_at 0x30 (inside e))
   fields ← tbs_of tbs.0
@@ -84,8 +84,8 @@ signed_of e = do
   done ← der (end_at signature.1)
   Ok (record { tbs = tbs.0.whole; tbsCertList = fields; signatureAlgorithm = algorithm; identifier_at = identifier.0.at; signatureValue = signature.0 })
 
--- the list that octets are, and nothing behind it
-unfoldable pub whole_of : List ℕ → Result StandingList CertFault
+-- the list that octets are, and nothing after it
+unfoldable pub whole_of : List ℕ → Result LocatedList CertFault
 whole_of octets = do
   e ← der (element_at 0x30 (record { rest = octets; at = 0 }))
   signed ← signed_of e.0
@@ -93,5 +93,5 @@ whole_of octets = do
   Ok signed
 
 -- octets that are at most 4,194,304, the limit of this profile
-unfoldable pub shape_of : List ℕ → Result StandingList CertFault
+unfoldable pub shape_of : List ℕ → Result LocatedList CertFault
 shape_of octets = if nat_lt 4194304 (length octets) then Err (breaks 0 (Der TooLarge)) else whole_of octets

@@ -9,15 +9,15 @@ use Rattle.ts_shape.specs.Shape.{◌or_else◌}
 use Rattle.ts_ext.specs.declared.known.Holder.{Holder}
 use Rattle.ts_ext.specs.declared.known.Holder.TheVariants.{List as ListHolder, Entry}
 use Rattle.ts_ext.specs.declared.known.Known.TheVariants.{DeltaCrlIndicator}
-use Rattle.ts_ext.specs.Extension.{Extension, Standing, said}
-use Rattle.ts_ext.specs.ValueRules.{repeated_fault, values_fault, AreSound}
+use Rattle.ts_ext.specs.Extension.{Extension, Located, unlocated}
+use Rattle.ts_ext.specs.ValueRules.{repeated_fault, values_fault, AreValid}
 use Rattle.ts_crl.specs.declared.extension_rule.ExtensionRule.{ExtensionRule}
 use Rattle.ts_crl.specs.declared.extension_rule.ExtensionRule.TheVariants.{OldVersion, Repeated, Values}
 use Rattle.ts_crl.specs.declared.version.ListVersion.{ListVersion}
 use Rattle.ts_crl.specs.declared.version.ListVersion.TheVariants.{V1, V2}
 use Rattle.ts_crl.specs.Entries.{entries_of}
-use Rattle.ts_crl.specs.List.{StandingExtensions, StandingEntry, StandingList, RevokedCertificate, CertificateList}
-use Rattle.ts_crl.specs.Values.{is_known, with_number, standing_with_number}
+use Rattle.ts_crl.specs.List.{LocatedExtensions, LocatedEntry, LocatedList, RevokedCertificate, CertificateList}
+use Rattle.ts_crl.specs.Values.{is_known, with_number, located_with_number}
 
 -- ---- whose rules a value keeps
 
@@ -25,51 +25,51 @@ use Rattle.ts_crl.specs.Values.{is_known, with_number, standing_with_number}
 abbrev pub as_ruled : Extension → Extension
 as_ruled x = if is_known DeltaCrlIndicator x then with_number x else x
 
-abbrev pub standing_as_ruled : Standing → Standing
-standing_as_ruled x = if is_known DeltaCrlIndicator (said x) then standing_with_number x else x
+abbrev pub located_as_ruled : Located → Located
+located_as_ruled x = if is_known DeltaCrlIndicator (unlocated x) then located_with_number x else x
 
 -- extensions, each under the object identifier whose rules its value keeps: of a list, and of an entry, where each is its own
 abbrev pub all_as_ruled : Holder → List Extension → List Extension
 all_as_ruled ListHolder xs = map as_ruled xs
 all_as_ruled other xs = xs
 
-abbrev pub all_standing_as_ruled : Holder → List Standing → List Standing
-all_standing_as_ruled ListHolder xs = map standing_as_ruled xs
-all_standing_as_ruled other xs = xs
+abbrev pub all_located_as_ruled : Holder → List Located → List Located
+all_located_as_ruled ListHolder xs = map located_as_ruled xs
+all_located_as_ruled other xs = xs
 
 -- ---- the first rule that is broken
 
 -- the first place at which extensions break a rule
-abbrev pub rule_fault : ExtensionRule → Holder → StandingExtensions → Option CertFault
+abbrev pub rule_fault : ExtensionRule → Holder → LocatedExtensions → Option CertFault
 -- a list of version 1 has none (5.1.2.1)
 rule_fault OldVersion holder x = Some (breaks x.at ExtensionsInOldVersion)
--- none stands twice (4.2)
+-- none occurs twice (4.2)
 rule_fault Repeated holder x = repeated_fault x.extensions
 -- the value of each is one that its extension has (5.2, 5.3)
-rule_fault Values holder x = values_fault holder (all_standing_as_ruled holder x.extensions)
+rule_fault Values holder x = values_fault holder (all_located_as_ruled holder x.extensions)
 
-abbrev pub fault_if_any : ExtensionRule → Holder → Option StandingExtensions → Option CertFault
+abbrev pub fault_if_any : ExtensionRule → Holder → Option LocatedExtensions → Option CertFault
 fault_if_any rule holder None = None
 fault_if_any rule holder (Some x) = rule_fault rule holder x
 
-abbrev pub entries_fault : ExtensionRule → List StandingEntry → Option CertFault
+abbrev pub entries_fault : ExtensionRule → List LocatedEntry → Option CertFault
 entries_fault rule [] = None
 entries_fault rule (e ∷ es) = fault_if_any rule Entry e.crlEntryExtensions or_else entries_fault rule es
 
--- the entries stand before the extensions of the list
-abbrev pub fault_by_place : ExtensionRule → StandingList → Option CertFault
+-- the entries precede the extensions of the list
+abbrev pub fault_by_place : ExtensionRule → LocatedList → Option CertFault
 fault_by_place rule l = entries_fault rule (unwrap_or l.tbsCertList.revokedCertificates []) or_else fault_if_any rule ListHolder l.tbsCertList.crlExtensions
 
-abbrev pub version_fault : ListVersion → StandingList → Option CertFault
+abbrev pub version_fault : ListVersion → LocatedList → Option CertFault
 version_fault V1 l = fault_by_place OldVersion l
 version_fault V2 l = None
 
 -- signatureAlgorithm is the same as signature (5.1.1.2)
-abbrev pub algorithms_fault : StandingList → Option CertFault
+abbrev pub algorithms_fault : LocatedList → Option CertFault
 algorithms_fault l = if bytes_eq l.tbsCertList.signature.whole l.signatureAlgorithm.whole then None else Some (breaks l.identifier_at AlgorithmMismatch)
 
 -- the first of these rules that a list breaks
-abbrev pub placed_fault : StandingList → Option CertFault
+abbrev pub placed_fault : LocatedList → Option CertFault
 placed_fault l = algorithms_fault l or_else version_fault l.tbsCertList.version l or_else fault_by_place Repeated l or_else fault_by_place Values l
 
 -- ---- what keeps the rules
@@ -77,7 +77,7 @@ placed_fault l = algorithms_fault l or_else version_fault l.tbsCertList.version 
 abbrev pub Keeps : ExtensionRule → Holder → List Extension → Type 0
 Keeps OldVersion holder xs = ⊥
 Keeps Repeated holder xs = first_repeated (λ x. x.extnID) [] xs ≡ None
-Keeps Values holder xs = AreSound holder (all_as_ruled holder xs)
+Keeps Values holder xs = AreValid holder (all_as_ruled holder xs)
 
 abbrev pub KeepsIfAny : ExtensionRule → Holder → Option (List Extension) → Type 0
 KeepsIfAny rule holder None = Unit {0}

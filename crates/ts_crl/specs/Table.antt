@@ -14,7 +14,7 @@ use Rattle.ts_cert.specs.Table.{algorithm_identifier, time, from_front}
 use Rattle.ts_ext.specs.Extension.{extensions as extension_items}
 use Rattle.ts_ext.specs.Table.{list_rules}
 use Rattle.ts_crl.specs.Fault.{ListFault, broken}
-use Rattle.ts_crl.specs.List.{CertificateList, StandingList, said_list}
+use Rattle.ts_crl.specs.List.{CertificateList, LocatedList, unlocated_list}
 use Rattle.ts_crl.specs.Profile.{profile_fault}
 use Rattle.ts_crl.specs.Reading.{shape_of}
 use Rattle.ts_crl.specs.Rules.{placed_fault}
@@ -77,17 +77,17 @@ tbs_cert_list = sequence tbs_fields
 abbrev pub certificate_list : Row
 certificate_list = sequence (tbs_cert_list then algorithm_identifier then bit_string then nothing)
 
--- the first rule of the shape that is broken: at most 4,194,304 octets, the limit of this profile; the table, and nothing behind it
+-- the first rule of the shape that is broken: at most 4,194,304 octets, the limit of this profile; the table, and nothing after it
 abbrev pub shape_fault : List ℕ → Option CertFault
 shape_fault octets = if nat_lt 4194304 (length octets) then Some (breaks 0 (Der TooLarge)) else judge (certificate_list then nothing) (from_front octets)
 
 -- ---- the whole
 
 -- the first rule that a list of this shape breaks: those that have a place, then those of this profile
-abbrev pub list_fault : StandingList → Option ListFault
-list_fault l = option_map (λ f. broken f) (placed_fault l) or_else profile_fault (said_list l)
+abbrev pub list_fault : LocatedList → Option ListFault
+list_fault l = option_map (λ f. broken f) (placed_fault l) or_else profile_fault (unlocated_list l)
 
-abbrev pub list_fault_of : Result StandingList CertFault → Option ListFault
+abbrev pub list_fault_of : Result LocatedList CertFault → Option ListFault
 list_fault_of (Ok l) = list_fault l
 list_fault_of (Err f) = None
 
@@ -96,11 +96,11 @@ abbrev pub crl_fault : List ℕ → Option ListFault
 crl_fault octets = option_map (λ f. broken f) (shape_fault octets) or_else list_fault_of (shape_of octets)
 
 -- what a list says, or the first rule that it breaks
-abbrev pub unless_broken : StandingList → Option ListFault → Result CertificateList ListFault
-unless_broken l None = Ok (said_list l)
+abbrev pub unless_broken : LocatedList → Option ListFault → Result CertificateList ListFault
+unless_broken l None = Ok (unlocated_list l)
 unless_broken l (Some f) = Err f
 
-abbrev pub as_list : Result StandingList CertFault → Result StandingList ListFault
+abbrev pub as_list : Result LocatedList CertFault → Result LocatedList ListFault
 as_list (Ok l) = Ok l
 as_list (Err f) = Err (broken f)
 

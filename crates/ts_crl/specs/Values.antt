@@ -2,7 +2,7 @@
 use Rattle.std.specs.Prelude.{ℕ, ℤ, Bool, List, [], Option, Some, None, unwrap_or, option_map, Result, Ok, Err}
 use Rattle.std.specs.List.{find}
 use Rattle.std.specs.Str.{bytes_eq}
-use Rattle.ts_der.specs.Element.{spelled_at}
+use Rattle.ts_der.specs.Element.{encoded_at}
 use Rattle.ts_ext.specs.declared.known.Holder.{Holder}
 use Rattle.ts_ext.specs.declared.known.Holder.TheVariants.{List as ListHolder, Entry}
 use Rattle.ts_ext.specs.declared.known.Known.{Known}
@@ -10,7 +10,7 @@ use Rattle.ts_ext.specs.declared.known.Known.TheVariants.{CrlNumber, DeltaCrlInd
 use Rattle.ts_ext.specs.declared.reason_code.ReasonCode.{ReasonCode}
 use Rattle.ts_ext.specs.AuthorityKey.{AuthorityKey}
 use Rattle.ts_ext.specs.Ext.{ExtValue, cRLNumber, authorityKeyIdentifier, reasonCode, invalidityDate, ext_of}
-use Rattle.ts_ext.specs.Extension.{Extension, Standing}
+use Rattle.ts_ext.specs.Extension.{Extension, Located}
 use Rattle.ts_ext.specs.Known.{known_at, identifier_of}
 use Rattle.ts_crl.specs.List.{RevokedCertificate, CertificateList}
 
@@ -31,7 +31,7 @@ ok_of (Err e) = None
 
 -- what octets are as the value of an extension, if they are one
 unfoldable pub value_in_octets : Option Known → List ℕ → Option ExtValue
-value_in_octets known octets = ok_of (ext_of known (spelled_at 0 0x04 octets))
+value_in_octets known octets = ok_of (ext_of known (encoded_at 0 0x04 octets))
 
 abbrev pub value_if_any : Holder → Option Extension → Option ExtValue
 value_if_any holder None = None
@@ -55,8 +55,8 @@ number_of c = as_number (value_among ListHolder CrlNumber (extensions_of c))
 abbrev pub with_number : Extension → Extension
 with_number x = record x { extnID = identifier_of CrlNumber }
 
-abbrev pub standing_with_number : Standing → Standing
-standing_with_number x = record x { extnID = identifier_of CrlNumber }
+abbrev pub located_with_number : Located → Located
+located_with_number x = record x { extnID = identifier_of CrlNumber }
 
 -- deltaCRLIndicator (5.2.4): BaseCRLNumber ::= CRLNumber, the number of the list that a delta states the changes of
 abbrev pub base_of : CertificateList → Option (List ℕ)

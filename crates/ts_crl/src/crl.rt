@@ -12,8 +12,8 @@ ghost use Rattle.ts_crl.specs.Fault.{AnswersBy, fault_in};
 ghost use Rattle.ts_crl.specs.List.{CertificateList};
 ghost use Rattle.ts_crl.specs.Profile.{scope_of};
 ghost use Rattle.ts_crl.specs.Values.{number_of, base_of, key_of};
-ghost use Rattle.ts_crl.specs.ListView.{standing_list_in, crl_in};
-ghost use Rattle.ts_crl.specs.Spelling.{IsCertificateList};
+ghost use Rattle.ts_crl.specs.ListView.{located_list_in, crl_in};
+ghost use Rattle.ts_crl.specs.Encoding.{IsCertificateList};
 ghost use Rattle.ts_crl.specs.Table.{list_fault, crl_fault, crl_of};
 
 use crate::entry::Entry;
@@ -67,9 +67,9 @@ impl<'a> Crl<'a> {
     /// critical extension of the list, then of its entries, that is not read there; `Indirect`; `RelativeName`;
     /// `DeltaCrl`.
     pub fn read(octets: &'a [u8]) -> Result<Crl<'a>, CrlFault<'a>>
-        // What is read is spelled so.
+        // What is read is encoded so.
         ensures found { IfOk result (λ crl. IsCertificateList octets.now (crl_in crl)) }
-        // What is spelled so is read.
+        // What is encoded so is read.
         ensures only { (c : CertificateList) → IsCertificateList octets.now c → IsOkAnd result (λ crl. crl_in crl ≡ c) }
         ensures fault { option_map fault_in (refusal result) ≡ crl_fault octets.now }
         ensures exact { AnswersBy crl_in fault_in result (crl_of octets.now) }
@@ -205,7 +205,7 @@ fn find_entry<'a>(crl: Crl<'a>, serial: Integer<'_>) -> Option<Entry<'a>>
 
 /// The first rule that a list of the right shape breaks.
 pub(crate) fn broken_rule<'a>(crl: &Crl<'a>) -> Option<CrlFault<'a>>
-    ensures { option_map fault_in result ≡ list_fault (standing_list_in crl.now) }
+    ensures { option_map fault_in result ≡ list_fault (located_list_in crl.now) }
 {
     match placed_fault(crl) {
         Some(fault) => Some(CrlFault::Broken(fault)),

@@ -78,7 +78,7 @@ fn read_revoked<'a>(element: Element<'a>) -> Result<Revoked<'a>, Fault>
     Ok(Revoked { element, findings })
 }
 
-/// The entries, where they stand next.
+/// The entries, where they are next.
 #[tactic(auto, unfolding(ts_shape::specs::Fields::optional_of, ts_der::specs::Reading::optional_at))]
 pub(crate) fn next_revoked_if_any<'a>(fields: &mut Reader<'a>) -> Result<Option<Revoked<'a>>, Fault>
     ensures { Takes (option_map revoked_in) fields.new result (optional_of 0x30 revoked_of fields.old) }

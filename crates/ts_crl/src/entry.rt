@@ -25,10 +25,10 @@ pub struct Entry<'a> {
 }
 
 impl<'a> FromElement<'a> for Entry<'a> {
-    ghost use Rattle.ts_crl.specs.List.{StandingEntry};
+    ghost use Rattle.ts_crl.specs.List.{LocatedEntry};
     ghost use Rattle.ts_crl.specs.Reading.{entry_in as reading_of};
 
-    ghost Record = { StandingEntry };
+    ghost Record = { LocatedEntry };
 
     ghost record_of = { entry_as };
 

@@ -5,7 +5,7 @@
 pub(crate) enum ExtensionRule {
     /// A list of version 1 has none (RFC 5280 5.1.2.1).
     OldVersion,
-    /// None stands twice (RFC 5280 4.2).
+    /// None occurs twice (RFC 5280 4.2).
     Repeated,
     /// The value of each is one that its extension has (RFC 5280 5.2, 5.3).
     Values,

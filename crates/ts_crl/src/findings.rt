@@ -5,7 +5,7 @@ ghost use Rattle.std.specs.Option.{option_copied};
 ghost use Rattle.ts_shape.specs.Shape.{◌or_else◌};
 ghost use Rattle.ts_ext.specs.declared.known.Holder.TheVariants.{Entry as EntryHolder};
 ghost use Rattle.ts_ext.specs.declared.known.Known.TheVariants.{CertificateIssuer};
-ghost use Rattle.ts_ext.specs.ExtensionView.{standing_as};
+ghost use Rattle.ts_ext.specs.ExtensionView.{located_as};
 ghost use Rattle.ts_ext.specs.ValueRules.{value_fault as value_fault_of};
 ghost use Rattle.ts_crl.specs.EntryView.{extension_as};
 ghost use Rattle.ts_crl.specs.Findings.{findings_of};
@@ -67,7 +67,7 @@ impl<'a> Findings<'a> {
     pub(crate) fn note(&mut self, extension: Extension<'a>)
         ensures old_version { self.new.old_version ≡ self.old.old_version }
         ensures repeated { self.new.repeated ≡ self.old.repeated }
-        ensures value { self.new.value ≡ (self.old.value or_else value_fault_of EntryHolder (standing_as extension.entry)) }
+        ensures value { self.new.value ≡ (self.old.value or_else value_fault_of EntryHolder (located_as extension.entry)) }
         ensures unprocessed { option_copied self.new.unprocessed ≡ (option_copied self.old.unprocessed or_else unprocessed_in EntryHolder (extension_as extension.entry ∷ [])) }
         ensures issuer { self.new.names_issuer ≡ (self.old.names_issuer || is_known CertificateIssuer (extension_as extension.entry)) }
     {

@@ -8,10 +8,10 @@ ghost use Rattle.ts_name.specs.NameView.{rdns_in};
 ghost use Rattle.ts_shape.specs.Fields.{optional_of};
 ghost use Rattle.ts_shape.specs.Items.{alone, of_tag, some_of};
 ghost use Rattle.ts_shape.specs.Steps.{Takes};
-ghost use Rattle.ts_ext.specs.Extension.{standing_in};
+ghost use Rattle.ts_ext.specs.Extension.{located_in};
 ghost use Rattle.ts_crl.specs.EntryView.{listed_in, placed_in, revoked_in};
 ghost use Rattle.ts_crl.specs.Kept.{EntriesRead, TbsRead, SignedRead, WasRead};
-ghost use Rattle.ts_crl.specs.ListView.{tbs_in, standing_list_in};
+ghost use Rattle.ts_crl.specs.ListView.{tbs_in, located_list_in};
 ghost use Rattle.ts_crl.specs.Reading.{wrapped_extensions_of, revoked_of, tbs_of, signed_of, whole_of};
 
 use crate::crl::Crl;
@@ -42,7 +42,7 @@ fn next_name<'a>(fields: &mut Reader<'a>) -> Result<Name<'a>, Fault>
     Ok(Name { element })
 }
 
-/// The entries, where they stand next, of which was found where the first of their extensions are.
+/// The entries, where they are next, of which was found where the first of their extensions are.
 #[tactic(auto, unfolding(ts_shape::specs::Fields::optional_of, ts_der::specs::Reading::optional_at))]
 fn next_revoked_if_any<'a>(
     fields: &mut Reader<'a>,
@@ -63,11 +63,11 @@ fn next_revoked_if_any<'a>(
     }
 }
 
-/// The extensions that a SEQUENCE within an element is, and nothing behind it.
+/// The extensions that a SEQUENCE within an element is, and nothing after it.
 #[tactic(auto, unfolding(ts_shape::specs::Items::alone, ts_shape::specs::Items::each, ts_shape::specs::Items::of_tag))]
 fn alone_in<'a>(element: Element<'a>) -> Result<ExtensionList<'a>, Fault>
-    requires { IsOk (alone (of_tag 0x30 (some_of standing_in)) (now element)) }
-    ensures { Answers listed_in result (alone (of_tag 0x30 (some_of standing_in)) (now element.entry)) }
+    requires { IsOk (alone (of_tag 0x30 (some_of located_in)) (now element)) }
+    ensures { Answers listed_in result (alone (of_tag 0x30 (some_of located_in)) (now element.entry)) }
 {
     let mut fields = element.reader();
     let element = tagged_as(fields.next()?, SEQUENCE)?;
@@ -75,7 +75,7 @@ fn alone_in<'a>(element: Element<'a>) -> Result<ExtensionList<'a>, Fault>
     Ok(ExtensionList { element })
 }
 
-/// The extensions of a list, where they stand next.
+/// The extensions of a list, where they are next.
 #[tactic(auto, unfolding(ts_shape::specs::Fields::optional_of, ts_der::specs::Reading::optional_at, crate::specs::Reading::wrapped_extensions_of))]
 fn next_extensions_if_any<'a>(fields: &mut Reader<'a>) -> Result<Option<Placed<'a>>, Fault>
     requires { IsOk (optional_of 0xA0 wrapped_extensions_of fields.now) }
@@ -125,7 +125,7 @@ fn tbs_in_element<'a>(
 #[tactic(auto, unfolding(crate::specs::Reading::signed_of))]
 fn signed_in<'a>(element: Element<'a>, first: Option<CertFault>) -> Result<Crl<'a>, CertFault>
     requires { SignedRead first (now element) }
-    ensures { Answers standing_list_in result (signed_of (now element.entry)) }
+    ensures { Answers located_list_in result (signed_of (now element.entry)) }
 {
     let mut fields = element.reader();
     let tbs = fields.element(SEQUENCE)?;
@@ -153,7 +153,7 @@ fn signed_in<'a>(element: Element<'a>, first: Option<CertFault>) -> Result<Crl<'
 #[tactic(auto, unfolding(crate::specs::Reading::whole_of))]
 pub(crate) fn list_in(octets: &[u8], first: Option<CertFault>) -> Result<Crl<'_>, CertFault>
     requires { WasRead first octets.now }
-    ensures { Answers standing_list_in result (whole_of octets.now) }
+    ensures { Answers located_list_in result (whole_of octets.now) }
 {
     let mut reader = Reader::new(octets);
     let crl = signed_in(reader.element(SEQUENCE)?, first)?;

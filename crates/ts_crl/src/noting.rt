@@ -7,8 +7,8 @@ ghost use Rattle.ts_shape.specs.Items.{each, some_of};
 ghost use Rattle.ts_shape.specs.Shape.{◌or_else◌};
 ghost use Rattle.ts_shape.specs.Steps.{Takes};
 ghost use Rattle.ts_ext.specs.declared.known.Holder.TheVariants.{Entry as EntryHolder};
-ghost use Rattle.ts_ext.specs.Extension.{standing_in};
-ghost use Rattle.ts_ext.specs.ExtensionView.{standing_as};
+ghost use Rattle.ts_ext.specs.Extension.{located_in};
+ghost use Rattle.ts_ext.specs.ExtensionView.{located_as};
 ghost use Rattle.ts_crl.specs.declared.extension_rule.ExtensionRule.TheVariants.{OldVersion, Repeated};
 ghost use Rattle.ts_crl.specs.EntryView.{listed_in, placed_in};
 ghost use Rattle.ts_crl.specs.Findings.{findings_of, found_in, found_if_any, Notes, NotesNext, NotesAmong};
@@ -31,14 +31,14 @@ const SEQUENCE: u8 = 0x30;
 /// The next extension, which the reader has then passed.
 #[tactic(auto, unfolding(ts_shape::specs::Items::each))]
 fn next_extension<'a>(rest: &mut Reader<'a>) -> Result<Extension<'a>, Fault>
-    ensures { Takes standing_as rest.new result (each standing_in rest.old) }
+    ensures { Takes located_as rest.new result (each located_in rest.old) }
 {
     Extension::read(rest.next()?)
 }
 
 /// Reads the extensions that a SEQUENCE's content is, one or more, adds what is found in each, and counts them.
 fn note_extensions<'a>(element: Element<'a>, findings: &mut Findings<'a>) -> Result<usize, Fault>
-    ensures { NotesAmong (findings_in findings.old) (findings_in findings.new) result (some_of standing_in (now element.entry)) }
+    ensures { NotesAmong (findings_in findings.old) (findings_in findings.new) result (some_of located_in (now element.entry)) }
 {
     let mut rest = element.reader();
     let mut count = 0;
@@ -93,7 +93,7 @@ fn note_placed<'a>(element: Element<'a>, findings: &mut Findings<'a>) -> Result<
     Ok(())
 }
 
-/// The same of extensions that may stand next.
+/// The same for extensions that may be next.
 #[tactic(auto, unfolding(ts_shape::specs::Fields::optional_of, ts_der::specs::Reading::optional_at))]
 fn note_extensions_if_any<'a>(
     fields: &mut Reader<'a>,

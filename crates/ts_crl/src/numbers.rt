@@ -10,8 +10,8 @@ use ts_ext::CrlNumber;
 fn is_less(number: &[u8], other: &[u8]) -> bool
     requires shortest { is_shortest number.now ≡ true }
     requires natural { is_negative number.now ≡ false }
-    requires other_shortest { is_shortest other.now ≡ true }
-    requires other_natural { is_negative other.now ≡ false }
+    requires full_shortest { is_shortest other.now ≡ true }
+    requires full_natural { is_negative other.now ≡ false }
     ensures { result ≡ int_lt (twos_complement number.now) (twos_complement other.now) }
 {
     if number.len() == other.len() {

@@ -6,7 +6,7 @@ ghost use Rattle.ts_crl.specs.Kept.{kept_text, unreadable_in, RefusedFor, first_
 ghost use Rattle.ts_crl.specs.EntryView.{revoked_in};
 ghost use Rattle.ts_crl.specs.ListView.{crl_in};
 ghost use Rattle.ts_crl.specs.OwnedView.{list_of};
-ghost use Rattle.ts_crl.specs.Spelling.{IsCertificateList};
+ghost use Rattle.ts_crl.specs.Encoding.{IsCertificateList};
 ghost use Rattle.ts_crl.specs.Table.{crl_fault, crl_of};
 ghost use Rattle.ts_crl.specs.declared.owned.OwnedCrlFault.TheVariants.{Memory};
 
@@ -113,7 +113,7 @@ impl OwnedCrl {
     pub fn view(&self) -> Crl<'_>
         ensures found { IsCertificateList self.now (crl_in result) }
         ensures exact { crl_of self.now ≡ Ok (crl_in result) }
-        ensures said { crl_in result ≡ list_of self.now }
+        ensures same { crl_in result ≡ list_of self.now }
     {
         match list_in(self.octets.as_slice(), self.first) {
             Ok(crl) => crl,

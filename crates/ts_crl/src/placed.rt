@@ -6,7 +6,7 @@ ghost use Rattle.ts_der.specs.View.{now};
 ghost use Rattle.ts_shape.specs.Fields.{optional_of};
 ghost use Rattle.ts_shape.specs.Items.{alone, of_tag, some_of};
 ghost use Rattle.ts_shape.specs.Steps.{Takes};
-ghost use Rattle.ts_ext.specs.Extension.{standing_in};
+ghost use Rattle.ts_ext.specs.Extension.{located_in};
 ghost use Rattle.ts_crl.specs.EntryView.{listed_in, placed_in};
 ghost use Rattle.ts_crl.specs.Reading.{extensions_of, wrapped_extensions_of};
 
@@ -39,10 +39,10 @@ fn read_extensions<'a>(element: Element<'a>) -> Result<Placed<'a>, Fault>
     })
 }
 
-/// The extensions that a SEQUENCE within an element is, and nothing behind it.
+/// The extensions that a SEQUENCE within an element is, and nothing after it.
 #[tactic(auto, unfolding(ts_shape::specs::Items::alone, ts_shape::specs::Items::each, ts_shape::specs::Items::of_tag))]
 fn read_alone<'a>(element: Element<'a>) -> Result<ExtensionList<'a>, Fault>
-    ensures { Answers listed_in result (alone (of_tag 0x30 (some_of standing_in)) (now element.entry)) }
+    ensures { Answers listed_in result (alone (of_tag 0x30 (some_of located_in)) (now element.entry)) }
 {
     let mut fields = element.reader();
     let extensions = ExtensionList::read(tagged_as(fields.next()?, SEQUENCE)?)?;
@@ -61,7 +61,7 @@ fn read_wrapped<'a>(element: Element<'a>) -> Result<Placed<'a>, Fault>
     })
 }
 
-/// The extensions of an entry, where they stand next.
+/// The extensions of an entry, where they are next.
 #[tactic(auto, unfolding(ts_shape::specs::Fields::optional_of, ts_der::specs::Reading::optional_at))]
 pub(crate) fn next_extensions_if_any<'a>(
     fields: &mut Reader<'a>,
@@ -74,7 +74,7 @@ pub(crate) fn next_extensions_if_any<'a>(
     }
 }
 
-/// The extensions of a list, where they stand next.
+/// The extensions of a list, where they are next.
 #[tactic(auto, unfolding(ts_shape::specs::Fields::optional_of, ts_der::specs::Reading::optional_at))]
 pub(crate) fn next_wrapped_if_any<'a>(fields: &mut Reader<'a>) -> Result<Option<Placed<'a>>, Fault>
     ensures { Takes (option_map placed_in) fields.new result (optional_of 0xA0 wrapped_extensions_of fields.old) }

@@ -2,11 +2,11 @@
 
 ghost use Rattle.std.specs.Prelude.{◌≡◌, [], map, unwrap_or, option_map};
 ghost use Rattle.ts_ext.specs.declared.known.Holder.TheVariants.{List as ListHolder};
-ghost use Rattle.ts_ext.specs.ExtensionView.{standing_as};
+ghost use Rattle.ts_ext.specs.ExtensionView.{located_as};
 ghost use Rattle.ts_ext.specs.ValueRules.{values_fault as values_fault_of};
 ghost use Rattle.ts_crl.specs.EntryView.{listed_in, placed_in, revoked_in};
-ghost use Rattle.ts_crl.specs.ListView.{standing_list_in};
-ghost use Rattle.ts_crl.specs.Rules.{standing_as_ruled, all_standing_as_ruled, rule_fault as rule_fault_of, fault_if_any as fault_if_any_of, entries_fault as entries_fault_of, fault_by_place as fault_by_place_of, version_fault as version_fault_of, algorithms_fault as algorithms_fault_of, placed_fault as placed_fault_of};
+ghost use Rattle.ts_crl.specs.ListView.{located_list_in};
+ghost use Rattle.ts_crl.specs.Rules.{located_as_ruled, all_located_as_ruled, rule_fault as rule_fault_of, fault_if_any as fault_if_any_of, entries_fault as entries_fault_of, fault_by_place as fault_by_place_of, version_fault as version_fault_of, algorithms_fault as algorithms_fault_of, placed_fault as placed_fault_of};
 
 use crate::crl::Crl;
 use crate::extension_list::ExtensionList;
@@ -21,7 +21,7 @@ use ts_shape::{CertFault, CertRule, first_repeated};
 /// An extension under the object identifier of the one whose rules its value keeps: a base number keeps those of the
 /// number of a list (RFC 5280 5.2.4).
 fn as_ruled<'a>(extension: Extension<'a>) -> Extension<'a>
-    ensures { standing_as result ≡ standing_as_ruled (standing_as extension.entry) }
+    ensures { located_as result ≡ located_as_ruled (located_as extension.entry) }
 {
     let indicator = [0x55, 0x1D, Known::DeltaCrlIndicator.arc()];
     if extension.id.content == indicator.as_slice() {
@@ -33,7 +33,7 @@ fn as_ruled<'a>(extension: Extension<'a>) -> Extension<'a>
 
 /// The first rule that the values of the extensions of a list break.
 fn list_values_fault(list: ExtensionList<'_>) -> Option<CertFault>
-    ensures { result ≡ values_fault_of ListHolder (map standing_as_ruled (listed_in list.entry)) }
+    ensures { result ≡ values_fault_of ListHolder (map located_as_ruled (listed_in list.entry)) }
 {
     for extension in list.extensions().iter() {
         if let Some(fault) = as_ruled(extension).first_fault(Holder::List) {
@@ -45,7 +45,7 @@ fn list_values_fault(list: ExtensionList<'_>) -> Option<CertFault>
 
 /// The first rule that the values of extensions break.
 fn values_fault(holder: Holder, list: ExtensionList<'_>) -> Option<CertFault>
-    ensures { result ≡ values_fault_of holder (all_standing_as_ruled holder (listed_in list.entry)) }
+    ensures { result ≡ values_fault_of holder (all_located_as_ruled holder (listed_in list.entry)) }
 {
     match holder {
         Holder::List => list_values_fault(list),
@@ -107,7 +107,7 @@ fn entries_fault_if_any(rule: ExtensionRule, revoked: Option<Revoked<'_>>) -> Op
 
 /// The first place at which the extensions of entries, and then those of the list, break a rule.
 fn fault_by_place(rule: ExtensionRule, crl: &Crl<'_>) -> Option<CertFault>
-    ensures { result ≡ fault_by_place_of rule (standing_list_in crl.now) }
+    ensures { result ≡ fault_by_place_of rule (located_list_in crl.now) }
 {
     match entries_fault_if_any(rule, crl.revoked) {
         Some(fault) => Some(fault),
@@ -116,7 +116,7 @@ fn fault_by_place(rule: ExtensionRule, crl: &Crl<'_>) -> Option<CertFault>
 }
 
 fn version_fault(crl: &Crl<'_>) -> Option<CertFault>
-    ensures { result ≡ version_fault_of crl.now.version (standing_list_in crl.now) }
+    ensures { result ≡ version_fault_of crl.now.version (located_list_in crl.now) }
 {
     match crl.version {
         ListVersion::V1 => fault_by_place(ExtensionRule::OldVersion, crl),
@@ -125,7 +125,7 @@ fn version_fault(crl: &Crl<'_>) -> Option<CertFault>
 }
 
 fn algorithms_fault(crl: &Crl<'_>) -> Option<CertFault>
-    ensures { result ≡ algorithms_fault_of (standing_list_in crl.now) }
+    ensures { result ≡ algorithms_fault_of (located_list_in crl.now) }
 {
     if crl.signature.whole != crl.signature_algorithm.whole {
         return Some(CertFault {
@@ -138,7 +138,7 @@ fn algorithms_fault(crl: &Crl<'_>) -> Option<CertFault>
 
 /// The first of these rules that a list breaks.
 pub(crate) fn placed_fault(crl: &Crl<'_>) -> Option<CertFault>
-    ensures { result ≡ placed_fault_of (standing_list_in crl.now) }
+    ensures { result ≡ placed_fault_of (located_list_in crl.now) }
 {
     if let Some(fault) = algorithms_fault(crl) {
         return Some(fault);

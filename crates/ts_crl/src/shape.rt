@@ -2,7 +2,7 @@
 
 ghost use Rattle.ts_der.specs.Answer.{Answers};
 ghost use Rattle.ts_der.specs.View.{now};
-ghost use Rattle.ts_crl.specs.ListView.{standing_list_in};
+ghost use Rattle.ts_crl.specs.ListView.{located_list_in};
 ghost use Rattle.ts_crl.specs.Reading.{signed_of, whole_of, shape_of};
 
 use crate::crl::{Crl, MAX_CRL};
@@ -16,7 +16,7 @@ const SEQUENCE: u8 = 0x30;
 /// The parts that a SEQUENCE holds.
 #[tactic(auto, unfolding(crate::specs::Reading::signed_of))]
 fn read_signed<'a>(element: Element<'a>) -> Result<Crl<'a>, CertFault>
-    ensures { Answers standing_list_in result (signed_of (now element.entry)) }
+    ensures { Answers located_list_in result (signed_of (now element.entry)) }
 {
     let mut fields = element.reader();
     let tbs = fields.element(SEQUENCE)?;
@@ -40,10 +40,10 @@ fn read_signed<'a>(element: Element<'a>) -> Result<Crl<'a>, CertFault>
     })
 }
 
-/// The list that octets are, with nothing behind it.
+/// The list that octets are, with nothing after it.
 #[tactic(auto, unfolding(crate::specs::Reading::whole_of))]
 fn read_whole(octets: &[u8]) -> Result<Crl<'_>, CertFault>
-    ensures { Answers standing_list_in result (whole_of octets.now) }
+    ensures { Answers located_list_in result (whole_of octets.now) }
 {
     let mut reader = Reader::new(octets);
     let crl = read_signed(reader.element(SEQUENCE)?)?;
@@ -54,7 +54,7 @@ fn read_whole(octets: &[u8]) -> Result<Crl<'_>, CertFault>
 /// The same, of octets that are not too many.
 #[tactic(auto, unfolding(crate::specs::Reading::shape_of))]
 pub(crate) fn read_shape(octets: &[u8]) -> Result<Crl<'_>, CertFault>
-    ensures { Answers standing_list_in result (shape_of octets.now) }
+    ensures { Answers located_list_in result (shape_of octets.now) }
 {
     if octets.len() > MAX_CRL {
         return Err(CertFault {

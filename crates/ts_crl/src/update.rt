@@ -12,7 +12,7 @@ const UTC_TIME: u8 = 0x17;
 
 const GENERALIZED_TIME: u8 = 0x18;
 
-/// A time in one of its forms, where an element of its tag stands next.
+/// A time in one of its forms, where an element of its tag is next.
 #[tactic(auto, unfolding(ts_shape::specs::Fields::optional_of, ts_der::specs::Reading::optional_at))]
 fn next_form_if_any(fields: &mut Reader<'_>, tag: u8) -> Result<Option<Time>, Fault>
     ensures { Takes (λ t. t) fields.new result (optional_of tag time_of fields.old) }
@@ -23,7 +23,7 @@ fn next_form_if_any(fields: &mut Reader<'_>, tag: u8) -> Result<Option<Time>, Fa
     }
 }
 
-/// A time, where one stands next (RFC 5280 5.1.2.5).
+/// A time, where one is next (RFC 5280 5.1.2.5).
 #[tactic(auto, unfolding(crate::specs::Reading::next_update_at))]
 pub(crate) fn next_update(fields: &mut Reader<'_>) -> Result<Option<Time>, Fault>
     ensures { Takes (λ t. t) fields.new result (next_update_at fields.old) }

@@ -1,4 +1,4 @@
-//! Distinguished Encoding Rules (X.690) read and written exactly: no memory, no copy, one spelling for
+//! Distinguished Encoding Rules (X.690) read and written exactly: no memory, no copy, one encoding for
 //! each value, and of octets that are none the first fault with its offset.
 #![tactic(auto)]
 
@@ -15,7 +15,7 @@ mod oid;
 #[cfg(test)]
 mod oid_tests;
 mod oid_text;
-pub mod one_spelling;
+pub mod one_encoding;
 mod owned_oid;
 mod reader;
 mod set_of;

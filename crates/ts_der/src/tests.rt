@@ -80,7 +80,7 @@ fn outer(octets: &[u8]) -> Result<(bool, usize, usize, usize, Option<Place>), Fa
 }
 
 /// What refuses an INTEGER as the first field, whether it is absent, two flags, and the tag and places of the element
-/// behind them, which is the last.
+/// after them, which is the last.
 fn fields(octets: &[u8]) -> Result<(Option<Place>, bool, (bool, bool), (u8, usize, usize)), Fault> {
     let mut fields = Reader::new(octets).element(SEQUENCE)?.reader();
     let refused = refusal(fields.element(INTEGER));
@@ -91,7 +91,7 @@ fn fields(octets: &[u8]) -> Result<(Option<Place>, bool, (bool, bool), (u8, usiz
     Ok((refused, is_absent, flags, (tag, at, start)))
 }
 
-/// The places and value of an optional INTEGER in the inner sequence, what refuses the end behind it, the octets of
+/// The places and value of an optional INTEGER in the inner sequence, what refuses the end after it, the octets of
 /// the string there, and whether that is the end.
 fn inner<'a>(octets: &'a [u8]) -> Option<((usize, usize, u32), Option<Place>, &'a [u8], bool)> {
     let mut fields = Reader::new(octets).element(SEQUENCE).ok()?.reader();

@@ -48,7 +48,7 @@ written old at octets = take at old ++ octets ++ drop (at + length octets) old
 abbrev pub IsDurable : State → Type 0
 IsDurable disk = (c : List ℕ) → disk.may_leave c → c ≡ disk.read
 
--- the device failed since: its count rose, or it stands at its last value
+-- the device failed since: its count rose, or it is at its last value
 abbrev pub DeviceFailed : State → State → Type 0
 DeviceFailed old new = (old.failures < new.failures) ⊎ (new.failures ≡ 2 ^ 64 - 1)
 

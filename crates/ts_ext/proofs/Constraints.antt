@@ -1,4 +1,4 @@
--- Basic constraints and policy constraints, as they are read, spelled and refused.
+-- Basic constraints and policy constraints, as they are read, encoded and refused.
 use Rattle.std.proofs.Common.{◌≡◌, ◌≢◌, ℕ, ◌+◌, ◌%◌, false, eqb, List, [], ◌++◌, length, Option, Ok, refl, sym, ap, subst, ◌∙◌, arith}
 use Rattle.std.proofs.lemmas.List.{append-nil}
 use Rattle.ts_der.specs.declared.fault.Fault.{Fault}
@@ -14,12 +14,12 @@ use Rattle.ts_shape.proofs.OptionalParts.{begins-if-any, optional-found, optiona
 use Rattle.ts_shape.proofs.Endings.{end-ok, end-again}
 use Rattle.ts_ext.specs.declared.basic_constraints.BasicConstraints.{BasicConstraints}
 use Rattle.ts_ext.specs.declared.policy_constraints.PolicyConstraints.{PolicyConstraints}
-use Rattle.ts_ext.specs.Spelling.{IsSmall, IsBasicConstraints, IsPolicyConstraints}
+use Rattle.ts_ext.specs.Encoding.{IsSmall, IsBasicConstraints, IsPolicyConstraints}
 use Rattle.ts_ext.specs.Table.{small_integer_rules, basic_constraints_fields, policy_constraints_fields}
 use Rattle.ts_ext.specs.Reading.{small_of, basic_constraints_of, policy_constraints_of}
 use Rattle.ts_ext.proofs.Formats.{Format, value_of}
 use Rattle.ts_ext.proofs.Values.{small-format}
-use Rattle.ts_ext.proofs.Flags.{flag-spelled, flag-again, flag-judged}
+use Rattle.ts_ext.proofs.Flags.{flag-encoded, flag-again, flag-judged}
 
 -- the last field does not begin with the tag of one before it
 not-begun : (tag other : ℕ) (w : List ℕ) (x : Option ℕ) → IfAny tag IsSmall w x → eqb tag other ≡ false → begins_with other w ≡ false
@@ -34,7 +34,7 @@ basic-found e b fits read =
     let l = bind_ok (optional_of 0x02 small_of a.0.1) _ b a.2 in
     let d = bind_ok (end_at l.0.1) _ b l.2 in
     let same : record { ca = a.0.0; path_len_constraint = l.0.0 } ≡ b = ok_is {A = BasicConstraints} {E = Fault} (record { ca = a.0.0; path_len_constraint = l.0.0 }) b d.2 in
-    let first = flag-spelled 0x01 (inside e) a.0.0 a.0.1 fits a.1 in
+    let first = flag-encoded 0x01 (inside e) a.0.0 a.0.1 fits a.1 in
     let second = optional-found 0x02 small_of IsSmall (value_of small-format 0x02) a.0.1 l.0.0 l.0.1 first.3 l.1 in
     let last : a.0.1.rest ≡ second.0 = second.2 ∙ (ap (λ (r : List ℕ). second.0 ++ r) (end-ok l.0.1 d.0 d.1) ∙ append-nil second.0) in
     subst (λ (x : BasicConstraints). IsBasicConstraints e.content x) same

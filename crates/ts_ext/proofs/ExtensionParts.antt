@@ -1,4 +1,4 @@
--- Extensions, as they are read, spelled and refused.
+-- Extensions, as they are read, encoded and refused.
 use Rattle.std.proofs.Common.{◌≡◌, ◌≢◌, ℕ, ◌+◌, ◌%◌, false, List, [], ◌++◌, length, Option, Some, None, Result, Ok, Err, refl, sym, ap, subst, ◌∙◌, arith}
 use Rattle.std.specs.Prelude.{option_map}
 use Rattle.std.proofs.lemmas.List.{append-nil}
@@ -22,38 +22,38 @@ use Rattle.ts_shape.proofs.ItemParts.{tag-part, tag-reads, some-judged, alone-fo
 use Rattle.ts_shape.proofs.Parts.{Part, took, element-took}
 use Rattle.ts_shape.proofs.Endings.{end-ok, end-again}
 use Rattle.ts_ext.specs.AuthorityKey.{AreOctetsOf}
-use Rattle.ts_ext.specs.Extension.{Extension, Standing, IsExtension, AreExtensions, AreExplicit, extension_fields, extension, extensions, explicit_extensions, said, standing_of, standing_in, extension_of, extensions_of, explicit_extensions_of, standings_of, explicit_standings_of}
+use Rattle.ts_ext.specs.Extension.{Extension, Located, IsExtension, AreExtensions, AreExplicit, extension_fields, extension, extensions, explicit_extensions, unlocated, located_of, located_in, extension_of, extensions_of, explicit_extensions_of, all_located_of, explicit_all_located_of}
 use Rattle.ts_ext.specs.Inner.{inner_fault}
 use Rattle.ts_ext.specs.Table.{flag, list_rules}
-use Rattle.ts_ext.proofs.Flags.{flag-spelled, flag-again, flag-judged}
+use Rattle.ts_ext.proofs.Flags.{flag-encoded, flag-again, flag-judged}
 use Rattle.ts_ext.proofs.Formats.{Format, value_of}
 use Rattle.ts_ext.proofs.Lists.{list-format}
 
-pub standing-found : (e : Tlv) (x : Standing) → AreOctets e.content → standing_of e ≡ Ok x → IsExtension e.content (said x)
-unfolding standing_of
-standing-found e x fits read =
+pub located-found : (e : Tlv) (x : Located) → AreOctets e.content → located_of e ≡ Ok x → IsExtension e.content (unlocated x)
+unfolding located_of
+located-found e x fits read =
     let i = bind_ok (oid_at (inside e)) _ x read in
     let c = bind_ok (flag_at 0x01 i.0.1) _ x i.2 in
     let v = bind_ok (element_at 0x04 c.0.1) _ x c.2 in
     let d = bind_ok (end_at v.0.1) _ x v.2 in
-    let stands : Standing = record { at = e.at; extnID = i.0.0; critical = c.0.0; value = v.0.0 } in
-    let same : stands ≡ x = ok_is {A = Standing} {E = Fault} stands x d.2 in
+    let stands : Located = record { at = e.at; extnID = i.0.0; critical = c.0.0; value = v.0.0 } in
+    let same : stands ≡ x = ok_is {A = Located} {E = Fault} stands x d.2 in
     let first = took oid-part (inside e) i.0.0 i.0.1 fits i.1 in
-    let second = flag-spelled 0x01 i.0.1 c.0.0 c.0.1 first.3 c.1 in
+    let second = flag-encoded 0x01 i.0.1 c.0.0 c.0.1 first.3 c.1 in
     let third = element-took 0x04 c.0.1 v.0.0 v.0.1 second.3 v.1 in
     let last : c.0.1.rest ≡ v.0.0.whole = third.whole ∙ (ap (λ (o : List ℕ). v.0.0.whole ++ o) (end-ok v.0.1 d.0 d.1) ∙ append-nil v.0.0.whole) in
     let behind_id : i.0.1.rest ≡ second.0 ++ v.0.0.whole = second.2 ∙ ap (λ (o : List ℕ). second.0 ++ o) last in
-    let value : Within 0x04 AreOctetsOf v.0.0.whole v.0.0.content = record { content = v.0.0.content; fits = third.fits; spelled = third.spelled; value = refl } in
-    subst (λ (y : Standing). IsExtension e.content (said y)) same
+    let value : Within 0x04 AreOctetsOf v.0.0.whole v.0.0.content = record { content = v.0.0.content; fits = third.fits; encoded = third.encoded; value = refl } in
+    subst (λ (y : Located). IsExtension e.content (unlocated y)) same
     (record { id = first.0; flag = second.0; value = v.0.0.whole; extnID = first.1; critical = second.1; extnValue = value; fields = first.2 ∙ ap (λ (o : List ℕ). first.0 ++ o) behind_id })
 
 extension-found : (e : Tlv) (x : Extension) → AreOctets e.content → extension_of e ≡ Ok x → IsExtension e.content x
 extension-found e x fits read =
-    let s = bind_ok (standing_of e) (λ y. Ok (said y)) x read in
-    subst (λ (y : Extension). IsExtension e.content y) (ok_is {A = Extension} {E = Fault} (said s.0) x s.2) (standing-found e s.0 fits s.1)
+    let s = bind_ok (located_of e) (λ y. Ok (unlocated y)) x read in
+    subst (λ (y : Extension). IsExtension e.content y) (ok_is {A = Extension} {E = Fault} (unlocated s.0) x s.2) (located-found e s.0 fits s.1)
 
 pub extension-again : (e : Tlv) (x : Extension) → IsExtension e.content x → extension_of e ≡ Ok x
-unfolding standing_of
+unfolding located_of
 extension-again e x is =
     let low : 1 % 32 ≢ 31 = λ h. omega arith in
     let a = oid-part.again (inside e) x.extnID is.id (is.flag ++ is.value) is.extnID is.fields in
@@ -62,12 +62,12 @@ extension-again e x is =
     ap (begins_with 0x01) (sym (append-nil is.value)) ∙ begins-if-any 0x04 AreOctetsOf is.value (Some x.extnValue) is.extnValue 0x01 refl [] refl in
     let b = flag-again 0x01 low (omega arith) p x.critical is.flag is.value is.critical begins refl in
     let q : Place = record { rest = is.value; at = e.start + length is.id + length is.flag } in
-    let v = element-only q 0x04 is.extnValue.content [] is.extnValue.fits (is.extnValue.spelled ∙ sym (append-nil _)) in
+    let v = element-only q 0x04 is.extnValue.content [] is.extnValue.fits (is.extnValue.encoded ∙ sym (append-nil _)) in
     rw (a, b, v, end-again _) (ap (λ (o : List ℕ). Ok (record { extnID = x.extnID; critical = x.critical; extnValue = o })) is.extnValue.value)
 
-standing-judged : (e : Tlv) → Judged (der (standing_of e)) (judge extension_fields (inside e)) (λ x. Unit {0})
-unfolding standing_of
-standing-judged e =
+located-judged : (e : Tlv) → Judged (der (located_of e)) (judge extension_fields (inside e)) (λ x. Unit {0})
+unfolding located_of
+located-judged e =
     under (oid_at (inside e)) _ _ _
     (then-judged object_identifier (optional (flag 0x01) then primitive 0x04 no_rules then nothing) (inside e) (λ here. der (oid_at here)) _ Whatever _ refl oid-reads (λ id p.
     under (flag_at 0x01 (behind (inside e))) _ _ _
@@ -77,21 +77,21 @@ standing-judged e =
     (refl, tt) (λ v h t q. ends (behind after) (record { at = e.at; extnID = id; critical = critical; value = v }) (λ s. Unit {0}) (λ r. tt)))))))
 
 extension-judged : (e : Tlv) → Judged (der (extension_of e)) (inner_fault extension_fields no_rules e) (λ x. Unit {0})
-extension-judged e = no_more _ _ _ (kept (standing_of e) _ (standing-judged e))
+extension-judged e = no_more _ _ _ (kept (located_of e) _ (located-judged e))
   where
-    kept : (r : Result Standing Fault) (o : Option CertFault) → Judged (der r) o (λ x. Unit {0}) → Judged (der (r >>= λ x. Ok (said x))) o (λ x. Unit {0})
+    kept : (r : Result Located Fault) (o : Option CertFault) → Judged (der r) o (λ x. Unit {0}) → Judged (der (r >>= λ x. Ok (unlocated x))) o (λ x. Unit {0})
     kept (Ok x) o j = (j.0, tt)
     kept (Err f) o j = j
 
 -- ---- lists of extensions
 
-pub standings-judged : (e : Tlv) → Judged (der (standings_of e)) (judge extensions (inside e) or_else option_map (breaks e.at) (list_rules e.content)) (λ xs. Unit {0})
-standings-judged e = some-judged extension standing_in Whatever (tag-reads 0x30 extension_fields no_rules standing_of Whatever (λ x. no_more _ _ _ (standing-judged x))) e
+pub all_located-judged : (e : Tlv) → Judged (der (all_located_of e)) (judge extensions (inside e) or_else option_map (breaks e.at) (list_rules e.content)) (λ xs. Unit {0})
+all_located-judged e = some-judged extension located_in Whatever (tag-reads 0x30 extension_fields no_rules located_of Whatever (λ x. no_more _ _ _ (located-judged x))) e
 
-pub explicit_standings-judged : (e : Tlv) → Judged (der (explicit_standings_of e)) (judge explicit_extensions (inside e) or_else None) (λ xs. Unit {0})
-explicit_standings-judged e =
-    alone-judged (tagged 0x30 extensions list_rules no_other) (of_tag 0x30 standings_of) Whatever (λ octets. refl)
-    (tag-reads 0x30 extensions list_rules standings_of Whatever standings-judged) e
+pub explicit_all_located-judged : (e : Tlv) → Judged (der (explicit_all_located_of e)) (judge explicit_extensions (inside e) or_else None) (λ xs. Unit {0})
+explicit_all_located-judged e =
+    alone-judged (tagged 0x30 extensions list_rules no_other) (of_tag 0x30 all_located_of) Whatever (λ octets. refl)
+    (tag-reads 0x30 extensions list_rules all_located_of Whatever all_located-judged) e
 
 pub extensions-format : Format extensions_of AreExtensions extensions list_rules
 extensions-format = list-format 0x30 (record { found = extension-found; again = extension-again; judged = extension-judged })

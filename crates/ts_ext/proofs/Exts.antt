@@ -1,4 +1,4 @@
--- The value of each extension, as it is read, spelled and refused.
+-- The value of each extension, as it is read, encoded and refused.
 use Rattle.std.proofs.Common.{◌≡◌, ℕ, List, Option, Some, None, Result, Ok, Err, refl, sym, ap, ◌∙◌}
 use Rattle.ts_der.specs.declared.fault.Fault.{Fault}
 use Rattle.ts_der.specs.Octets.{AreOctets}

@@ -1,4 +1,4 @@
--- A BOOLEAN DEFAULT FALSE, as it is read, spelled and refused.
+-- A BOOLEAN DEFAULT FALSE, as it is read, encoded and refused.
 use Rattle.std.proofs.Common.{◌≡◌, ◌≢◌, ℕ, ◌+◌, ◌%◌, ◌<◌, Bool, true, false, cond, not, ◌||◌, List, [], ◌++◌, length, Option, Some, None, Result, Ok, Err, refl, sym, ap, subst, ◌∙◌, arith}
 use Rattle.std.specs.Prelude.{option_map}
 use Rattle.ts_der.specs.declared.fault.DerFault.{DerFault}
@@ -7,7 +7,7 @@ use Rattle.ts_der.specs.declared.fault.Fault.{Fault}
 use Rattle.ts_der.specs.Octets.{AreOctets}
 use Rattle.ts_der.specs.Answer.{◌>>=◌}
 use Rattle.ts_der.specs.Rules.{first_broken, value_unless}
-use Rattle.ts_der.specs.Element.{Place, Tlv, spell}
+use Rattle.ts_der.specs.Element.{Place, Tlv, encode}
 use Rattle.ts_der.specs.Boolean.{boolean_content, boolean_rules, boolean_value}
 use Rattle.ts_der.specs.Default.{flag_of, flag_at, IsFlag}
 use Rattle.ts_der.specs.Reading.{fault_at, located, begins_with, value_at, element_at, optional_at, element_of, behind}
@@ -18,21 +18,21 @@ use Rattle.ts_shape.specs.declared.fault.CertFault.{CertFault}
 use Rattle.ts_shape.specs.Fault.{der, breaks}
 use Rattle.ts_shape.specs.Shape.{Shape, optional, plain, ◌then◌, ◌or_else◌, header_fault, row_fault, judge}
 use Rattle.ts_shape.proofs.Judging.{Judged, element-judged}
-use Rattle.ts_ext.specs.Spelling.{IfTrue}
+use Rattle.ts_ext.specs.Encoding.{IfTrue}
 use Rattle.ts_ext.specs.Table.{flag, flag_rules}
 
--- what is read is spelled so
-pub flag-spelled : (tag : ℕ) (here : Place) (b : Bool) (after : Place) → AreOctets here.rest → flag_at tag here ≡ Ok (b, after)
+-- what is read is encoded so
+pub flag-encoded : (tag : ℕ) (here : Place) (b : Bool) (after : Place) → AreOctets here.rest → flag_at tag here ≡ Ok (b, after)
     → (w : List ℕ) × IfTrue tag w b × (here.rest ≡ w ++ after.rest) × AreOctets after.rest
-flag-spelled tag here b after fits read = by_value b (flag-found tag here b after fits read)
+flag-encoded tag here b after fits read = by_value b (flag-found tag here b after fits read)
   where
     by_value : (b : Bool) → IsFlag tag here b after → (w : List ℕ) × IfTrue tag w b × (here.rest ≡ w ++ after.rest) × AreOctets after.rest
     by_value false is = ([], refl, ap (λ (p : Place). p.rest) (sym is), subst (λ (p : Place). AreOctets p.rest) (sym is) fits)
     by_value true is =
         let stands = is.1 in
-        let spelled : is.0.whole ≡ spell tag (boolean_content true) =
-        stands.spelled ∙ (ap (λ (t : ℕ). spell t is.0.content) is.2 ∙ ap (λ (c : List ℕ). spell tag c) is.3) in
-        (is.0.whole, spelled, stands.whole, AreOctets-back is.0.whole after.rest (subst AreOctets stands.whole fits))
+        let encoded : is.0.whole ≡ encode tag (boolean_content true) =
+        stands.encoded ∙ (ap (λ (t : ℕ). encode t is.0.content) is.2 ∙ ap (λ (c : List ℕ). encode tag c) is.3) in
+        (is.0.whole, encoded, stands.whole, AreOctets-back is.0.whole after.rest (subst AreOctets stands.whole fits))
 
 there : (here : Place) (w rest : List ℕ) → here.rest ≡ rest → w ≡ [] → here ≡ record { rest = rest; at = here.at + length w }
 there here w rest same none =
@@ -42,7 +42,7 @@ there here w rest same none =
     no_more : (n : ℕ) → n ≡ n + 0
     no_more n = omega arith
 
--- what is spelled so, before octets that do not begin with the tag, is read
+-- what is encoded so, before octets that do not begin with the tag, is read
 pub flag-again : (tag : ℕ) → tag % 32 ≢ 31 → tag < 256 → (here : Place) (b : Bool) (w rest : List ℕ) → IfTrue tag w b → begins_with tag rest ≡ false → here.rest ≡ w ++ rest
     → flag_at tag here ≡ Ok (b, record { rest = rest; at = here.at + length w })
 flag-again tag low octet here false w rest is absent e =
@@ -61,7 +61,7 @@ that_stands x = Ok (Some x.0, x.1)
 abbrev flagged : Option Tlv × Place → Result (Bool × Place) Fault
 flagged x = flag_of x.0 x.1
 
--- the first rule that is broken: of the flag where it stands, then of the others
+-- the first rule that is broken: of the flag where it is, then of the others
 pub flag-judged : {B : Type 0} (tag : ℕ) (others : Shape) (here : Place) (f : Bool × Place → Result B CertFault) (Q : B → Type 0)
     → ((b : Bool) (after : Place) → Judged (f (b, after)) (judge others after) Q)
     → Judged (der (flag_at tag here) >>= f) (judge (optional (flag tag) then others) here) Q

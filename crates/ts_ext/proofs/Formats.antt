@@ -1,4 +1,4 @@
--- A format: how a value is read from an element, how its content spells it, and the first rule that it breaks. From it
+-- A format: how a value is read from an element, how its content encodes it, and the first rule that it breaks. From it
 -- follows what a reader promises.
 use Rattle.std.proofs.Common.{◌≡◌, ℕ, List, [], Option, Some, None, Result, Ok, Err, refl, sym, ap, subst, ◌∙◌}
 use Rattle.std.specs.Prelude.{IfOk, IsOkAnd, option_map, ok_or, is_some, not}
@@ -33,7 +33,7 @@ pub is_read : {X A : Type 0} {value : Tlv → Result A Fault} {Is : List ℕ →
     → (e : Tlv) (r : Result X Fault) (view : X → A) → Answers view r (value e) → (x : A) → Is e.content x → IsOkAnd r (λ y. view y ≡ x)
 is_read {X} {A} {value} format e r view answers x is = IsOkAnd-answers view r (value e) x (λ (y : A). y ≡ x) answers (format.again e x is) refl
 
--- the same of a value that is seen as all that it is
+-- the same for a value that is seen as all that it is
 pub is_answer : {X A : Type 0} {value : Tlv → Result A Fault} {Is : List ℕ → A → Type 0} {shape : Shape} {rules : ContentRules} → Format value Is shape rules
     → (e : Tlv) (r : Result X Fault) (view : X → A) (whole : A → X) → ((y : X) → whole (view y) ≡ y) → Answers view r (value e) → (x : A) → Is e.content x → r ≡ Ok (whole x)
 is_answer format e (Ok y) view whole same answers x is =

@@ -1,4 +1,4 @@
--- The key of an authority and name constraints, as they are read, spelled and refused.
+-- The key of an authority and name constraints, as they are read, encoded and refused.
 use Rattle.std.proofs.Common.{◌≡◌, ℕ, ◌+◌, false, List, [], ◌++◌, length, Ok, refl, sym, ap, subst, ◌∙◌}
 use Rattle.std.proofs.lemmas.List.{append-nil}
 use Rattle.ts_der.specs.declared.fault.Fault.{Fault}

@@ -12,11 +12,11 @@ pub mod Policies
 pub mod Exts
 pub mod ValueFaults
 pub mod ExtensionParts
-pub mod Said
-pub mod Soundness
-pub mod UsualValues
+pub mod Unlocated
+pub mod ValidExtensions
+pub mod FastValues
 pub mod Walked
-pub mod OneSpelling
+pub mod OneEncoding
 pub mod UriPoints
-pub mod UsualItems
-pub mod SoundLists
+pub mod FastItems
+pub mod ValidLists

@@ -1,4 +1,4 @@
--- General names, names of distribution points and subtrees, as they are read, spelled and refused.
+-- General names, names of distribution points and subtrees, as they are read, encoded and refused.
 use Rattle.std.proofs.Common.{◌≡◌, ℕ, false, eqb, List, [], Option, Result, Ok, Err, refl, sym, ap, subst, ◌∙◌}
 use Rattle.std.proofs.lemmas.List.{append-nil}
 use Rattle.ts_der.specs.declared.fault.Fault.{Fault}
@@ -34,8 +34,8 @@ use Rattle.ts_ext.proofs.Formats.{Format}
 use Rattle.ts_ext.proofs.Lists.{list-format}
 
 -- octets of the last field do not begin with another tag
-pub begins-last : {A : Type 0} (tag : ℕ) (Spells : List ℕ → A → Type 0) (other : ℕ) (w : List ℕ) (x : Option A) → IfAny tag Spells w x → eqb tag other ≡ false → begins_with other w ≡ false
-begins-last tag Spells other w x is differs = ap (begins_with other) (sym (append-nil w)) ∙ begins-if-any tag Spells w x is other differs [] refl
+pub begins-last : {A : Type 0} (tag : ℕ) (Encodes : List ℕ → A → Type 0) (other : ℕ) (w : List ℕ) (x : Option A) → IfAny tag Encodes w x → eqb tag other ≡ false → begins_with other w ≡ false
+begins-last tag Encodes other w x is differs = ap (begins_with other) (sym (append-nil w)) ∙ begins-if-any tag Encodes w x is other differs [] refl
 
 -- ---- general names
 

@@ -1,4 +1,4 @@
--- Distribution points and what a list covers, as they are read, spelled and refused.
+-- Distribution points and what a list covers, as they are read, encoded and refused.
 use Rattle.std.proofs.Common.{◌≡◌, ℕ, ◌+◌, Bool, true, false, eqb, List, [], ◌++◌, length, Ok, refl, sym, ap, subst, ◌∙◌, arith}
 use Rattle.std.proofs.lemmas.List.{append-nil}
 use Rattle.ts_der.specs.declared.fault.Fault.{Fault}
@@ -13,14 +13,14 @@ use Rattle.ts_shape.specs.Shape.{Shape, optional, plain, nothing, ◌then◌, de
 use Rattle.ts_shape.proofs.Judging.{no_more, under, ends, Whatever}
 use Rattle.ts_shape.proofs.OptionalParts.{begins-if-any, optional-found, optional-again, optional-judged}
 use Rattle.ts_shape.proofs.Endings.{end-ok, end-again}
-use Rattle.ts_ext.specs.Spelling.{IfTrue, AreReasonFlags}
+use Rattle.ts_ext.specs.Encoding.{IfTrue, AreReasonFlags}
 use Rattle.ts_ext.specs.Reading.{reason_flags_of}
 use Rattle.ts_ext.specs.Table.{flag, reason_flags_rules, list_rules}
 use Rattle.ts_ext.proofs.Lists.{list-format}
 use Rattle.ts_ext.specs.GeneralNames.{AreGeneralNames, general_names_of, general_names_items, general_names}
 use Rattle.ts_ext.proofs.Formats.{Format, value_of}
 use Rattle.ts_ext.proofs.NamedBits.{reason_flags-format}
-use Rattle.ts_ext.proofs.Flags.{flag-spelled, flag-again, flag-judged}
+use Rattle.ts_ext.proofs.Flags.{flag-encoded, flag-again, flag-judged}
 use Rattle.ts_ext.proofs.Names.{begins-last, general_names-format, wrapped_name-format}
 use Rattle.ts_ext.specs.Points.{Point, ListScope, IsPointName, IsPoint, IsIssuingPoint, wrapped_name_of, point_of, issuing_point_of, point_name, point_fields, ArePoints, points_of, points_items, issuing_point_fields}
 
@@ -86,7 +86,7 @@ points-format = list-format 0x30 point-format
 
 -- ---- what a list covers
 
--- a flag, and octets behind it, do not begin with another tag
+-- a flag, and octets after it, do not begin with another tag
 begins-flag : (tag : ℕ) (w : List ℕ) (b : Bool) → IfTrue tag w b → (other : ℕ) → eqb tag other ≡ false → (rest : List ℕ) → begins_with other rest ≡ false → begins_with other (w ++ rest) ≡ false
 begins-flag tag w false is other differs rest absent = subst (λ (o : List ℕ). begins_with other (o ++ rest) ≡ false) (sym is) absent
 begins-flag tag w true is other differs rest absent = subst (λ (o : List ℕ). begins_with other (o ++ rest) ≡ false) (sym is) differs
@@ -104,11 +104,11 @@ issuing-found e p fits read =
     let scope : ListScope = record { distributionPoint = n.0.0; onlyContainsUserCerts = u.0.0; onlyContainsCACerts = c.0.0; onlySomeReasons = r.0.0; indirectCRL = i.0.0; onlyContainsAttributeCerts = a.0.0 } in
     let same : scope ≡ p = ok_is {A = ListScope} {E = Fault} scope p d.2 in
     let one = optional-found 0xA0 wrapped_name_of IsPointName (value_of wrapped_name-format 0xA0) (inside e) n.0.0 n.0.1 fits n.1 in
-    let two = flag-spelled 0x81 n.0.1 u.0.0 u.0.1 one.3 u.1 in
-    let three = flag-spelled 0x82 u.0.1 c.0.0 c.0.1 two.3 c.1 in
+    let two = flag-encoded 0x81 n.0.1 u.0.0 u.0.1 one.3 u.1 in
+    let three = flag-encoded 0x82 u.0.1 c.0.0 c.0.1 two.3 c.1 in
     let four = optional-found 0x83 reason_flags_of AreReasonFlags (value_of reason_flags-format 0x83) c.0.1 r.0.0 r.0.1 three.3 r.1 in
-    let five = flag-spelled 0x84 r.0.1 i.0.0 i.0.1 four.3 i.1 in
-    let six = flag-spelled 0x85 i.0.1 a.0.0 a.0.1 five.3 a.1 in
+    let five = flag-encoded 0x84 r.0.1 i.0.0 i.0.1 four.3 i.1 in
+    let six = flag-encoded 0x85 i.0.1 a.0.0 a.0.1 five.3 a.1 in
     let b6 : i.0.1.rest ≡ six.0 = six.2 ∙ (ap (λ (o : List ℕ). six.0 ++ o) (end-ok a.0.1 d.0 d.1) ∙ append-nil six.0) in
     let b5 : r.0.1.rest ≡ five.0 ++ six.0 = five.2 ∙ ap (λ (o : List ℕ). five.0 ++ o) b6 in
     let b4 : c.0.1.rest ≡ four.0 ++ (five.0 ++ six.0) = four.2 ∙ ap (λ (o : List ℕ). four.0 ++ o) b5 in

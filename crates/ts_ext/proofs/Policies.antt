@@ -1,4 +1,4 @@
--- Policies, mappings and purposes, as they are read, spelled and refused.
+-- Policies, mappings and purposes, as they are read, encoded and refused.
 use Rattle.std.proofs.Common.{◌≡◌, ℕ, ◌+◌, Bool, true, false, not, cond, List, [], ◌++◌, length, Some, None, Result, Ok, Err, refl, sym, ap, subst, ◌∙◌}
 use Rattle.std.proofs.lemmas.List.{append-nil}
 use Rattle.ts_der.specs.declared.fault.DerFault.TheVariants.{OidForm}
@@ -22,7 +22,7 @@ use Rattle.ts_shape.proofs.OptionalParts.{optional-found, optional-again, option
 use Rattle.ts_shape.proofs.Parts.{took}
 use Rattle.ts_shape.proofs.Endings.{end-ok, end-again}
 use Rattle.ts_ext.specs.Policies.{Qualifier, Information, Mapping}
-use Rattle.ts_ext.specs.Spelling.{IsPolicyQualifier, ArePolicyQualifiers, IsPolicyInformation, AreCertificatePolicies, IsPolicyMapping, ArePolicyMappings, AreKeyPurposes}
+use Rattle.ts_ext.specs.Encoding.{IsPolicyQualifier, ArePolicyQualifiers, IsPolicyInformation, AreCertificatePolicies, IsPolicyMapping, ArePolicyMappings, AreKeyPurposes}
 use Rattle.ts_ext.specs.Table.{policy_qualifier_info, policy_qualifiers, list_rules, certificate_policies, policy_mappings, ext_key_usage}
 use Rattle.ts_ext.specs.Reading.{policy_qualifier_of, policy_qualifier_in, policy_information_of, certificate_policies_of, policy_mapping_of, policy_mappings_of, ext_key_usage_of}
 use Rattle.ts_ext.proofs.Formats.{Format, by_der_rules, value_of}
@@ -39,7 +39,7 @@ qualifier-found e q fits read =
     let same : record { policyQualifierId = a.0.0; qualifier = b.0.0.whole } ≡ q = ok_is {A = Qualifier} {E = Fault} (record { policyQualifierId = a.0.0; qualifier = b.0.0.whole }) q d.2 in
     let first = took oid-part (inside e) a.0.0 a.0.1 fits a.1 in
     let s = next-found a.0.1 b.0.0 b.0.1 first.3 b.1 in
-    let second : IsAny b.0.0.whole = record { tag = b.0.0.tag; content = b.0.0.content; fits = s.fits; spelled = s.spelled } in
+    let second : IsAny b.0.0.whole = record { tag = b.0.0.tag; content = b.0.0.content; fits = s.fits; encoded = s.encoded } in
     let last : a.0.1.rest ≡ b.0.0.whole = s.whole ∙ (ap (λ (r : List ℕ). b.0.0.whole ++ r) (end-ok b.0.1 d.0 d.1) ∙ append-nil b.0.0.whole) in
     subst (λ (x : Qualifier). IsPolicyQualifier e.content x) same (record { id = first.0; policyQualifierId = first.1; qualifier = second; fields = first.2 ∙ ap (λ (r : List ℕ). first.0 ++ r) last })
 
@@ -49,8 +49,8 @@ qualifier-again e q is =
     let a = oid-part.again (inside e) q.policyQualifierId is.id q.qualifier is.policyQualifierId is.fields in
     let place : Place = record { rest = q.qualifier; at = e.start + length is.id } in
     let whole = is.qualifier in
-    let b = next-only place whole.tag whole.content [] whole.fits (whole.spelled ∙ sym (append-nil _)) in
-    rw (a, b, end-again _) (ap (λ (w : List ℕ). Ok (record { policyQualifierId = q.policyQualifierId; qualifier = w })) (sym whole.spelled))
+    let b = next-only place whole.tag whole.content [] whole.fits (whole.encoded ∙ sym (append-nil _)) in
+    rw (a, b, end-again _) (ap (λ (w : List ℕ). Ok (record { policyQualifierId = q.policyQualifierId; qualifier = w })) (sym whole.encoded))
 
 -- an element of any tag, and nothing more
 any-judged : {B : Type 0} (here : Place) (f : List ℕ → B) → Judged (der (next_at here >>= λ e. end_at e.1 >>= λ done. Ok (f e.0.whole))) (judge (any then nothing) here) (λ b. Unit {0})

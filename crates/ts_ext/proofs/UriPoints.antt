@@ -7,7 +7,7 @@ use Rattle.std.proofs.lemmas.List.{append-nil, length-take-le, take-append-drop}
 use Rattle.ts_der.specs.Element.{length_octets}
 use Rattle.ts_der.specs.Text.{is_ascii}
 use Rattle.ts_der.proofs.Lengths.{length_octets-short}
-use Rattle.ts_der.proofs.Standing.{spelled-out}
+use Rattle.ts_der.proofs.Standing.{encoded-out}
 use Rattle.ts_shape.specs.Fields.{Within}
 use Rattle.ts_shape.specs.Items.{AreItems}
 use Rattle.ts_name.specs.General.{uniformResourceIdentifier, IsGeneralName}
@@ -21,10 +21,10 @@ not-true false e = refl
 not-true true e = absurd cc
 
 -- an element of few octets
-pub few-within : {A : Type 0} (tag n : ℕ) (Spells : List ℕ → A → Type 0) (content : List ℕ) (x : A) → tag < 256 → tag % 32 ≢ 31 → length content ≡ n → n < 128 → Spells content x → Within tag Spells (tag ∷ n ∷ content) x
-few-within tag n Spells content x octet low count few is =
+pub few-within : {A : Type 0} (tag n : ℕ) (Encodes : List ℕ → A → Type 0) (content : List ℕ) (x : A) → tag < 256 → tag % 32 ≢ 31 → length content ≡ n → n < 128 → Encodes content x → Within tag Encodes (tag ∷ n ∷ content) x
+few-within tag n Encodes content x octet low count few is =
     let form : length_octets (length content) ≡ n ∷ [] = ap length_octets count ∙ length_octets-short n few in
-    record { content = content; fits = record { octet = octet; low = low; short = omega (arith, count) }; spelled = ap (λ (o : List ℕ). tag ∷ (o ++ content)) (sym form); value = is }
+    record { content = content; fits = record { octet = octet; low = low; short = omega (arith, count) }; encoded = ap (λ (o : List ℕ). tag ∷ (o ++ content)) (sym form); value = is }
 
 -- the octets in front of a URI
 pub record UriPoint (points : List ℕ) : Type 0 where
@@ -48,7 +48,7 @@ uri-names uri n count few ascii =
       tag = 0x86;
       content = uri;
       fits = record { octet = omega arith; low = λ e. omega arith; short = omega (arith, count) };
-      spelled = ap (λ (o : List ℕ). 0x86 ∷ (o ++ uri)) (sym form);
+      encoded = ap (λ (o : List ℕ). 0x86 ∷ (o ++ uri)) (sym form);
       form = (refl, (refl, ascii));
     } in
     ((λ e. absurd cc), (0x86 ∷ n ∷ uri, [], one, sym (append-nil (0x86 ∷ n ∷ uri)), refl))
@@ -62,7 +62,7 @@ one-point uri n count few ascii =
       tag = 0xA0;
       content = names;
       fits = record { octet = omega arith; low = λ e. omega arith; short = omega (arith, count) };
-      spelled = ap (λ (o : List ℕ). 0xA0 ∷ (o ++ names)) (sym form);
+      encoded = ap (λ (o : List ℕ). 0xA0 ∷ (o ++ names)) (sym form);
       form = (refl, uri-names uri n count (omega arith) ascii);
     } in
     let wrapped = few-within 0xA0 (n + 4) IsPointName (0xA0 ∷ (n + 2) ∷ names) _ (omega arith) (λ e. omega arith) (omega (arith, count)) (omega arith) name in
@@ -84,7 +84,7 @@ uri-point points h =
     let size : ℕ = get_or points 7 0 in
     let more : List ℕ = drop 8 points in
     let uri : List ℕ = take size more in
-    let here = spelled-out points 0 8 8 refl h.eight in
+    let here = encoded-out points 0 8 8 refl h.eight in
     let front : points ≡ 0x30 ∷ (size + 6) ∷ 0xA0 ∷ (size + 4) ∷ 0xA0 ∷ (size + 2) ∷ 0x86 ∷ size ∷ more = here ∙ rw (h.point, h.outer, h.named, h.inner, h.full, h.names, h.identifier) refl in (
       0x30 ∷ (size + 6) ∷ 0xA0 ∷ (size + 4) ∷ 0xA0 ∷ (size + 2) ∷ 0x86 ∷ size ∷ uri,
       uri,
@@ -98,9 +98,9 @@ pub uris-more : (points first more uri : List ℕ) (uris : List (List ℕ)) → 
 uris-more points first more uri uris is whole rest = (first, more, is, whole, rest)
 
 -- octets that are not empty are one item or more
-pub some-items : {A : Type 0} (Spells : List ℕ → A → Type 0) (octets : List ℕ) (xs : List A) (empty : Bool) → empty ≡ eqb (length octets) 0 → not empty ≡ true → AreItems Spells octets xs → xs ≢ []
-some-items Spells octets [] empty is other none = λ e. absurd (false≢true (sym (not-true empty other) ∙ (is ∙ eq-eqb (length octets) 0 (ap (λ (o : List ℕ). length o) none))))
-some-items Spells octets (x ∷ xs) empty is other all = λ e. absurd cc
+pub some-items : {A : Type 0} (Encodes : List ℕ → A → Type 0) (octets : List ℕ) (xs : List A) (empty : Bool) → empty ≡ eqb (length octets) 0 → not empty ≡ true → AreItems Encodes octets xs → xs ≢ []
+some-items Encodes octets [] empty is other none = λ e. absurd (false≢true (sym (not-true empty other) ∙ (is ∙ eq-eqb (length octets) 0 (ap (λ (o : List ℕ). length o) none))))
+some-items Encodes octets (x ∷ xs) empty is other all = λ e. absurd cc
 
 -- points that are URIs break no rule
 uris-in-order : (uris : List (List ℕ)) → list_all has_addresses (map point_of_uri uris) ≡ true

@@ -1,4 +1,4 @@
--- Values that are numbers, reasons and dates: each as it is read, spelled and refused.
+-- Values that are numbers, reasons and dates: each as it is read, encoded and refused.
 use Rattle.std.proofs.Common.{◌≡◌, ℕ, ◌<◌, ◌^◌, Bool, true, false, cond, not, ltb, List, [], ◌∷◌, Some, None, refl, sym, ap, subst, ◌∙◌, arith}
 use Rattle.std.specs.Prelude.{◌==◌}
 use Rattle.std.specs.List.{find}
@@ -13,7 +13,7 @@ use Rattle.ts_time.proofs.ReadingLemmas.{general_in-found, general_in-only}
 use Rattle.ts_shape.specs.Shape.{plain}
 use Rattle.ts_ext.specs.declared.reason_code.ReasonCode.{ReasonCode}
 use Rattle.ts_ext.specs.declared.reason_code.ReasonCode.TheVariants.{Unspecified, KeyCompromise, CaCompromise, AffiliationChanged, Superseded, CessationOfOperation, CertificateHold, RemoveFromCrl, PrivilegeWithdrawn, AaCompromise}
-use Rattle.ts_ext.specs.Spelling.{IsSmall, IsCrlNumber, IsBaseCrlNumber, reason_number, IsReasonCode, IsInvalidityDate}
+use Rattle.ts_ext.specs.Encoding.{IsSmall, IsCrlNumber, IsBaseCrlNumber, reason_number, IsReasonCode, IsInvalidityDate}
 use Rattle.ts_ext.specs.Table.{natural_rules, crl_number_rules, base_crl_number_rules, small_integer_rules, reasons, reason_of_number, reason_in, reason_code_rules, invalidity_date_rules}
 use Rattle.ts_ext.specs.Reading.{crl_number_of, base_crl_number_of, small_of, reason_code_of, invalidity_date_of}
 use Rattle.ts_ext.proofs.Formats.{Format, by_der_rules, by_name}

@@ -14,7 +14,7 @@ use Rattle.ts_ext.specs.declared.policy_constraints.PolicyConstraints.{PolicyCon
 use Rattle.ts_ext.specs.declared.reason_code.ReasonCode.{ReasonCode}
 use Rattle.ts_name.specs.General.{GeneralName}
 use Rattle.ts_ext.specs.Policies.{Information, Mapping}
-use Rattle.ts_ext.specs.Spelling.{IsKeyUsage, IsBasicConstraints, IsCrlNumber, IsReasonCode, IsInvalidityDate, IsBaseCrlNumber, AreCertificatePolicies, ArePolicyMappings, IsPolicyConstraints, AreKeyPurposes, IsSkipCerts}
+use Rattle.ts_ext.specs.Encoding.{IsKeyUsage, IsBasicConstraints, IsCrlNumber, IsReasonCode, IsInvalidityDate, IsBaseCrlNumber, AreCertificatePolicies, ArePolicyMappings, IsPolicyConstraints, AreKeyPurposes, IsSkipCerts}
 use Rattle.ts_ext.specs.Reading.{key_usage_of, basic_constraints_of, crl_number_of, reason_code_of, invalidity_date_of, base_crl_number_of, certificate_policies_of, policy_mappings_of, policy_constraints_of, ext_key_usage_of, skip_certs_of}
 use Rattle.ts_ext.specs.Table.{key_usage_rules, basic_constraints_fields, crl_number_rules, reason_code_rules, invalidity_date_rules, base_crl_number_rules, certificate_policies, policy_mappings, policy_constraints_fields, ext_key_usage, skip_certs_rules, list_rules}
 use Rattle.ts_ext.specs.GeneralNames.{AreGeneralNames, general_names_of, general_names_items}
@@ -102,13 +102,13 @@ layout_of extension.InhibitAnyPolicy = layout 0x02 plain skip_certs_rules
 abbrev pub value_row : Known → Row
 value_row known = tagged (layout_of known).tag (layout_of known).shape (layout_of known).rules no_other
 
--- ---- spelling
+-- ---- encoding
 
--- octets that spell a value, in the form of one extension
+-- octets that encode a value, in the form of one extension
 abbrev pub As : {A : Type 0} → (A → ExtValue) → (List ℕ → A → Type 0) → List ℕ → ExtValue → Type 0
-As {A} form Spells octets value = (x : A) × (value ≡ form x) × Spells octets x
+As {A} form Encodes octets value = (x : A) × (value ≡ form x) × Encodes octets x
 
--- the content of an element that spells the value of an extension
+-- the content of an element that encodes the value of an extension
 abbrev pub IsContent : Known → List ℕ → ExtValue → Type 0
 IsContent extension.SubjectKeyIdentifier = As (λ x. subjectKeyIdentifier x) AreOctetsOf
 IsContent extension.KeyUsage = As (λ x. keyUsage x) IsKeyUsage
@@ -172,7 +172,7 @@ content_of extension.InhibitAnyPolicy = read_as skip_certs_of (λ x. inhibitAnyP
 abbrev pub value_of : Known → Tlv → Result ExtValue Fault
 value_of known = of_tag (layout_of known).tag (content_of known)
 
--- the value within an OCTET STRING, and nothing behind it; of an extension that is not read here its octets
+-- the value within an OCTET STRING, and nothing after it; of an extension that is not read here its octets
 unfoldable pub ext_of : Option Known → Tlv → Result ExtValue Fault
 ext_of (Some known) e = alone (value_of known) e
 ext_of None e = Ok (unknown e.content)

@@ -10,7 +10,7 @@ use Rattle.ts_shape.specs.Items.{alone, of_tag, some_of, AreSome}
 use Rattle.ts_shape.specs.Rows.{object_identifier}
 use Rattle.ts_shape.specs.Shape.{Row, Shape, items, optional, tagged, no_other, nothing, ◌then◌, no_rules, primitive, sequence}
 use Rattle.ts_ext.specs.AuthorityKey.{AreOctetsOf}
-use Rattle.ts_ext.specs.Spelling.{IfTrue}
+use Rattle.ts_ext.specs.Encoding.{IfTrue}
 use Rattle.ts_ext.specs.Table.{flag, list_rules}
 
 -- what an extension says: the content of its object identifier, whether it is critical, the octets of its value
@@ -19,7 +19,7 @@ pub record Extension : Type 0 where
   pub critical : Bool
   pub extnValue : List ℕ
 
--- ---- spelling
+-- ---- encoding
 
 -- Extension ::= SEQUENCE { extnID OBJECT IDENTIFIER, critical BOOLEAN DEFAULT FALSE, extnValue OCTET STRING }
 pub record IsExtension (content : List ℕ) (x : Extension) : Type 0 where
@@ -55,40 +55,40 @@ explicit_extensions = tagged 0x30 extensions list_rules no_other then nothing
 
 -- ---- reading
 
--- an extension where it stands: the place of its SEQUENCE, and the element of its value
-pub record Standing : Type 0 where
+-- an extension where it is: the place of its SEQUENCE, and the element of its value
+pub record Located : Type 0 where
   pub at : ℕ
   pub extnID : List ℕ
   pub critical : Bool
   pub value : Tlv
 
 -- what it says, wherever it stands
-abbrev pub said : Standing → Extension
-said x = record { extnID = x.extnID; critical = x.critical; extnValue = x.value.content }
+abbrev pub unlocated : Located → Extension
+unlocated x = record { extnID = x.extnID; critical = x.critical; extnValue = x.value.content }
 
-unfoldable pub standing_of : Tlv → Result Standing Fault
-standing_of e = do
+unfoldable pub located_of : Tlv → Result Located Fault
+located_of e = do
   id ← oid_at (inside e)
   critical ← flag_at 0x01 id.1
   value ← element_at 0x04 critical.1
   done ← end_at value.1
   Ok (record { at = e.at; extnID = id.0; critical = critical.0; value = value.0 })
 
-abbrev pub standing_in : Tlv → Result Standing Fault
-standing_in = of_tag 0x30 standing_of
+abbrev pub located_in : Tlv → Result Located Fault
+located_in = of_tag 0x30 located_of
 
 abbrev pub extension_of : Tlv → Result Extension Fault
-extension_of e = standing_of e >>= λ x. Ok (said x)
+extension_of e = located_of e >>= λ x. Ok (unlocated x)
 
 abbrev pub extensions_of : Tlv → Result (List Extension) Fault
 extensions_of = some_of (of_tag 0x30 extension_of)
 
--- extensions where they stand, and the same behind an explicit tag
-abbrev pub standings_of : Tlv → Result (List Standing) Fault
-standings_of = some_of standing_in
+-- extensions where they are, and the same after an explicit tag
+abbrev pub all_located_of : Tlv → Result (List Located) Fault
+all_located_of = some_of located_in
 
-abbrev pub explicit_standings_of : Tlv → Result (List Standing) Fault
-explicit_standings_of = alone (of_tag 0x30 standings_of)
+abbrev pub explicit_all_located_of : Tlv → Result (List Located) Fault
+explicit_all_located_of = alone (of_tag 0x30 all_located_of)
 
 abbrev pub explicit_extensions_of : Tlv → Result (List Extension) Fault
 explicit_extensions_of = alone (of_tag 0x30 extensions_of)

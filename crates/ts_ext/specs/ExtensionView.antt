@@ -5,13 +5,13 @@ use Rattle.ts_der.specs.View.{now}
 use Rattle.ts_shape.specs.Items.{items_at}
 use Rattle.ts_ext.specs.declared.extension.Extension.{Extension as Lent}
 use Rattle.ts_ext.specs.declared.extensions.Extensions.{Extensions}
-use Rattle.ts_ext.specs.Extension.{Extension, Standing, said, standing_in}
+use Rattle.ts_ext.specs.Extension.{Extension, Located, unlocated, located_in}
 
-abbrev pub standing_as : Lent → Standing
-standing_as x = record { at = x.at; extnID = x.id.content.now; critical = x.critical; value = now x.value }
+abbrev pub located_as : Lent → Located
+located_as x = record { at = x.at; extnID = x.id.content.now; critical = x.critical; value = now x.value }
 
-abbrev pub standings_in : Extensions → List Standing
-standings_in x = items_at standing_in (inside (now x.list.element))
+abbrev pub all_located_in : Extensions → List Located
+all_located_in x = items_at located_in (inside (now x.list.element))
 
 abbrev pub extensions_in : Extensions → List Extension
-extensions_in x = map said (standings_in x)
+extensions_in x = map unlocated (all_located_in x)

@@ -1,5 +1,5 @@
 pub mod Inner
-pub mod Spelling
+pub mod Encoding
 pub mod NamedBits
 pub mod Policies
 pub mod Reading
@@ -17,4 +17,4 @@ pub mod Rules
 pub mod Extension
 pub mod ExtensionView
 pub mod ValueRules
-pub mod Sound
+pub mod Valid

@@ -15,7 +15,7 @@ named_bits_in content = bits_of (bit_parts content).0 (bit_parts content).1
 
 -- a BIT STRING whose last bit, if there is any, is 1, by its content
 pub record IsNamedBits (content : List ℕ) (bits : List Bool) : Type 0 where
-  pub spelled : IsBitString content bits
+  pub encoded : IsBitString content bits
   pub shortest : EndsInOne bits
 
 -- the numbers of the bits of ReasonFlags (4.2.1.13); bit 0 is not used

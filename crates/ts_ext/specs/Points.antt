@@ -8,14 +8,14 @@ use Rattle.ts_der.specs.Reading.{fault_at, end_at}
 use Rattle.ts_der.specs.Default.{flag_at}
 use Rattle.ts_name.specs.Canon.{Attr}
 use Rattle.ts_name.specs.Names.{rdn_of}
-use Rattle.ts_name.specs.NameSpelling.{IsRdnContent}
+use Rattle.ts_name.specs.NameEncoding.{IsRdnContent}
 use Rattle.ts_shape.specs.Fields.{Within, IfAny, optional_of}
 use Rattle.ts_shape.specs.Items.{alone, of_tag, some_of, AreSome, IsChoice}
 use Rattle.ts_name.specs.General.{GeneralName, uniformResourceIdentifier}
 use Rattle.ts_shape.specs.Rows.{set_rules}
 use Rattle.ts_name.specs.NameRows.{attribute_type_and_value}
 use Rattle.ts_shape.specs.Shape.{Row, Shape, tagged, no_other, optional, items, nothing, ◌then◌, ◌or◌, der_rules, no_rules, primitive, sequence}
-use Rattle.ts_ext.specs.Spelling.{IfTrue, AreReasonFlags}
+use Rattle.ts_ext.specs.Encoding.{IfTrue, AreReasonFlags}
 use Rattle.ts_ext.specs.Reading.{reason_flags_of}
 use Rattle.ts_ext.specs.Table.{flag, reason_flags_rules}
 use Rattle.ts_ext.specs.GeneralNames.{AreGeneralNames, general_names_of, general_names}

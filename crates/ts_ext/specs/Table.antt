@@ -13,7 +13,7 @@ use Rattle.ts_shape.specs.Shape.{ContentRules, Row, tagged, no_other, any, optio
 use Rattle.ts_shape.specs.Rows.{object_identifier}
 use Rattle.ts_ext.specs.declared.reason_code.ReasonCode.{ReasonCode}
 use Rattle.ts_ext.specs.declared.reason_code.ReasonCode.TheVariants.{Unspecified, KeyCompromise, CaCompromise, AffiliationChanged, Superseded, CessationOfOperation, CertificateHold, RemoveFromCrl, PrivilegeWithdrawn, AaCompromise}
-use Rattle.ts_ext.specs.Spelling.{reason_number}
+use Rattle.ts_ext.specs.Encoding.{reason_number}
 
 -- ---- numbers
 

@@ -1,4 +1,4 @@
--- The first rule that a list of extensions breaks: none stands twice, and then those of the values, one extension after another
+-- The first rule that a list of extensions breaks: none occurs twice, and then those of the values, one extension after another
 -- (RFC 5280 4.2, 5.2, 5.3).
 use Rattle.std.specs.Prelude.{◌≡◌, ℕ, List, [], ◌∷◌, Option, None, Result, Ok, Err, option_map}
 use Rattle.ts_der.specs.declared.fault.Fault.{Fault}
@@ -13,12 +13,12 @@ use Rattle.ts_ext.specs.declared.known.Holder.{Holder}
 use Rattle.ts_ext.specs.declared.known.Known.{Known}
 use Rattle.ts_ext.specs.declared.known.Holder.TheVariants.{Certificate}
 use Rattle.ts_ext.specs.Ext.{ExtValue, IsExt, ext_of, ext_fault}
-use Rattle.ts_ext.specs.Extension.{Extension, Standing}
+use Rattle.ts_ext.specs.Extension.{Extension, Located}
 use Rattle.ts_ext.specs.Known.{known_at}
 use Rattle.ts_ext.specs.Rules.{broken_rule}
 
 -- the first extension that is one of those before it once more (4.2)
-abbrev pub repeated_fault : List Standing → Option CertFault
+abbrev pub repeated_fault : List Located → Option CertFault
 repeated_fault xs = option_map (λ x. breaks x.at DuplicateExtension) (first_repeated (λ x. x.extnID) [] xs)
 
 -- the place of a rule that is not one of DER: the extension of a certificate, none elsewhere
@@ -36,27 +36,27 @@ content_fault at (Ok value) = option_map (breaks at) (broken_rule value)
 content_fault at (Err fault) = None
 
 -- the first rule that the value of one extension breaks: of DER, then the others
-abbrev pub value_fault : Holder → Standing → Option CertFault
+abbrev pub value_fault : Holder → Located → Option CertFault
 value_fault holder x = ext_fault (known_at holder x.extnID) x.value or_else content_fault (rule_place holder x.at) (ext_of (known_at holder x.extnID) x.value)
 
 -- the first that any of them breaks
-abbrev pub values_fault : Holder → List Standing → Option CertFault
+abbrev pub values_fault : Holder → List Located → Option CertFault
 values_fault holder [] = None
 values_fault holder (x ∷ xs) = value_fault holder x or_else values_fault holder xs
 
--- the first rule that a list breaks: that none stands twice, then those of the values
-abbrev pub list_fault : Holder → List Standing → Option CertFault
+-- the first rule that a list breaks: that none occurs twice, then those of the values
+abbrev pub list_fault : Holder → List Located → Option CertFault
 list_fault holder xs = repeated_fault xs or_else values_fault holder xs
 
 -- ---- lists whose values break no rule
 
 -- octets are a value as that extension asks, which breaks none of the other rules
-abbrev pub IsSoundValue : Option Known → List ℕ → Type 0
-IsSoundValue known octets = (value : ExtValue) × IsExt known octets value × (broken_rule value ≡ None)
+abbrev pub IsValidValue : Option Known → List ℕ → Type 0
+IsValidValue known octets = (value : ExtValue) × IsExt known octets value × (broken_rule value ≡ None)
 
-abbrev pub IsSound : Holder → Extension → Type 0
-IsSound holder x = IsSoundValue (known_at holder x.extnID) x.extnValue
+abbrev pub IsValid : Holder → Extension → Type 0
+IsValid holder x = IsValidValue (known_at holder x.extnID) x.extnValue
 
-abbrev pub AreSound : Holder → List Extension → Type 0
-AreSound holder [] = Unit {0}
-AreSound holder (x ∷ xs) = IsSound holder x × AreSound holder xs
+abbrev pub AreValid : Holder → List Extension → Type 0
+AreValid holder [] = Unit {0}
+AreValid holder (x ∷ xs) = IsValid holder x × AreValid holder xs

@@ -32,7 +32,7 @@ pub struct AuthorityKeyIdentifier<'a> {
     pub authority_cert_serial_number: Option<Integer<'a>>,
 }
 
-/// The octets of a key identifier, where one stands next.
+/// The octets of a key identifier, where one is next.
 #[tactic(auto, unfolding(ts_shape::specs::Fields::optional_of, ts_der::specs::Reading::optional_at))]
 fn next_key<'a>(fields: &mut Reader<'a>) -> Result<Option<&'a [u8]>, Fault>
     ensures { Takes (option_map (λ k. k.now)) fields.new result (optional_of 0x80 octets_of fields.old) }
@@ -43,7 +43,7 @@ fn next_key<'a>(fields: &mut Reader<'a>) -> Result<Option<&'a [u8]>, Fault>
     }
 }
 
-/// A serial number, where one stands next.
+/// A serial number, where one is next.
 #[tactic(auto, unfolding(ts_shape::specs::Fields::optional_of, ts_der::specs::Reading::optional_at))]
 fn next_serial<'a>(fields: &mut Reader<'a>) -> Result<Option<Integer<'a>>, Fault>
     ensures { Takes (option_map (λ s. s.octets.now)) fields.new result (optional_of 0x82 serial_of fields.old) }
@@ -59,7 +59,7 @@ impl<'a> AuthorityKeyIdentifier<'a> {
     ///
     /// # Errors
     ///
-    /// The first rule that is broken, with its place: of each field, where it stands, its header; of the issuer those of
+    /// The first rule that is broken, with its place: of each field, where it is, its header; of the issuer those of
     /// `General::read` and `Empty`; of the serial number `IntegerForm`; then `Trailing`.
     pub fn read(element: Element<'a>) -> Result<AuthorityKeyIdentifier<'a>, Fault>
         ensures found { IfOk result (λ a. IsAuthorityKey element.entry.content.now (authority_key_in a)) }

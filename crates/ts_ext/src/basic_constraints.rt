@@ -21,7 +21,7 @@ pub struct BasicConstraints {
 
 impl BasicConstraints {
     ghost use Rattle.ts_ext.specs.declared.basic_constraints.BasicConstraints.{BasicConstraints};
-    ghost use Rattle.ts_ext.specs.Spelling.{IsBasicConstraints};
+    ghost use Rattle.ts_ext.specs.Encoding.{IsBasicConstraints};
     ghost use Rattle.ts_ext.specs.Table.{basic_constraints_fields};
     ghost use Rattle.ts_ext.specs.Reading.{basic_constraints_of};
 

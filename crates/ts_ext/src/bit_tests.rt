@@ -17,7 +17,7 @@ const USAGES: [(&[u8], Result<(bool, bool), Refusal>); 11] = [
     (b"\x04\x04\x03\x02\x01\x02", Ok((false, true))),
     // Bit 2 is not bit 5, counted from the other end.
     (b"\x04\x04\x03\x02\x05\x20", Ok((false, false))),
-    // Bit 8 stands in the second octet.
+    // Bit 8 is in the second octet.
     (b"\x04\x05\x03\x03\x07\x00\x80", Ok((false, false))),
     (b"\x04\x03\x03\x01\x00", Ok((false, false))),
     // The last bit is 0.

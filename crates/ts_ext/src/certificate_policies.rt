@@ -7,7 +7,7 @@ ghost use Rattle.ts_shape.specs.Fault.{about};
 ghost use Rattle.ts_shape.specs.Items.{items_at};
 ghost use Rattle.ts_ext.specs.Inner.{inner_fault};
 ghost use Rattle.ts_ext.specs.Policies.{Information};
-ghost use Rattle.ts_ext.specs.Spelling.{AreCertificatePolicies};
+ghost use Rattle.ts_ext.specs.Encoding.{AreCertificatePolicies};
 ghost use Rattle.ts_ext.specs.Table.{certificate_policies, list_rules};
 ghost use Rattle.ts_ext.specs.Reading.{policy_information_in, certificate_policies_of};
 ghost use Rattle.ts_ext.specs.View.{policies_in};

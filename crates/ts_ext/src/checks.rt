@@ -5,7 +5,7 @@ ghost use Rattle.ts_der.specs.Answer.{Answers};
 ghost use Rattle.ts_der.specs.View.{now};
 ghost use Rattle.ts_shape.specs.Items.{alone};
 ghost use Rattle.ts_ext.specs.Ext.{content_of, value_of, ext_of};
-ghost use Rattle.ts_ext.specs.ExtensionView.{standing_as};
+ghost use Rattle.ts_ext.specs.ExtensionView.{located_as};
 ghost use Rattle.ts_ext.specs.ValueRules.{rule_place, rule_of, value_fault};
 
 use crate::basic_constraints::BasicConstraints;
@@ -41,7 +41,7 @@ fn check_content(known: Known, element: Element<'_>) -> Result<Option<CertRule>,
     }
 }
 
-/// The same of the one value within an OCTET STRING.
+/// The same for the one value within an OCTET STRING.
 #[tactic(auto, unfolding(ts_shape::specs::Items::alone, ts_shape::specs::Items::each, ts_shape::specs::Items::of_tag))]
 #[inline(always)]
 fn check_alone(known: Known, octets: Element<'_>) -> Result<Option<CertRule>, Fault>
@@ -53,7 +53,7 @@ fn check_alone(known: Known, octets: Element<'_>) -> Result<Option<CertRule>, Fa
     Ok(rule)
 }
 
-/// The same of an extension that is read there, if it is one.
+/// The same for an extension that is read there, if it is one.
 #[tactic(auto, unfolding(crate::specs::Ext::ext_of))]
 #[inline(always)]
 fn check(known: Option<Known>, octets: Element<'_>) -> Result<Option<CertRule>, Fault>
@@ -80,7 +80,7 @@ impl<'a> Extension<'a> {
     /// `Ext::broken_rule` finds. The place of the latter is that of the extension in a certificate, and 0 in a list.
     #[inline(always)]
     pub fn first_fault(self, holder: Holder) -> Option<CertFault>
-        ensures { result ≡ value_fault holder (standing_as self.entry) }
+        ensures { result ≡ value_fault holder (located_as self.entry) }
     {
         match check(Known::at(holder, self.id), self.value) {
             Ok(rule) => {

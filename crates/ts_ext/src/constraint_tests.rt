@@ -39,7 +39,7 @@ const BASIC: [(&[u8], Result<(bool, Option<u32>), Refusal>); 12] = [
         b"\x04\x08\x30\x06\x01\x01\xff\x02\x01\xff",
         Err((DerFault::IntegerForm, 7)),
     ),
-    // The length before the flag; something behind both.
+    // The length before the flag; something after both.
     (
         b"\x04\x08\x30\x06\x02\x01\x00\x01\x01\xff",
         Err((DerFault::Trailing, 7)),

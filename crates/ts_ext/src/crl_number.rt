@@ -7,7 +7,7 @@ ghost use Rattle.ts_der.specs.View.{now};
 ghost use Rattle.ts_shape.specs.Fault.{about};
 ghost use Rattle.ts_shape.specs.Shape.{plain};
 ghost use Rattle.ts_ext.specs.Inner.{inner_fault};
-ghost use Rattle.ts_ext.specs.Spelling.{IsCrlNumber, IsBaseCrlNumber};
+ghost use Rattle.ts_ext.specs.Encoding.{IsCrlNumber, IsBaseCrlNumber};
 ghost use Rattle.ts_ext.specs.Table.{crl_number_rules, base_crl_number_rules};
 ghost use Rattle.ts_ext.specs.Reading.{crl_number_of, base_crl_number_of};
 

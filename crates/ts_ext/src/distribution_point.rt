@@ -73,7 +73,7 @@ fn wrapped_name<'a>(element: Element<'a>) -> Result<PointName<'a>, Fault>
     Ok(name)
 }
 
-/// The name of a distribution point, where one stands next.
+/// The name of a distribution point, where one is next.
 #[tactic(auto, unfolding(ts_shape::specs::Fields::optional_of, ts_der::specs::Reading::optional_at))]
 pub(crate) fn next_point_name<'a>(fields: &mut Reader<'a>) -> Result<Option<PointName<'a>>, Fault>
     ensures { Takes (option_map point_name_in) fields.new result (optional_of 0xA0 wrapped_name_of fields.old) }

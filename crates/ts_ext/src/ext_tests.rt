@@ -136,7 +136,7 @@ const PLACES: [(&[u8], [Option<Known>; 3]); 26] = [
         [Some(Known::InhibitAnyPolicy), None, None],
     ),
     (UNKNOWN, [None, None, None]),
-    // 2.5.29, one more arc behind 2.5.29.15, 2.5.28.15, 2.4.29.15, and 2.5.29.143 in four octets.
+    // 2.5.29, one more arc after 2.5.29.15, 2.5.28.15, 2.4.29.15, and 2.5.29.143 in four octets.
     (b"\x06\x02\x55\x1d", [None, None, None]),
     (b"\x06\x04\x55\x1d\x0f\x00", [None, None, None]),
     (b"\x06\x03\x55\x1c\x0f", [None, None, None]),
@@ -427,7 +427,7 @@ const REFUSED: [(&[u8], &[u8], Refusal); 7] = [
         b"\x04\x06\x03\x02\x01\x06\x05\x00",
         (DerFault::Trailing, 6),
     ),
-    // What the value breaks counts before what stands behind it.
+    // What the value breaks counts before what follows it.
     (
         KEY_USAGE,
         b"\x04\x06\x03\x02\x00\x06\x05\x00",
@@ -525,7 +525,7 @@ const NAMES: [(Holder, &[u8], &[u8], Option<CertRule>); 10] = [
         b"\x04\x0c\x30\x0a\x87\x08\x0a\x00\x00\x00\xff\x00\x00\x00",
         Some(CertRule::AddressLength),
     ),
-    // Of 5 octets in names; behind a host; of 4 octets; a host.
+    // Of 5 octets in names; after a host; of 4 octets; a host.
     (
         Holder::Certificate,
         SUBJECT_ALT_NAME,
@@ -591,7 +591,7 @@ const FIVE_IN_NAME: &[u8] = b"\x04\x0f\x30\x0d\x30\x0b\xa0\x09\xa0\x07\x87\x05\x
 /// A point with an address of 5 octets as its issuer.
 const FIVE_AS_ISSUER: &[u8] = b"\x04\x0d\x30\x0b\x30\x09\xa2\x07\x87\x05\x0a\x00\x00\x01\x02";
 
-/// The first behind a point without fields.
+/// The first after a point without fields.
 const FIVE_IN_SECOND: &[u8] =
     b"\x04\x11\x30\x0f\x30\x00\x30\x0b\xa0\x09\xa0\x07\x87\x05\x0a\x00\x00\x01\x02";
 

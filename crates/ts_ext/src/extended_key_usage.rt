@@ -6,7 +6,7 @@ ghost use Rattle.ts_der.specs.View.{now};
 ghost use Rattle.ts_shape.specs.Fault.{about};
 ghost use Rattle.ts_shape.specs.Items.{items_at};
 ghost use Rattle.ts_ext.specs.Inner.{inner_fault};
-ghost use Rattle.ts_ext.specs.Spelling.{AreKeyPurposes};
+ghost use Rattle.ts_ext.specs.Encoding.{AreKeyPurposes};
 ghost use Rattle.ts_ext.specs.Table.{ext_key_usage, list_rules};
 ghost use Rattle.ts_ext.specs.Reading.{key_purpose_in, ext_key_usage_of};
 ghost use Rattle.ts_ext.specs.View.{purposes_in};

@@ -2,8 +2,8 @@
 
 ghost use Rattle.ts_der.specs.Answer.{Answers};
 ghost use Rattle.ts_der.specs.View.{now};
-ghost use Rattle.ts_ext.specs.Extension.{standing_of};
-ghost use Rattle.ts_ext.specs.ExtensionView.{standing_as};
+ghost use Rattle.ts_ext.specs.Extension.{located_of};
+ghost use Rattle.ts_ext.specs.ExtensionView.{located_as};
 
 use crate::fields::{BOOLEAN, OCTET_STRING, SEQUENCE, next_oid};
 use ts_der::{Element, Fault, OidRef};
@@ -23,13 +23,13 @@ pub struct Extension<'a> {
 }
 
 impl<'a> FromElement<'a> for Extension<'a> {
-    ghost use Rattle.ts_ext.specs.Extension.{Standing, standing_in};
+    ghost use Rattle.ts_ext.specs.Extension.{Located, located_in};
 
-    ghost Record = { Standing };
+    ghost Record = { Located };
 
-    ghost record_of = { standing_as };
+    ghost record_of = { located_as };
 
-    ghost reading = { standing_in };
+    ghost reading = { located_in };
 
     ghost key_of = { λ x. x.extnID };
 
@@ -48,10 +48,10 @@ impl<'a> Keyed<'a> for Extension<'a> {
 }
 
 /// The extension that a SEQUENCE is.
-#[tactic(auto, unfolding(crate::specs::Extension::standing_of))]
+#[tactic(auto, unfolding(crate::specs::Extension::located_of))]
 #[inline(always)]
 pub(crate) fn read_extension<'a>(element: Element<'a>) -> Result<Extension<'a>, Fault>
-    ensures { Answers standing_as result (standing_of (now element.entry)) }
+    ensures { Answers located_as result (located_of (now element.entry)) }
 {
     let mut fields = element.reader();
     let id = next_oid(&mut fields)?;

@@ -86,7 +86,7 @@ fn extensions_are_read_or_refused(rt: HostRuntime) -> Result<(), Fail> {
             b"\x30\x09\x30\x07\x06\x03\x55\x1d\x11\x05\x00",
             Some((DerFault::WrongTag, 9)),
         ),
-        // Something behind the value.
+        // Something after the value.
         (
             b"\x30\x0b\x30\x09\x06\x03\x55\x1d\x63\x04\x00\x05\x00",
             Some((DerFault::Trailing, 11)),
@@ -174,7 +174,7 @@ fn the_first_rule_that_values_break(rt: HostRuntime) -> Result<(), Fail> {
 
 /// The rule that the extensions within an explicit tag break in a certificate, and where.
 fn judged(octets: &[u8]) -> Result<Option<(CertRule, usize)>, Fault> {
-    let list = Judged::read_explicit(Reader::new(octets).next()?, Holder::Certificate)?;
+    let list = CheckedExtensions::read_explicit(Reader::new(octets).next()?, Holder::Certificate)?;
     Ok(list.fault.map(|f| (f.kind, f.at)))
 }
 

@@ -10,11 +10,11 @@ ghost use Rattle.ts_shape.specs.Fault.{about};
 ghost use Rattle.ts_shape.specs.Items.{items_at};
 ghost use Rattle.ts_shape.specs.Repeats.{first_repeated as first_repeated_of};
 ghost use Rattle.ts_ext.specs.Inner.{inner_fault};
-ghost use Rattle.ts_ext.specs.Extension.{Extension as Stated, AreExtensions, extensions, standing_in, extensions_of, standings_of};
-ghost use Rattle.ts_ext.specs.ExtensionView.{standing_as, standings_in, extensions_in};
+ghost use Rattle.ts_ext.specs.Extension.{Extension as Stated, AreExtensions, extensions, located_in, extensions_of, all_located_of};
+ghost use Rattle.ts_ext.specs.ExtensionView.{located_as, all_located_in, extensions_in};
 ghost use Rattle.ts_ext.specs.Known.{identifier_of};
 ghost use Rattle.ts_ext.specs.Table.{list_rules};
-ghost use Rattle.ts_ext.specs.ValueRules.{value_fault, values_fault, AreSound};
+ghost use Rattle.ts_ext.specs.ValueRules.{value_fault, values_fault, AreValid};
 
 use crate::extension::Extension;
 use crate::known::{Holder, Known};
@@ -43,15 +43,15 @@ impl<'a> Extensions<'a> {
         ensures fault { option_map about (refusal result) ≡ inner_fault extensions list_rules (now element.entry) }
         ensures exact { Answers extensions_in result (extensions_of (now element.entry)) }
         // The same with the place of each.
-        ensures placed { Answers standings_in result (standings_of (now element.entry)) }
+        ensures placed { Answers all_located_in result (all_located_of (now element.entry)) }
     {
         read_extensions(element)
     }
 
-    /// The list within a SEQUENCE that `read` or `Judged::read_explicit` has accepted before. Of another element it is what
-    /// stands before the first that is no extension.
+    /// The list within a SEQUENCE that `read` or `CheckedExtensions::read_explicit` has accepted before. Of another element it is what
+    /// precedes the first that is no extension.
     pub fn within(element: Element<'a>) -> Extensions<'a>
-        ensures { standings_in result ≡ items_at standing_in (inside (now element.entry)) }
+        ensures { all_located_in result ≡ items_at located_in (inside (now element.entry)) }
     {
         Extensions {
             list: SequenceOf::within(element),
@@ -60,14 +60,14 @@ impl<'a> Extensions<'a> {
 
     /// The extensions, in their order.
     pub fn iter(self) -> SequenceItems<'a, Extension<'a>>
-        ensures { items_at standing_in result.rest ≡ standings_in self.entry }
+        ensures { items_at located_in result.rest ≡ all_located_in self.entry }
     {
         self.list.iter()
     }
 
     /// The first of the extensions that is known as this one, if there is one.
     pub fn find(self, known: Known) -> Option<Extension<'a>>
-        ensures { option_map standing_as result ≡ find (λ x. bytes_eq x.extnID (identifier_of known)) (standings_in self.entry) }
+        ensures { option_map located_as result ≡ find (λ x. bytes_eq x.extnID (identifier_of known)) (all_located_in self.entry) }
     {
         let wanted = [0x55, 0x1D, known.arc()];
         for extension in self.iter() {
@@ -81,23 +81,23 @@ impl<'a> Extensions<'a> {
     /// The first extension, by its place, that has the object identifier of an earlier one, where there is one
     /// (RFC 5280 4.2).
     pub fn first_repeated(self) -> Option<Extension<'a>>
-        ensures { option_map standing_as result ≡ first_repeated_of (λ x. x.extnID) [] (standings_in self.entry) }
+        ensures { option_map located_as result ≡ first_repeated_of (λ x. x.extnID) [] (all_located_in self.entry) }
     {
         first_repeated(self.list.element)
     }
 
     /// The first rule that the values break, one extension after another, as `Extension::first_fault` finds it in each.
     pub fn broken_rule(self, holder: Holder) -> Option<CertFault>
-        ensures fault { result ≡ values_fault holder (standings_in self.entry) }
+        ensures fault { result ≡ values_fault holder (all_located_in self.entry) }
         // None exactly where each value is one that its extension has and breaks no rule.
-        ensures sound { (result ≡ None) ↔ AreSound holder (extensions_in self.entry) }
+        ensures sound { (result ≡ None) ↔ AreValid holder (extensions_in self.entry) }
     {
         first_broken_value(self, holder)
     }
 }
 
 fn read_extensions<'a>(element: Element<'a>) -> Result<Extensions<'a>, Fault>
-    ensures { Answers standings_in result (standings_of (now element.entry)) }
+    ensures { Answers all_located_in result (all_located_of (now element.entry)) }
 {
     Ok(Extensions {
         list: SequenceOf::read(element)?,
@@ -107,7 +107,7 @@ fn read_extensions<'a>(element: Element<'a>) -> Result<Extensions<'a>, Fault>
 /// The first rule that the values of a list break.
 #[inline(always)]
 fn first_broken_value(extensions: Extensions<'_>, holder: Holder) -> Option<CertFault>
-    ensures { result ≡ values_fault holder (standings_in extensions.entry) }
+    ensures { result ≡ values_fault holder (all_located_in extensions.entry) }
 {
     for extension in extensions.iter() {
         if let Some(fault) = extension.first_fault(holder) {

@@ -6,7 +6,7 @@ ghost use Rattle.ts_der.specs.View.{now};
 ghost use Rattle.ts_shape.specs.Fault.{about};
 ghost use Rattle.ts_shape.specs.Shape.{plain};
 ghost use Rattle.ts_ext.specs.Inner.{inner_fault};
-ghost use Rattle.ts_ext.specs.Spelling.{IsInvalidityDate};
+ghost use Rattle.ts_ext.specs.Encoding.{IsInvalidityDate};
 ghost use Rattle.ts_ext.specs.Table.{invalidity_date_rules};
 ghost use Rattle.ts_ext.specs.Reading.{invalidity_date_of};
 

@@ -8,7 +8,7 @@ ghost use Rattle.ts_shape.specs.Fault.{about};
 ghost use Rattle.ts_shape.specs.Shape.{plain};
 ghost use Rattle.ts_ext.specs.Inner.{inner_fault};
 ghost use Rattle.ts_ext.specs.NamedBits.{bit};
-ghost use Rattle.ts_ext.specs.Spelling.{IsKeyUsage};
+ghost use Rattle.ts_ext.specs.Encoding.{IsKeyUsage};
 ghost use Rattle.ts_ext.specs.Table.{key_usage_rules};
 ghost use Rattle.ts_ext.specs.Reading.{key_usage_of};
 

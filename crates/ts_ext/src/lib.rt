@@ -9,6 +9,7 @@ mod basic_constraints;
 #[cfg(test)]
 mod bit_tests;
 mod certificate_policies;
+mod checked_extensions;
 mod checks;
 #[cfg(test)]
 mod constraint_tests;
@@ -23,10 +24,13 @@ mod extension;
 #[cfg(test)]
 mod extension_tests;
 mod extensions;
+mod fast;
+mod fast_extension;
+mod fast_list;
+mod fast_points;
 mod fields;
 mod invalidity_date;
 mod issuing_distribution_point;
-mod judged;
 mod key_usage;
 mod known;
 pub mod laws;
@@ -49,15 +53,12 @@ mod rules;
 mod skip_certs;
 #[cfg(test)]
 mod tests;
-mod usual;
-mod usual_extension;
-mod usual_list;
-mod usual_points;
 
 pub use alternative_names::AlternativeNames;
 pub use authority_key_identifier::AuthorityKeyIdentifier;
 pub use basic_constraints::BasicConstraints;
 pub use certificate_policies::CertificatePolicies;
+pub use checked_extensions::CheckedExtensions;
 pub use crl_number::{BaseCrlNumber, CrlNumber};
 pub use distribution_point::{DistributionPoint, PointName};
 pub use distribution_points::DistributionPoints;
@@ -65,9 +66,9 @@ pub use ext::Ext;
 pub use extended_key_usage::ExtendedKeyUsage;
 pub use extension::Extension;
 pub use extensions::Extensions;
+pub use fast_list::are_sound_extensions;
 pub use invalidity_date::InvalidityDate;
 pub use issuing_distribution_point::IssuingDistributionPoint;
-pub use judged::Judged;
 pub use key_usage::KeyUsage;
 pub use known::{Holder, Known};
 pub use name_constraints::NameConstraints;
@@ -81,4 +82,3 @@ pub use reason_flag::ReasonFlag;
 pub use reason_flags::ReasonFlags;
 pub use reason_set::ReasonSet;
 pub use skip_certs::SkipCerts;
-pub use usual_list::are_sound_extensions;

@@ -27,7 +27,7 @@ pub struct NameConstraints<'a> {
     pub excluded: Option<SequenceOf<'a, Subtree<'a>>>,
 }
 
-/// Subtrees, where an element of this tag stands next.
+/// Subtrees, where an element of this tag is next.
 #[tactic(auto, unfolding(ts_shape::specs::Fields::optional_of, ts_der::specs::Reading::optional_at))]
 fn next_subtrees<'a>(
     fields: &mut Reader<'a>,
@@ -47,7 +47,7 @@ impl<'a> NameConstraints<'a> {
     ///
     /// # Errors
     ///
-    /// The first rule that is broken, with its place: of each list, where it stands, its header, of each subtree its
+    /// The first rule that is broken, with its place: of each list, where it is, its header, of each subtree its
     /// header and the rules of `Subtree::read_element`, and `Empty`; then `Trailing`.
     pub fn read(element: Element<'a>) -> Result<NameConstraints<'a>, Fault>
         ensures found { IfOk result (λ n. AreConstraints element.entry.content.now (name_constraints_in n)) }

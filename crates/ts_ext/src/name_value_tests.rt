@@ -53,7 +53,7 @@ fn only_host<'a>(names: GeneralNames<'a>) -> &'a [u8] {
     }
 }
 
-/// The host that subtrees stand below, if there is no other; else no octets.
+/// The host that subtrees are below, if there is no other; else no octets.
 fn only_base<'a>(trees: SequenceOf<'a, Subtree<'a>>) -> &'a [u8] {
     let mut list = trees.iter();
     match (list.next(), list.next()) {
@@ -270,7 +270,7 @@ fn key_fields(octets: &[u8]) -> Result<(Option<&[u8]>, Option<&[u8]>, Option<&[u
     ))
 }
 
-/// The hosts that permitted and excluded subtrees stand below.
+/// The hosts that permitted and excluded subtrees are below.
 fn bases(octets: &[u8]) -> Result<(Option<&[u8]>, Option<&[u8]>), Fault> {
     let constraints = constraints(octets)?;
     Ok((
@@ -396,7 +396,7 @@ const REFUSED: [(Known, &[u8], Refusal); 11] = [
         b"\x04\x17\x30\x15\x30\x13\xa0\x11\xa0\x03\x86\x01\x61\xa1\x0a\x30\x08\x06\x03\x55\x04\x03\x0c\x01\x61",
         (DerFault::Trailing, 13),
     ),
-    // Reasons whose last bit is 0, and reasons behind the issuer.
+    // Reasons whose last bit is 0, and reasons after the issuer.
     (
         Known::CrlDistributionPoints,
         b"\x04\x08\x30\x06\x30\x04\x81\x02\x05\x40",

@@ -25,7 +25,7 @@ pub struct PolicyConstraints {
 
 impl PolicyConstraints {
     ghost use Rattle.ts_ext.specs.declared.policy_constraints.PolicyConstraints.{PolicyConstraints};
-    ghost use Rattle.ts_ext.specs.Spelling.{IsPolicyConstraints};
+    ghost use Rattle.ts_ext.specs.Encoding.{IsPolicyConstraints};
     ghost use Rattle.ts_ext.specs.Table.{policy_constraints_fields};
     ghost use Rattle.ts_ext.specs.Reading.{policy_constraints_of};
 
@@ -33,7 +33,7 @@ impl PolicyConstraints {
     ///
     /// # Errors
     ///
-    /// The first rule that is broken, with its place: of [0] and then of [1], where each stands, its header,
+    /// The first rule that is broken, with its place: of [0] and then of [1], where each is, its header,
     /// `IntegerForm` and, above 4,294,967,295, `TooLarge`; then `Trailing`.
     pub fn read(element: Element<'_>) -> Result<PolicyConstraints, Fault>
         ensures found { IfOk result (IsPolicyConstraints element.entry.content.now) }

@@ -7,7 +7,7 @@ ghost use Rattle.ts_shape.specs.Fault.{about};
 ghost use Rattle.ts_shape.specs.Items.{items_at};
 ghost use Rattle.ts_ext.specs.Inner.{inner_fault};
 ghost use Rattle.ts_ext.specs.Policies.{Mapping};
-ghost use Rattle.ts_ext.specs.Spelling.{ArePolicyMappings};
+ghost use Rattle.ts_ext.specs.Encoding.{ArePolicyMappings};
 ghost use Rattle.ts_ext.specs.Table.{policy_mappings, list_rules};
 ghost use Rattle.ts_ext.specs.Reading.{policy_mapping_in, policy_mappings_of};
 ghost use Rattle.ts_ext.specs.View.{mappings_in};

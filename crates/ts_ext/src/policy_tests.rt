@@ -118,7 +118,7 @@ const REFUSED: [(Known, &[u8], Refusal); 12] = [
         b"\x04\x06\x30\x04\x30\x02\x06\x00",
         (DerFault::OidForm, 6),
     ),
-    // No qualifier; something else behind the policy; a qualifier without its value.
+    // No qualifier; something else after the policy; a qualifier without its value.
     (
         Known::CertificatePolicies,
         b"\x04\x0a\x30\x08\x30\x06\x06\x02\x2a\x03\x30\x00",

@@ -26,7 +26,7 @@ pub enum ReasonCode {
 
 impl ReasonCode {
     ghost use Rattle.ts_ext.specs.declared.reason_code.ReasonCode.{ReasonCode};
-    ghost use Rattle.ts_ext.specs.Spelling.{IsReasonCode, reason_number};
+    ghost use Rattle.ts_ext.specs.Encoding.{IsReasonCode, reason_number};
     ghost use Rattle.ts_ext.specs.Table.{reason_code_rules, reason_of_number};
     ghost use Rattle.ts_ext.specs.Reading.{reason_code_of};
 

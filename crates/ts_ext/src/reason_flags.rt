@@ -9,7 +9,7 @@ ghost use Rattle.ts_shape.specs.Shape.{plain};
 ghost use Rattle.ts_ext.specs.Inner.{inner_fault};
 ghost use Rattle.ts_ext.specs.declared.reason_flag.ReasonFlag.{ReasonFlag};
 ghost use Rattle.ts_ext.specs.NamedBits.{bit, flag_number, holds};
-ghost use Rattle.ts_ext.specs.Spelling.{AreReasonFlags};
+ghost use Rattle.ts_ext.specs.Encoding.{AreReasonFlags};
 ghost use Rattle.ts_ext.specs.Table.{reason_flags_rules};
 ghost use Rattle.ts_ext.specs.Reading.{reason_flags_of};
 

@@ -35,7 +35,7 @@ fn have_address_length(names: GeneralNames<'_>) -> bool
     true
 }
 
-/// The same of names that may be absent.
+/// The same for names that may be absent.
 fn have_address_length_if_any(names: Option<GeneralNames<'_>>) -> bool
     ensures { result ≡ all_of has_address_length (option_map names_in names.entry) }
 {
@@ -45,7 +45,7 @@ fn have_address_length_if_any(names: Option<GeneralNames<'_>>) -> bool
     }
 }
 
-/// The same of the name of a distribution point.
+/// The same for the name of a distribution point.
 fn point_has_address_length(name: Option<PointName<'_>>) -> bool
     ensures { result ≡ has_point_addresses (option_map point_name_in name.entry) }
 {
@@ -55,7 +55,7 @@ fn point_has_address_length(name: Option<PointName<'_>>) -> bool
     }
 }
 
-/// The same of the names of distribution points.
+/// The same for the names of distribution points.
 fn points_have_address_length(points: DistributionPoints<'_>) -> bool
     ensures { result ≡ list_all has_addresses (points_in points.entry) }
 {

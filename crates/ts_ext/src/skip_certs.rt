@@ -6,7 +6,7 @@ ghost use Rattle.ts_der.specs.View.{now};
 ghost use Rattle.ts_shape.specs.Fault.{about};
 ghost use Rattle.ts_shape.specs.Shape.{plain};
 ghost use Rattle.ts_ext.specs.Inner.{inner_fault};
-ghost use Rattle.ts_ext.specs.Spelling.{IsSkipCerts};
+ghost use Rattle.ts_ext.specs.Encoding.{IsSkipCerts};
 ghost use Rattle.ts_ext.specs.Table.{skip_certs_rules};
 ghost use Rattle.ts_ext.specs.Reading.{skip_certs_of};
 

@@ -1,5 +1,5 @@
 //! Values by hand, worked out from X.690 and RFC 5280. Each lies in an OCTET STRING, as in an extension, so that it
-//! stands at 2.
+//! is at 2.
 
 use super::*;
 use ts_der::{DerFault, Element, Fault, Reader};

@@ -27,7 +27,7 @@ unsynced octets = record { read = octets; may_leave = λ c. Unit {0}; moment = 0
 abbrev pub torn_images : (List ℕ → Type 0) → ℕ → List ℕ → List ℕ → Type 0
 torn_images may_leave at octets c = (d : List ℕ) × may_leave d × Torn at (length octets) d c
 
--- The disk after these events, the last of which stands first. A write tears its range until a sync, also one that failed;
+-- The disk after these events, the last of which is first. A write tears its range until a sync, also one that failed;
 -- only one that did not fail is read.
 abbrev pub disk_after : List Event → State
 disk_after [] = unsynced []

@@ -52,7 +52,7 @@ one_header h k image l m = same_header h k
 live_earlier : (k : Header) (generation : ℕ) (image : List ℕ) → IsLive k image → k.generation < generation → IsEarlier generation image
 live_earlier k generation image l less = (k, l.live, l.rest, l.right, l.wide, less, l.is)
 
--- an image behind that is live is of an earlier generation
+-- an image after that is live is of an earlier generation
 pub behind_live : (k : Header) (generation : ℕ) (image : List ℕ) → IsLive k image → Behind generation image → k.generation < generation
 behind_live k generation image l (inl shut) = absurd (live_not_shut k image l shut)
 behind_live k generation image l (inr e) =
@@ -92,7 +92,7 @@ same_generation a b x y l m same = record {
   second = λ h live behind. let n = behind_live (header_of_owner x) h.generation a l behind in absurd (omega (arith, n, same, ap (λ (z : Header). z.generation) (one_header h (header_of_owner y) b live m)));
 }
 
--- neither is live or behind
+-- neither is live or after
 no_first : (a b : List ℕ) → ((h : Header) → IsLive h a → ⊥) → ((n : ℕ) → Behind n a → ⊥) → Unchosen a b
 no_first a b live behind = record { first = λ h l other. live h l; second = λ h l other. behind h.generation other }
 

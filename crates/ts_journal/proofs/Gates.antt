@@ -5,7 +5,7 @@ use Rattle.std.proofs.lemmas.Bool.{cases_eq}
 use Rattle.ts_disk.specs.Disk.{Torn, written}
 use Rattle.ts_journal.specs.Gate.{Closed, Opened}
 
--- where a closed gate stands behind the first octets, there is one octet more than these
+-- where a closed gate follows the first octets, there is one octet more than these
 pub within : (end : ℕ) (image : List ℕ) → Closed (take end image) image → end < length image
 within end image closed = omega (arith, ap length closed.1, length-append (take end image) (0 ∷ closed.0), length-take end image)
 
@@ -22,7 +22,7 @@ module _ (front rest image : List ℕ) (end : ℕ) (is : image ≡ front ++ 0 �
   start : take (end + 1) image ≡ front ++ 0 ∷ []
   start = ap (take (end + 1)) regrouped ∙ take_at (front ++ 0 ∷ []) rest (end + 1) one_more
 
-  -- the gate stays closed while something is written behind it
+  -- the gate stays closed while something is written after it
   pub torn_behind : (n : ℕ) (c : List ℕ) → Torn (end + 1) n image c → Closed front c
   torn_behind n c torn = (drop (end + 1) c, sym (take-append-drop (end + 1) c) ∙ ap (λ (l : List ℕ). l ++ drop (end + 1) c) (torn.before ∙ start) ∙ append_assoc front (0 ∷ []) (drop (end + 1) c))
 
@@ -53,7 +53,7 @@ module _ (front more image : List ℕ) (end gate : ℕ) (is : image ≡ front ++
   pub written_gate : (next : ℕ) → written image end (next ∷ []) ≡ front ++ (next ∷ more)
   written_gate next = append_assoc (take end image) (next ∷ []) (drop (end + 1) image) ∙ ap (λ (l : List ℕ). l ++ (next ∷ drop (end + 1) image)) before_gate ∙ ap (λ (l : List ℕ). front ++ (next ∷ l)) behind_gate
 
--- a gate is closed, or it is open and the text stands behind it
+-- a gate is closed, or it is open and the text follows it
 pub either : (front text rest c : List ℕ) (gate : ℕ) → c ≡ front ++ (gate ∷ text ++ rest) → Closed front c ⊎ Opened front text c
 either front text rest c gate is = elim (cases_eq gate 0) [
   | inl shut ↦ inl (text ++ rest, is ∙ ap (λ g. front ++ (g ∷ text ++ rest)) shut)

@@ -1,4 +1,4 @@
--- What stands on a disk while bodies are appended to it.
+-- What is on a disk while bodies are appended to it.
 use Rattle.std.proofs.Common.{◌≡◌, ℕ, ◌+◌, ◌<◌, List, [], ◌∷◌, ◌++◌, length, take, sym, ◌∙◌, ap, subst, arith, append_assoc, length-append}
 use Rattle.std.proofs.lemmas.List.{take_at, append-nil, map-append}
 use Rattle.std.proofs.lemmas.Grind.{flat_map-append}
@@ -28,7 +28,7 @@ stands_before h live bodies end disk c j closed = record {
 pub is_closed : (h : Header) (live : ℕ) (bodies : List (List ℕ)) (end : ℕ) (disk : State) → IsJournal h live bodies end disk → Closed (take end disk.read) disk.read
 is_closed h live bodies end disk j = subst (λ f. Closed f disk.read) (sym (at_front h live bodies end disk j)) j.stands.closed
 
--- front, and a block behind it
+-- front, and a block after it
 front_push : (h : Header) (live : ℕ) (blocks : List Block) (b : Block) → front h live (blocks ++ b ∷ []) ≡ front h live blocks ++ block b
 front_push h live blocks b =
     ap (λ l. head h ++ (live ∷ l)) (flat_map-append block blocks (b ∷ []) ∙ ap (λ l. flat_map block blocks ++ l) (append-nil (block b)))
@@ -70,7 +70,7 @@ journal_next h live bodies body end size octets old new j fits are sized durable
     let after = journal_after h live bodies body end old new j fits durable (subst (λ t. Opened (take end old.read) t new.read) are opened) in
     subst (λ n. IsJournal h live (bodies ++ body ∷ []) n new) (ap (λ n. end + n) (sym (sized ∙ ap length are))) after
 
--- the octets fit behind the gate
+-- the octets fit after the gate
 pub opened_size : (end : ℕ) (octets old new : List ℕ) → Closed (take end old) old → Opened (take end old) octets new → end + length octets < length new
 opened_size end octets old new closed opened =
     omega (arith, front_length end old closed, ap length opened.3, length-append (take end old) (opened.0 ∷ octets ++ opened.1), length-append octets opened.1)

@@ -26,7 +26,7 @@ torn_head image c is torn =
     let split : drop 24 c ≡ 0 ∷ rest = torn.after ∙ ap (drop 24) is.2.1 ∙ drop_at is.0 (0 ∷ rest) 24 is.1 in
     (take 24 c, omega (arith, length-take 24 c, torn.no_shorter, ap length is.2.1, length-append is.0 (0 ∷ rest), is.1), (rest, sym (take-append-drop 24 c) ∙ ap (λ l. take 24 c ++ l) split))
 
--- what stands behind it is torn
+-- what follows it is torn
 pub torn_rest : (image c : List ℕ) → IsShut image → Torn 25 1 image c → IsShut c
 torn_rest image c is torn = (is.0, is.1, torn_behind is.0 is.2.0 image 24 is.2.1 is.1 1 c torn)
 

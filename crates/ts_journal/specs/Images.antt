@@ -27,7 +27,7 @@ pub record IsBody (body : List ℕ) : Type 0 where
   pub some : 1 ≤ length body
   pub short : length body ≤ 4194500
 
--- a gate, and the body behind it
+-- a gate, and the body after it
 pub record Block : Type 0 where
   pub gate : ℕ
   pub body : List ℕ
@@ -45,7 +45,7 @@ pub record IsWhole (b : Block) : Type 0 where
 abbrev pub front : Header → ℕ → List Block → List ℕ
 front h live blocks = head h ++ (live ∷ flat_map block blocks)
 
--- Whole blocks of these bodies stand behind the live gate, and then a closed gate. What follows it has no meaning.
+-- Whole blocks of these bodies follow the live gate, and then a closed gate. What follows it has no meaning.
 pub record Stands (h : Header) (live : ℕ) (bodies : List (List ℕ)) (image : List ℕ) : Type 0 where
   pub blocks : List Block
   pub whole : AllByRecursion IsWhole blocks

@@ -26,7 +26,7 @@ IsSpare Copying h copied end disk = IsJournal (next h) 0 copied end disk × (h.g
 abbrev pub header_of : {D : Type 0} → Journal D → Header
 header_of j = record { node = j.node; nodes = j.nodes; generation = j.generation }
 
--- These bodies stand on the disk in use, and the other disk is as its stage says.
+-- These bodies are on the disk in use, and the other disk is as its stage says.
 pub record Holds {D : Type 0} (state : D → State) (bodies copied : List (List ℕ)) (j : Journal D) : Type 0 where
   pub right : IsRight (header_of j)
   pub live : ℕ

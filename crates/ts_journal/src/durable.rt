@@ -6,8 +6,8 @@ ghost use Rattle.ts_journal.specs.Gate.{Closed, Opened};
 
 use ts_disk::{Disk, DiskFault, put};
 
-// Writes text behind the closed gate at end, which it then opens. At every moment the gate is closed, or it is
-// open and the whole text stands behind it.
+// Writes text after the closed gate at end, which it then opens. At every moment the gate is closed, or it is
+// open and the whole text follows it.
 pub(crate) fn extend<D: Disk>(disk: &mut D, end: usize, text: &[u8]) -> Result<(), DiskFault>
     requires durable { IsDurable (D.state disk.old) }
     requires closed { Closed (take end (D.state disk.old).read) (D.state disk.old).read }

@@ -41,7 +41,7 @@ fn write_head<D: Disk>(
 }
 
 /// Writes an empty journal of a node on two disks, and syncs both. The first is live, of generation 1; the
-/// second is shut, of generation 0. What the disks held behind is without meaning from then on.
+/// second is shut, of generation 0. What the disks held after is without meaning from then on.
 pub fn format<D: Disk>(a: &mut D, b: &mut D, node: u8, nodes: u8) -> Result<(), DiskFault>
     requires node_from { 1 ≤ node }
     requires node_to { node ≤ nodes }

@@ -20,7 +20,7 @@ pub enum Stage {
     Copying,
 }
 
-/// A journal on two disks. `end` and `copy_end` are the offsets of the closed gates behind the last bodies.
+/// A journal on two disks. `end` and `copy_end` are the offsets of the closed gates after the last bodies.
 #[derive(Drop)]
 pub struct Journal<D: Disk> {
     pub current: D,

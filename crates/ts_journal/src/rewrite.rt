@@ -28,7 +28,7 @@ pub(crate) fn shut<D: Disk>(disk: &mut D, is_live: bool, generation: u64) -> Res
     }
 }
 
-// Writes the octets before the live gate of a shut disk, and a closed gate behind it.
+// Writes the octets before the live gate of a shut disk, and a closed gate after it.
 pub(crate) fn begin<D: Disk>(disk: &mut D, octets: &[u8]) -> Result<(), DiskFault>
     requires durable { IsDurable (D.state disk.old) }
     requires shut { IsShut (D.state disk.old).read }

@@ -14,12 +14,12 @@ use Rattle.ts_shape.specs.Fault.{breaks}
 use Rattle.ts_cert.specs.Certificate.{Certificate, all_extensions}
 use Rattle.ts_cert.specs.Reading.{unless_broken, certificate_of}
 use Rattle.ts_cert.specs.declared.version.Version.TheVariants.{V3}
-use Rattle.ts_cert.specs.Rules.{LateFields, extensions_fault}
+use Rattle.ts_cert.specs.Rules.{OptionalFields, extensions_fault}
 use Rattle.ts_cert.proofs.FieldRules.{Has, KeepsRules, rules-again}
 use Rattle.ts_shape.specs.Repeats.{first_repeated}
 use Rattle.ts_ext.specs.declared.known.Holder.TheVariants.{Certificate as CertificateHolder}
 use Rattle.ts_ext.specs.Extension.{Extension}
-use Rattle.ts_ext.specs.ValueRules.{AreSound}
+use Rattle.ts_ext.specs.ValueRules.{AreValid}
 use Rattle.ts_make.specs.Extensions.{described_extensions, field_of}
 use Rattle.ts_make.proofs.SignedRead.{signed-read}
 use Rattle.ts_make.specs.declared.description.CertText.{CertText}
@@ -33,7 +33,7 @@ use Rattle.ts_make.specs.Making.{AnswersMade, AreAllowed, IsRefusal}
 use Rattle.ts_make.proofs.OneTime.{in_years_or_not}
 use Rattle.ts_make.proofs.SerialNumbers.{serial-is}
 use Rattle.ts_make.proofs.Said.{tbs_said, said, time-said}
-use Rattle.ts_make.proofs.Spelled.{fields-short, parts-short, signed-is}
+use Rattle.ts_make.proofs.Encoded.{fields-short, parts-short, signed-is}
 use Rattle.ts_make.proofs.Refused.{IsOutside, certificate-refused}
 
 -- both moments lie in the years 0 to 9999, or one does not
@@ -53,7 +53,7 @@ pub record IsRead (b a : List ℕ) (text : CertText) : Type 0 where
   pub after : Time
   pub not_before : Says before text.from
   pub not_after : Says after text.to
-  pub late : LateFields
+  pub late : OptionalFields
   pub has : Has (tbs_said before after text) late
   pub read : certificate_of (made b a text) ≡ unless_broken (extensions_fault V3 late) (said b a before after text)
 
@@ -94,7 +94,7 @@ no-fault b a text is allowed =
     let xs = described_extensions text.extensions.now in
     let same : all_extensions (tbs_said is.before is.after text) ≡ xs = list-of xs in
     let rules : KeepsRules (tbs_said is.before is.after text) =
-    (tt, ap (λ (l : List Extension). first_repeated (λ x. x.extnID) [] l) same ∙ allowed.distinct, subst (AreSound CertificateHolder) (sym same) allowed.sound) in
+    (tt, ap (λ (l : List Extension). first_repeated (λ x. x.extnID) [] l) same ∙ allowed.distinct, subst (AreValid CertificateHolder) (sym same) allowed.sound) in
     rules-again (tbs_said is.before is.after text) is.late is.has rules
 
 ok_not_err : {A : Type 0} (r : Result A CertFault) (f : CertFault) → r ≡ Err f → is_ok r ≡ true → ⊥

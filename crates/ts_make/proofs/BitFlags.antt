@@ -3,7 +3,7 @@ use Rattle.std.proofs.Common.{◌≡◌, ℕ, ◌+◌, ◌*◌, ◌/◌, ◌<◌
 use Rattle.std.specs.Prelude.{map}
 use Rattle.std.specs.List.{flat_map, range_with_len}
 use Rattle.std.proofs.lemmas.List.FromFn.{length-map-range_with_len, get_or-map-range_with_len}
-use Rattle.ts_der.specs.Element.{spell}
+use Rattle.ts_der.specs.Element.{encode}
 use Rattle.ts_make.specs.Extensions.{extension_octets, extension, id_ce, key_usage}
 use Rattle.ts_make.specs.KeyUsage.{is_set, last_set, weight, octet_from, usage_content}
 use Rattle.ts_make.proofs.StandIns.{content-short}
@@ -29,9 +29,9 @@ usage-length numbers =
     omega arith
 
 -- nor is the BIT STRING longer than the extension
-pub usage-value : (old numbers : List ℕ) → 0 < length numbers → length (spell 0x03 (usage_content numbers)) ≤ length (old ++ flat_map extension_octets (key_usage numbers))
+pub usage-value : (old numbers : List ℕ) → 0 < length numbers → length (encode 0x03 (usage_content numbers)) ≤ length (old ++ flat_map extension_octets (key_usage numbers))
 usage-value old [] some = absurd (omega arith)
-usage-value old (n ∷ numbers) some = value-within old (extension (id_ce 15) true (spell 0x03 (usage_content (n ∷ numbers))))
+usage-value old (n ∷ numbers) some = value-within old (extension (id_ce 15) true (encode 0x03 (usage_content (n ∷ numbers))))
 
 -- nor is its content
 pub usage-within : (old numbers : List ℕ) → 0 < length numbers → length (usage_content numbers) ≤ length (old ++ flat_map extension_octets (key_usage numbers))

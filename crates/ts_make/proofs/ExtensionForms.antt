@@ -1,12 +1,12 @@
--- The extensions of a description are spelled so, whatever their values say.
+-- The extensions of a description are encoded so, whatever their values say.
 use Rattle.std.proofs.Common.{◌≡◌, ℕ, ◌≤◌, Bool, true, false, List, [], ◌∷◌, ◌++◌, length, refl, arith, length-append}
 use Rattle.std.specs.List.{flat_map, AllByRecursion}
-use Rattle.ts_der.specs.Element.{spell}
+use Rattle.ts_der.specs.Element.{encode}
 use Rattle.ts_der.specs.ObjectIdentifier.{is_oid, series_of, subidentifier}
 use Rattle.ts_shape.specs.Fields.{Within, IfAny}
 use Rattle.ts_shape.specs.Items.{AreItems}
 use Rattle.ts_ext.specs.Extension.{Extension, IsExtension, AreExplicit}
-use Rattle.ts_ext.specs.Spelling.{IfTrue}
+use Rattle.ts_ext.specs.Encoding.{IfTrue}
 use Rattle.ts_make.specs.declared.description.ExtensionText.{ExtensionText}
 use Rattle.ts_make.specs.declared.description.ExtensionText.TheVariants as part
 use Rattle.ts_make.specs.declared.kind.Kind.{Kind}
@@ -63,7 +63,7 @@ pub described-known : (texts : List ExtensionText) → AreKnown (described_exten
 unfolding described_extensions
 described-known texts = known-pieces (λ k. of_kind k texts) kinds (kind-known texts)
 
--- ---- spelling
+-- ---- encoding
 
 critical-is : (b : Bool) → IfTrue 0x01 (critical_octets b) b
 critical-is true = refl
@@ -72,9 +72,9 @@ critical-is false = refl
 extension-is : (x : Extension) → is_oid x.extnID ≡ true → length (extension_octets x) ≤ 4194304 → Within 0x30 IsExtension (extension_octets x) x
 unfolding extension_content
 extension-is x known le =
-    let id = spell 0x06 x.extnID in
+    let id = encode 0x06 x.extnID in
     let flag = critical_octets x.critical in
-    let value = spell 0x04 x.extnValue in
+    let value = encode 0x04 x.extnValue in
     let content = id ++ (flag ++ value) in
     let whole = content-short 0x30 content in
     let first = length-append id (flag ++ value) in
@@ -84,14 +84,14 @@ extension-is x known le =
     record {
       content = content;
       fits = fits-sequence content (omega arith);
-      spelled = refl;
+      encoded = refl;
       value = record {
         id = id;
         flag = flag;
         value = value;
-        extnID = record { content = x.extnID; fits = record { octet = omega arith; low = omega arith; short = omega arith }; spelled = refl; value = (refl, known) };
+        extnID = record { content = x.extnID; fits = record { octet = omega arith; low = omega arith; short = omega arith }; encoded = refl; value = (refl, known) };
         critical = critical-is x.critical;
-        extnValue = record { content = x.extnValue; fits = record { octet = omega arith; low = omega arith; short = omega arith }; spelled = refl; value = refl };
+        extnValue = record { content = x.extnValue; fits = record { octet = omega arith; low = omega arith; short = omega arith }; encoded = refl; value = refl };
         fields = refl;
       };
     }
@@ -108,17 +108,17 @@ unfolding field_octets
 field-is [] known le = refl
 field-is (x ∷ xs) known le =
     let items = flat_map extension_octets (x ∷ xs) in
-    let list = spell 0x30 items in
+    let list = encode 0x30 items in
     let whole = content-short 0xA3 list in
     let inner = content-short 0x30 items in
     record {
       content = list;
       fits = record { octet = omega arith; low = omega arith; short = omega arith };
-      spelled = refl;
+      encoded = refl;
       value = record {
         content = items;
         fits = fits-sequence items (omega arith);
-        spelled = refl;
+        encoded = refl;
         value = (λ none. absurd (cc), items-are (x ∷ xs) known (omega arith));
       };
     }

@@ -6,7 +6,7 @@ use Rattle.ts_cert.specs.declared.version.Version.TheVariants.{V3}
 use Rattle.ts_cert.specs.declared.time.TimeForm.TheVariants.{Utc, General}
 use Rattle.ts_cert.specs.declared.time.Time.{Time}
 use Rattle.ts_cert.specs.Certificate.{Tbs, Certificate}
-use Rattle.ts_cert.specs.Spelling.{IsTime}
+use Rattle.ts_cert.specs.Encoding.{IsTime}
 use Rattle.ts_make.specs.declared.description.CertText.{CertText}
 use Rattle.ts_make.specs.Serial.{serial_content}
 use Rattle.ts_make.specs.Description.{rdns_in, stand_in, Says}
@@ -54,7 +54,7 @@ time-said octets moment is years le =
           let short : length t.0 ≤ length octets = rw t.2 (content-short 0x17 t.0) in
           record {
             time = record { form = Utc; moment = moment };
-            is = record { content = t.0; fits = record { octet = omega arith; low = omega arith; short = omega arith }; spelled = t.2; value = t.1 };
+            is = record { content = t.0; fits = record { octet = omega arith; low = omega arith; short = omega arith }; encoded = t.2; value = t.1 };
             says = record { at = refl; utc = λ _. refl; general = λ no. absurd (no utc) };
           }
       | inr not_utc ↦
@@ -62,7 +62,7 @@ time-said octets moment is years le =
           let short : length t.0 ≤ length octets = rw t.2 (content-short 0x18 t.0) in
           record {
             time = record { form = General; moment = moment };
-            is = record { content = t.0; fits = record { octet = omega arith; low = omega arith; short = omega arith }; spelled = t.2; value = t.1 };
+            is = record { content = t.0; fits = record { octet = omega arith; low = omega arith; short = omega arith }; encoded = t.2; value = t.1 };
             says = record { at = refl; utc = λ yes. absurd (not_utc yes); general = λ _. refl };
           }
     ]

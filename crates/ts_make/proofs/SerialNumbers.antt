@@ -1,11 +1,11 @@
 -- A serial number is written in as few octets as can be, and is that number.
 use Rattle.std.proofs.Common.{◌≡◌, ℕ, ◌/◌, ◌%◌, ◌^◌, ◌<◌, ◌≤◌, true, false, inl, inr, List, [], ◌∷◌, length, refl, ap, arith, pos}
 use Rattle.std.proofs.lemmas.Bool.{cases_lt, cases_eq, lt-ltb, le-ltb, ne_eqb}
-use Rattle.ts_der.specs.Element.{number, spell}
+use Rattle.ts_der.specs.Element.{number, encode}
 use Rattle.ts_der.specs.Integer.{is_shortest, is_negative, twos_complement}
 use Rattle.ts_der.specs.Integer as integers
 use Rattle.ts_shape.specs.Fields.{Within, IsInteger}
-use Rattle.ts_ext.specs.Spelling.{IsSmall}
+use Rattle.ts_ext.specs.Encoding.{IsSmall}
 use Rattle.ts_make.specs.Serial.{serial_content}
 use Rattle.ts_make.proofs.StandIns.{content-short}
 
@@ -47,15 +47,15 @@ serial-is n high =
       ]
     ]
 
--- it is spelled so
-pub serial-spelled : (n : ℕ) → n < 2 ^ 32 → length (spell 0x02 (serial_content n)) ≤ 4194304 → Within 0x02 IsInteger (spell 0x02 (serial_content n)) (serial_content n)
-serial-spelled n high le =
+-- it is encoded so
+pub serial-encoded : (n : ℕ) → n < 2 ^ 32 → length (encode 0x02 (serial_content n)) ≤ 4194304 → Within 0x02 IsInteger (encode 0x02 (serial_content n)) (serial_content n)
+serial-encoded n high le =
     let short = content-short 0x02 (serial_content n) in
     let is = serial-is n high in
     record {
       content = serial_content n;
       fits = record { octet = omega arith; low = omega arith; short = omega arith };
-      spelled = refl;
+      encoded = refl;
       value = (refl, is.shortest);
     }
 

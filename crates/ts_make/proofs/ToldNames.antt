@@ -2,7 +2,7 @@
 use Rattle.std.proofs.Common.{◌≡◌, ◌≢◌, ℕ, ◌≤◌, ◌<◌, ◌%◌, List, [], ◌∷◌, ◌++◌, length, Some, None, refl, sym, arith, length-append}
 use Rattle.std.proofs.lemmas.List.{append-nil}
 use Rattle.std.specs.List.{flat_map}
-use Rattle.ts_der.specs.Element.{spell}
+use Rattle.ts_der.specs.Element.{encode}
 use Rattle.ts_shape.specs.Fields.{Within, IfAny}
 use Rattle.ts_shape.specs.Items.{AreItems}
 use Rattle.ts_name.specs.General.{IsGeneralName, uniformResourceIdentifier}
@@ -20,33 +20,33 @@ use Rattle.ts_make.specs.Items.{item, items_of, general_name, general_subtree, d
 use Rattle.ts_make.specs.Extensions.{tagged_if_any, constraints_content}
 use Rattle.ts_make.specs.Told.{name_said, IsAsciiName, IsAsciiPart, AreAscii, alternative_name, subtree_said, permitted, excluded, if_any, point}
 use Rattle.ts_make.proofs.StandIns.{content-short, fits-sequence}
-use Rattle.ts_make.proofs.ToldLists.{told-items, one-item}
+use Rattle.ts_make.proofs.ToldCrls.{told-items, one-item}
 
 -- ---- names
 
 name-is : (name : NameText) → IsAsciiName name → length (general_name name) ≤ 4194304 → IsGeneralName (general_name name) (name_said name)
 name-is (Dns text) ascii le =
     let short = content-short 0x82 text.now in
-    record { tag = 0x82; content = text.now; fits = record { octet = omega arith; low = omega arith; short = omega arith }; spelled = refl; form = (refl, (refl, ascii)) }
+    record { tag = 0x82; content = text.now; fits = record { octet = omega arith; low = omega arith; short = omega arith }; encoded = refl; form = (refl, (refl, ascii)) }
 name-is (Ip octets) ascii le =
     let short = content-short 0x87 octets.now in
-    record { tag = 0x87; content = octets.now; fits = record { octet = omega arith; low = omega arith; short = omega arith }; spelled = refl; form = (refl, refl) }
+    record { tag = 0x87; content = octets.now; fits = record { octet = omega arith; low = omega arith; short = omega arith }; encoded = refl; form = (refl, refl) }
 name-is (Mail text) ascii le =
     let short = content-short 0x81 text.now in
-    record { tag = 0x81; content = text.now; fits = record { octet = omega arith; low = omega arith; short = omega arith }; spelled = refl; form = (refl, (refl, ascii)) }
+    record { tag = 0x81; content = text.now; fits = record { octet = omega arith; low = omega arith; short = omega arith }; encoded = refl; form = (refl, (refl, ascii)) }
 
 alternative-part : (t : ExtensionText) → IsAsciiPart t → length (item items.AlternativeNames t) ≤ 4194304 → AreItems IsGeneralName (item items.AlternativeNames t) (alternative_name t)
 alternative-part (part.SubjectAltName name) ascii le = one-item IsGeneralName (general_name name) (name_said name) (name-is name ascii le)
 alternative-part other ascii le = refl
 
 pub names-told : (texts : List ExtensionText) → AreAscii texts → flat_map alternative_name texts ≢ [] → length (items_of items.AlternativeNames texts) ≤ 4194304
-    → IsExt (Some extension.SubjectAltName) (spell 0x30 (items_of items.AlternativeNames texts)) (subjectAltName (flat_map alternative_name texts))
+    → IsExt (Some extension.SubjectAltName) (encode 0x30 (items_of items.AlternativeNames texts)) (subjectAltName (flat_map alternative_name texts))
 names-told texts ascii some le =
     let content = items_of items.AlternativeNames texts in
     record {
       content = content;
       fits = fits-sequence content le;
-      spelled = refl;
+      encoded = refl;
       value = (flat_map alternative_name texts, refl, (some, told-items IsGeneralName (item items.AlternativeNames) alternative_name IsAsciiPart alternative-part texts ascii le));
     }
 
@@ -59,13 +59,13 @@ subtree-is name ascii le =
     record {
       content = base;
       fits = fits-sequence base (omega arith);
-      spelled = refl;
+      encoded = refl;
       value = record {
         named = base;
         least = [];
         most = [];
         base = name-is name ascii (omega arith);
-        minimum = record { encoded = None; spelled = refl; value = refl };
+        minimum = record { minimum_octets = None; encoded = refl; value = refl };
         maximum = refl;
         fields = sym (append-nil base);
       };
@@ -87,18 +87,18 @@ field-is tag (o ∷ octets) [] octet low are le = absurd (cc)
 field-is tag [] (x ∷ xs) octet low are le = absurd (none are.0 are.1 are.2 are.3)
   where
     none : (w rest : List ℕ) → Within 0x30 IsSubtree w x → [] ≡ w ++ rest → ⊥
-    none [] rest is e = let s = is.spelled in cc
+    none [] rest is e = let s = is.encoded in cc
     none (o ∷ w) rest is e = cc
 field-is tag (o ∷ octets) (x ∷ xs) octet low are le =
     let short = content-short tag (o ∷ octets) in
-    record { content = o ∷ octets; fits = record { octet = octet; low = low; short = omega arith }; spelled = refl; value = (λ none. absurd (cc), are) }
+    record { content = o ∷ octets; fits = record { octet = octet; low = low; short = omega arith }; encoded = refl; value = (λ none. absurd (cc), are) }
 
 items-short : (tag : ℕ) (octets : List ℕ) → length octets ≤ length (tagged_if_any tag octets)
 items-short tag [] = omega arith
 items-short tag (o ∷ octets) = content-short tag (o ∷ octets)
 
 pub constraints-told : (texts : List ExtensionText) → AreAscii texts → length (constraints_content texts) ≤ 4194304
-    → IsExt (Some extension.NameConstraints) (spell 0x30 (constraints_content texts))
+    → IsExt (Some extension.NameConstraints) (encode 0x30 (constraints_content texts))
     (nameConstraints (record { permittedSubtrees = if_any (flat_map permitted texts); excludedSubtrees = if_any (flat_map excluded texts) }))
 unfolding constraints_content
 constraints-told texts ascii le =
@@ -114,7 +114,7 @@ constraints-told texts ascii le =
     record {
       content = first ++ second;
       fits = fits-sequence (first ++ second) le;
-      spelled = refl;
+      encoded = refl;
       value = (
         record { permittedSubtrees = if_any (flat_map permitted texts); excludedSubtrees = if_any (flat_map excluded texts) },
         refl,
@@ -132,9 +132,9 @@ constraints-told texts ascii le =
 
 point-part : (t : ExtensionText) → IsAsciiPart t → length (item items.DistributionPoints t) ≤ 4194304 → AreItems (Within 0x30 IsPoint) (item items.DistributionPoints t) (point t)
 point-part (part.DistributionPoint uri) ascii le =
-    let name = spell 0x86 uri.now in
-    let full = spell 0xA0 name in
-    let wrapped = spell 0xA0 full in
+    let name = encode 0x86 uri.now in
+    let full = encode 0xA0 name in
+    let wrapped = encode 0xA0 full in
     let s1 = content-short 0x30 wrapped in
     let s2 = content-short 0xA0 full in
     let s3 = content-short 0xA0 name in
@@ -143,7 +143,7 @@ point-part (part.DistributionPoint uri) ascii le =
     (record {
       content = wrapped;
       fits = fits-sequence wrapped (omega arith);
-      spelled = refl;
+      encoded = refl;
       value = record {
         named = wrapped;
         flags = [];
@@ -151,18 +151,18 @@ point-part (part.DistributionPoint uri) ascii le =
         distributionPoint = record {
           content = full;
           fits = record { octet = omega arith; low = omega arith; short = omega arith };
-          spelled = refl;
+          encoded = refl;
           value = record {
             tag = 0xA0;
             content = name;
             fits = record { octet = omega arith; low = omega arith; short = omega arith };
-            spelled = refl;
+            encoded = refl;
             form = (
               refl,
               (
                 λ none. absurd (cc),
                 one-item IsGeneralName name (uniformResourceIdentifier uri.now)
-                    (record { tag = 0x86; content = uri.now; fits = record { octet = omega arith; low = omega arith; short = omega arith }; spelled = refl; form = (refl, (refl, ascii)) }),
+                    (record { tag = 0x86; content = uri.now; fits = record { octet = omega arith; low = omega arith; short = omega arith }; encoded = refl; form = (refl, (refl, ascii)) }),
               ),
             );
           };
@@ -175,12 +175,12 @@ point-part (part.DistributionPoint uri) ascii le =
 point-part other ascii le = refl
 
 pub points-told : (texts : List ExtensionText) → AreAscii texts → flat_map point texts ≢ [] → length (items_of items.DistributionPoints texts) ≤ 4194304
-    → IsExt (Some extension.CrlDistributionPoints) (spell 0x30 (items_of items.DistributionPoints texts)) (cRLDistributionPoints (flat_map point texts))
+    → IsExt (Some extension.CrlDistributionPoints) (encode 0x30 (items_of items.DistributionPoints texts)) (cRLDistributionPoints (flat_map point texts))
 points-told texts ascii some le =
     let content = items_of items.DistributionPoints texts in
     record {
       content = content;
       fits = fits-sequence content le;
-      spelled = refl;
+      encoded = refl;
       value = (flat_map point texts, refl, (some, told-items (Within 0x30 IsPoint) (item items.DistributionPoints) point IsAsciiPart point-part texts ascii le));
     }

@@ -5,7 +5,7 @@ use Rattle.std.specs.List.{flat_map, range_with_len, list_any}
 use Rattle.std.proofs.lemmas.Bool.{ne_eqb, cases_eq, cases_lt}
 use Rattle.std.proofs.lemmas.List.{get_or_past}
 use Rattle.std.proofs.lemmas.List.FromFn.{length-map-range_with_len, get_or-map-range_with_len, map-range_with_len_more}
-use Rattle.ts_der.specs.Element.{spell}
+use Rattle.ts_der.specs.Element.{encode}
 use Rattle.ts_der.specs.BitString.{octet_bits, EndsInOne}
 use Rattle.ts_ext.specs.declared.known.Known.TheVariants as extension
 use Rattle.ts_ext.specs.NamedBits.{bit, IsNamedBits}
@@ -74,7 +74,7 @@ all-bits numbers a b (suc n) e =
     let others = flat_map octet_bits (map (λ i. octet_from numbers (8 * i)) (range_with_len (a + 1) n)) in
     ap (λ (o : List Bool). o ++ others) octet ∙ (ap (λ (r : List Bool). (is_set numbers b ∷ is_set numbers (b + 1) ∷ is_set numbers (b + 2) ∷ is_set numbers (b + 3) ∷ is_set numbers (b + 4) ∷ is_set numbers (b + 5) ∷ is_set numbers (b + 6) ∷ is_set numbers (b + 7) ∷ []) ++ r) rest ∙ sym bits)
 
--- ---- the bits behind the last
+-- ---- the bits after the last
 
 fold-above : (a : ℕ) (ns : List ℕ) → a ≤ fold max a ns
 fold-above a [] = omega arith
@@ -140,13 +140,13 @@ bits-are numbers some =
     let padded : usage_bits numbers ++ replicate unused false ≡ flat_map octet_bits (usage_octets numbers) = rw (← behind) (joined ∙ (ap (λ (n : ℕ). map (is_set numbers) (range_with_len 0 n)) count ∙ sym octets)) in
     let final : usage_bits numbers ≡ map (is_set numbers) (range_with_len 0 last) ++ true ∷ [] = map-range_with_len_more (is_set numbers) 0 last last (omega arith) ∙ ap (λ (b : Bool). map (is_set numbers) (range_with_len 0 last) ++ b ∷ []) (last-set numbers some) in
     record {
-      spelled = record { unused = unused; octets = usage_octets numbers; parts = refl; few = omega arith; padded = padded };
+      encoded = record { unused = unused; octets = usage_octets numbers; parts = refl; few = omega arith; padded = padded };
       shortest = subst EndsInOne (sym final) (ends (map (is_set numbers) (range_with_len 0 last)));
     }
 
-pub usage-told : (numbers : List ℕ) → numbers ≢ [] → length (usage_content numbers) ≤ 4194304 → IsExt (Some extension.KeyUsage) (spell 0x03 (usage_content numbers)) (keyUsage (usage_bits numbers))
+pub usage-told : (numbers : List ℕ) → numbers ≢ [] → length (usage_content numbers) ≤ 4194304 → IsExt (Some extension.KeyUsage) (encode 0x03 (usage_content numbers)) (keyUsage (usage_bits numbers))
 usage-told numbers some le =
-    record { content = usage_content numbers; fits = fits-bits (usage_content numbers) le; spelled = refl; value = (usage_bits numbers, refl, bits-are numbers some) }
+    record { content = usage_content numbers; fits = fits-bits (usage_content numbers) le; encoded = refl; value = (usage_bits numbers, refl, bits-are numbers some) }
 
 -- bit k is 1 where k is one of the numbers
 pub bit-told : (numbers : List ℕ) (k : ℕ) → bit k (usage_bits numbers) ≡ is_set numbers k

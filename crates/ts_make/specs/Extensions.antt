@@ -1,7 +1,7 @@
 -- The extensions that a description says (RFC 5280 4.2), and their octets (4.1).
 use Rattle.std.specs.Prelude.{ℕ, Bool, true, false, List, [], ◌∷◌, ◌++◌, Option, Some, None}
 use Rattle.std.specs.List.{flat_map}
-use Rattle.ts_der.specs.Element.{spell}
+use Rattle.ts_der.specs.Element.{encode}
 use Rattle.ts_der.specs.Boolean.{boolean_content}
 use Rattle.ts_ext.specs.Extension.{Extension}
 use Rattle.ts_make.specs.declared.description.ExtensionText.{ExtensionText}
@@ -17,20 +17,20 @@ use Rattle.ts_make.specs.KeyUsage.{numbers_in, usage_content}
 
 -- critical BOOLEAN DEFAULT FALSE: the default is absent (X.690 11.5)
 abbrev pub critical_octets : Bool → List ℕ
-critical_octets true = spell 0x01 (boolean_content true)
+critical_octets true = encode 0x01 (boolean_content true)
 critical_octets false = []
 
 -- Extension ::= SEQUENCE { extnID OBJECT IDENTIFIER, critical BOOLEAN DEFAULT FALSE, extnValue OCTET STRING } (4.1)
 unfoldable pub extension_content : Extension → List ℕ
-extension_content x = spell 0x06 x.extnID ++ (critical_octets x.critical ++ spell 0x04 x.extnValue)
+extension_content x = encode 0x06 x.extnID ++ (critical_octets x.critical ++ encode 0x04 x.extnValue)
 
 abbrev pub extension_octets : Extension → List ℕ
-extension_octets x = spell 0x30 (extension_content x)
+extension_octets x = encode 0x30 (extension_content x)
 
 -- extensions [3] EXPLICIT Extensions OPTIONAL, Extensions ::= SEQUENCE SIZE (1..MAX) OF Extension (4.1): absent where there are none
 unfoldable pub field_octets : List Extension → List ℕ
 field_octets [] = []
-field_octets (x ∷ xs) = spell 0xA3 (spell 0x30 (flat_map extension_octets (x ∷ xs)))
+field_octets (x ∷ xs) = encode 0xA3 (encode 0x30 (flat_map extension_octets (x ∷ xs)))
 
 -- the field, absent where there are none
 abbrev pub field_of : List Extension → Option (List Extension)
@@ -51,18 +51,18 @@ extension id critical value = record { extnID = id; critical = critical; extnVal
 -- pathLenConstraint INTEGER (0..MAX) OPTIONAL
 abbrev pub path_length : Option ℕ → List ℕ
 path_length None = []
-path_length (Some n) = spell 0x02 (serial_content n)
+path_length (Some n) = encode 0x02 (serial_content n)
 
 -- BasicConstraints ::= SEQUENCE { cA BOOLEAN DEFAULT FALSE, pathLenConstraint INTEGER (0..MAX) OPTIONAL } of a CA (4.2.1.9)
 unfoldable pub basic_constraints_value : Option ℕ → List ℕ
-basic_constraints_value length = spell 0x30 (spell 0x01 (boolean_content true) ++ path_length length)
+basic_constraints_value length = encode 0x30 (encode 0x01 (boolean_content true) ++ path_length length)
 
 -- the extensions that a part alone is
 abbrev pub alone : Kind → ExtensionText → List Extension
 -- basicConstraints (4.2.1.9)
 alone kind.BasicConstraints (part.BasicConstraints length) = extension (id_ce 19) true (basic_constraints_value length) ∷ []
 -- inhibitAnyPolicy (4.2.1.14)
-alone kind.InhibitAnyPolicy (part.InhibitAnyPolicy n) = extension (id_ce 54) true (spell 0x02 (serial_content n)) ∷ []
+alone kind.InhibitAnyPolicy (part.InhibitAnyPolicy n) = extension (id_ce 54) true (encode 0x02 (serial_content n)) ∷ []
 -- any other, with the value NULL (X.690 8.8)
 alone kind.Critical (part.Critical oid) = extension oid.content.now true (0x05 ∷ 0 ∷ []) ∷ []
 alone other text = []
@@ -72,12 +72,12 @@ alone other text = []
 -- a SEQUENCE of this tag, absent where it would be empty
 abbrev pub tagged_if_any : ℕ → List ℕ → List ℕ
 tagged_if_any tag [] = []
-tagged_if_any tag (octet ∷ content) = spell tag (octet ∷ content)
+tagged_if_any tag (octet ∷ content) = encode tag (octet ∷ content)
 
 -- the extension whose value is a SEQUENCE, absent where it would be empty
 abbrev pub sequence : ℕ → Bool → List ℕ → List Extension
 sequence arc critical [] = []
-sequence arc critical (octet ∷ content) = extension (id_ce arc) critical (spell 0x30 (octet ∷ content)) ∷ []
+sequence arc critical (octet ∷ content) = extension (id_ce arc) critical (encode 0x30 (octet ∷ content)) ∷ []
 
 -- NameConstraints ::= SEQUENCE { permittedSubtrees [0] GeneralSubtrees OPTIONAL, excludedSubtrees [1] GeneralSubtrees OPTIONAL }
 -- (4.2.1.10)
@@ -92,7 +92,7 @@ policy_constraints_content texts = items_of items.ExplicitPolicy texts ++ items_
 -- keyUsage (4.2.1.3), absent where no bit is set
 abbrev pub key_usage : List ℕ → List Extension
 key_usage [] = []
-key_usage (n ∷ numbers) = extension (id_ce 15) true (spell 0x03 (usage_content (n ∷ numbers))) ∷ []
+key_usage (n ∷ numbers) = extension (id_ce 15) true (encode 0x03 (usage_content (n ∷ numbers))) ∷ []
 
 -- ---- all of them
 

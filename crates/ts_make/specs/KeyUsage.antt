@@ -24,7 +24,7 @@ is_set numbers k = list_any (λ n. n == k) numbers
 abbrev pub last_set : List ℕ → ℕ
 last_set numbers = fold max 0 numbers
 
--- the bits, up to the last that is 1: no 0 stands behind it (X.690 11.2.2)
+-- the bits, up to the last that is 1: no 0 follows it (X.690 11.2.2)
 abbrev pub usage_bits : List ℕ → List Bool
 usage_bits numbers = map (is_set numbers) (range_with_len 0 (last_set numbers + 1))
 
@@ -42,7 +42,7 @@ octet_from numbers k =
 abbrev pub usage_octets : List ℕ → List ℕ
 usage_octets numbers = map (λ i. octet_from numbers (8 * i)) (range_with_len 0 (last_set numbers / 8 + 1))
 
--- the content of the BIT STRING: how many bits behind the last are unused, and the octets (X.690 8.6.2)
+-- the content of the BIT STRING: how many bits after the last are unused, and the octets (X.690 8.6.2)
 unfoldable pub usage_content : List ℕ → List ℕ
 usage_content numbers = (7 - last_set numbers % 8) ∷ usage_octets numbers
 

@@ -10,8 +10,8 @@ pub mod Made
 pub mod Writing
 pub mod Making
 pub mod Sayable
-pub mod ListExtensions
-pub mod ListMade
-pub mod ListMaking
-pub mod ListDescription
+pub mod CrlExtensions
+pub mod CrlMade
+pub mod CrlMaking
+pub mod CrlDescription
 pub mod Printed

@@ -8,24 +8,24 @@ use Rattle.ts_shape.specs.Repeats.{first_repeated}
 use Rattle.ts_time.specs.Civil.{IsInYears}
 use Rattle.ts_ext.specs.declared.known.Holder.TheVariants.{Certificate}
 use Rattle.ts_ext.specs.Extension.{Extension}
-use Rattle.ts_ext.specs.ValueRules.{AreSound}
+use Rattle.ts_ext.specs.ValueRules.{AreValid}
 use Rattle.ts_cert.specs.Reading.{certificate_of}
 use Rattle.ts_make.specs.declared.description.CertText.{CertText}
 use Rattle.ts_make.specs.declared.fault.MakeFault.{MakeFault}
 use Rattle.ts_make.specs.Extensions.{described_extensions}
 use Rattle.ts_make.specs.declared.fault.MakeFault.TheVariants.{Memory, TooLong, Unreadable}
 
--- of the octets of a certificate: they are returned where reading takes them, and else it is said why not
+-- of the octets of a certificate: they are returned where reading takes them, and else the answer says why not
 abbrev pub AnswersMade : Result (Vec ℕ Global) MakeFault → List ℕ → Type 0
 AnswersMade (Ok v) octets = (v.items ≡ octets) × (length octets ≤ 65536) × (is_ok (certificate_of octets) ≡ true)
 AnswersMade (Err TooLong) octets = 65536 < length octets
 AnswersMade (Err (Unreadable fault)) octets = (length octets ≤ 65536) × (certificate_of octets ≡ Err fault)
 AnswersMade (Err Memory) octets = Unit {0}
 
--- extensions that a certificate may have: none stands twice (4.2), and the value of each is one that it has
+-- extensions that a certificate may have: none occurs twice (4.2), and the value of each is one that it has
 pub record AreAllowed (extensions : List Extension) : Type 0 where
   pub distinct : first_repeated (λ x. x.extnID) [] extensions ≡ None
-  pub sound : AreSound Certificate extensions
+  pub sound : AreValid Certificate extensions
 
 -- what was written is refused only for a time, where a moment lies outside the years 0 to 9999, or for extensions that a
 -- certificate may not have

@@ -74,7 +74,7 @@ pub fn make_cert(alloc: Global, text: &CertText<'_>) -> Result<Vec<u8>, MakeFaul
     ensures described { IfOk result (λ v. (c : Certificate) × (certificate_of v.items ≡ Ok c) × IsDescribed text.now c) }
     // It is signed by the stand-in under the signer's key.
     ensures signed { IfOk result (λ v. (c : Certificate) × (certificate_of v.items ≡ Ok c) × IsSignedBy text.now.signer.now c) }
-    // What can't be said is not: both moments lie in the years 0 to 9999.
+    // Moments outside of the years 0 to 9999 have no encoding.
     ensures years { OnOk result (IsInYears 0 9999 text.now.from × IsInYears 0 9999 text.now.to) }
     // For no other reason is refused what was written.
     ensures refused { IfErr result (IsRefusal text.now) }

@@ -1,7 +1,7 @@
 //! Octets that grow by one element after another, up to what a list may have.
 
 ghost use Rattle.std.specs.Prelude.{◌≢◌, ◌%◌, ◌∷◌, ◌++◌};
-ghost use Rattle.ts_der.specs.Element.{spell};
+ghost use Rattle.ts_der.specs.Element.{encode};
 ghost use Rattle.ts_make.specs.Writing.{Appends, Writes};
 
 use crate::fault::MakeFault;
@@ -42,7 +42,7 @@ pub(crate) fn append(octets: &mut Vec<u8>, part: &[u8]) -> Result<(), MakeFault>
 /// An element.
 pub(crate) fn element(alloc: Global, tag: u8, content: &[u8]) -> Result<Vec<u8>, MakeFault>
     requires { tag % 32 ≢ 31 }
-    ensures { Writes result (spell tag content.now) }
+    ensures { Writes result (encode tag content.now) }
 {
     if content.len() > MAX_CRL {
         return Err(MakeFault::TooLong);
@@ -60,7 +60,7 @@ pub(crate) fn append_element(
     content: &[u8],
 ) -> Result<(), MakeFault>
     requires { tag % 32 ≢ 31 }
-    ensures { Appends result (spell tag content.now) octets.old.items octets.new.items }
+    ensures { Appends result (encode tag content.now) octets.old.items octets.new.items }
 {
     let part = element(alloc, tag, content)?;
     append(octets, &part)
@@ -68,7 +68,7 @@ pub(crate) fn append_element(
 
 /// Appends a BIT STRING of whole octets (X.690 8.6).
 pub(crate) fn append_bits(alloc: Global, octets: &mut Vec<u8>, bits: &[u8]) -> Result<(), MakeFault>
-    ensures { Appends result (spell 0x03 (0 ∷ bits.now)) octets.old.items octets.new.items }
+    ensures { Appends result (encode 0x03 (0 ∷ bits.now)) octets.old.items octets.new.items }
 {
     let mut content = Vec::new(alloc);
     content.push(0)?;

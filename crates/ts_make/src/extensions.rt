@@ -32,7 +32,7 @@ pub(crate) fn append_sequence(
     append_extension(alloc, octets, &[0x55, 0x1d, arc], critical, &value)
 }
 
-/// The same of a SEQUENCE OF what the parts put into a list.
+/// The same for a SEQUENCE OF what the parts put into a list.
 fn append_list(
     alloc: Global,
     octets: &mut Vec<u8>,

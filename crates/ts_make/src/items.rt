@@ -2,7 +2,7 @@
 
 ghost use Rattle.std.specs.Prelude.{◌++◌};
 ghost use Rattle.std.specs.List.{flat_map};
-ghost use Rattle.ts_der.specs.Element.{spell};
+ghost use Rattle.ts_der.specs.Element.{encode};
 ghost use Rattle.ts_make.specs.Items.{general_name, general_subtree, distribution_point, policy_information, policy_mapping, item, items_of};
 ghost use Rattle.ts_make.specs.Writing.{Appends};
 

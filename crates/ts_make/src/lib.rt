@@ -4,6 +4,11 @@
 #![tactic(auto)]
 
 mod certificate;
+mod crl_description;
+mod crl_extensions;
+mod crl_tbs;
+#[cfg(test)]
+mod crl_tests;
 mod description;
 mod elements;
 #[cfg(test)]
@@ -16,11 +21,6 @@ mod key_usage;
 mod kind;
 pub mod laws;
 mod list;
-mod list_description;
-mod list_extensions;
-mod list_tbs;
-#[cfg(test)]
-mod list_tests;
 mod names;
 mod serial;
 mod single;
@@ -30,7 +30,7 @@ mod tests;
 mod times;
 
 pub use certificate::make_cert;
+pub use crl_description::{CrlText, EntryText};
 pub use description::{AttributeType, CertText, ExtensionText, NameText, RdnText};
 pub use fault::MakeFault;
 pub use list::make_crl;
-pub use list_description::{CrlText, EntryText};

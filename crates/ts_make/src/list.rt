@@ -2,38 +2,38 @@
 
 ghost use Rattle.std.specs.Prelude.{◌≡◌, ℕ, List, Ok, IfOk, IfErr, OnOk};
 ghost use Rattle.ts_time.specs.Civil.{IsInYears};
-ghost use Rattle.ts_crl.specs.List.{StandingList, said_list};
+ghost use Rattle.ts_crl.specs.List.{LocatedList, unlocated_list};
 ghost use Rattle.ts_crl.specs.Reading.{shape_of};
 ghost use Rattle.ts_crl.specs.Table.{crl_of};
 ghost use Rattle.ts_make.specs.Times.{IsTimeOf};
 ghost use Rattle.ts_make.specs.TimeView.{time_octets};
 ghost use Rattle.ts_make.specs.Sayable.{IfWritten};
 ghost use Rattle.ts_make.specs.Writing.{Writes};
-ghost use Rattle.ts_make.specs.ListMade.{made_list};
-ghost use Rattle.ts_make.specs.ListMaking.{IsWhole, IsTaken, AnswersList, IsSayableList, IsListRefusal};
-ghost use Rattle.ts_make.specs.ListDescription.{IsListDescribed, IsListSignedBy, IsReadAs};
+ghost use Rattle.ts_make.specs.CrlMade.{made_crl};
+ghost use Rattle.ts_make.specs.CrlMaking.{IsWhole, IsTaken, AnswersCrl, IsSayableCrl, IsCrlRefusal};
+ghost use Rattle.ts_make.specs.CrlDescription.{IsCrlDescribed, IsCrlSignedBy, IsReadAs};
 
+use crate::crl_description::CrlText;
+use crate::crl_tbs::write_crl_tbs;
 use crate::elements::{SEQUENCE, append, append_bits, element};
 use crate::fault::MakeFault;
-use crate::list_description::CrlText;
-use crate::list_tbs::write_list_tbs;
 use crate::times::TimeText;
 use std::alloc::Global;
 use ts_crl::{Crl, CrlFault, MAX_CRL};
 use ts_sig::{STAND_IN_ALGORITHM, digest_signature};
 
 /// What is signed, the algorithm and the signature, as one element (RFC 5280 5.1.1).
-#[tactic(auto, unfolding(crate::specs::ListMade::made_list))]
-fn write_list(
+#[tactic(auto, unfolding(crate::specs::CrlMade::made_crl))]
+fn write_crl(
     alloc: Global,
     text: &CrlText<'_>,
     this: &TimeText,
     next: &TimeText,
 ) -> Result<Vec<u8>, MakeFault>
-    ensures exact { Writes result (made_list (time_octets this.now) (time_octets next.now) text.now) }
-    ensures sayable { OnOk result (IsSayableList text.now) }
+    ensures exact { Writes result (made_crl (time_octets this.now) (time_octets next.now) text.now) }
+    ensures sayable { OnOk result (IsSayableCrl text.now) }
 {
-    let mut fields = write_list_tbs(alloc, text, this, next)?;
+    let mut fields = write_crl_tbs(alloc, text, this, next)?;
     let signature = digest_signature(text.signer, &fields);
     append(&mut fields, STAND_IN_ALGORITHM.as_slice())?;
     append_bits(alloc, &mut fields, signature.as_slice())?;
@@ -41,16 +41,16 @@ fn write_list(
 }
 
 /// The same, unless it breaks a rule that has a place.
-fn write_whole_list(
+fn write_whole_crl(
     alloc: Global,
     text: &CrlText<'_>,
     this: &TimeText,
     next: &TimeText,
 ) -> Result<Vec<u8>, MakeFault>
-    ensures exact { AnswersList IsWhole result (made_list (time_octets this.now) (time_octets next.now) text.now) }
-    ensures sayable { IfWritten result (IsSayableList text.now) }
+    ensures exact { AnswersCrl IsWhole result (made_crl (time_octets this.now) (time_octets next.now) text.now) }
+    ensures sayable { IfWritten result (IsSayableCrl text.now) }
 {
-    let octets = write_list(alloc, text, this, next)?;
+    let octets = write_crl(alloc, text, this, next)?;
     if octets.len() > MAX_CRL {
         return Err(MakeFault::TooLong);
     }
@@ -71,18 +71,18 @@ fn write_whole_list(
 pub fn make_crl(alloc: Global, text: &CrlText<'_>) -> Result<Vec<u8>, MakeFault>
     // It is the one list that says the description, where a list may be so long.
     ensures made { (this next : List ℕ) × IsTimeOf this text.now.this_update × IsTimeOf next text.now.next_update
-        × AnswersList IsTaken result (made_list this next text.now) }
+        × AnswersCrl IsTaken result (made_crl this next text.now) }
     // It has the shape of the list that the description says, and reading gives that list, or refuses it for its
     // first critical extension that is not processed, or as a delta without a number.
-    ensures described { IfOk result (λ v. (l : StandingList) × (shape_of v.items ≡ Ok l) × IsListDescribed text.now (said_list l) × IsReadAs (crl_of v.items) (said_list l)) }
+    ensures described { IfOk result (λ v. (l : LocatedList) × (shape_of v.items ≡ Ok l) × IsCrlDescribed text.now (unlocated_list l) × IsReadAs (crl_of v.items) (unlocated_list l)) }
     // It is signed by the stand-in under the signer's key.
-    ensures signed { IfOk result (λ v. (l : StandingList) × (shape_of v.items ≡ Ok l) × IsListSignedBy text.now.signer.now (said_list l)) }
-    // What can't be said is not: both moments lie in the years 0 to 9999.
+    ensures signed { IfOk result (λ v. (l : LocatedList) × (shape_of v.items ≡ Ok l) × IsCrlSignedBy text.now.signer.now (unlocated_list l)) }
+    // Moments outside of the years 0 to 9999 have no encoding.
     ensures years { OnOk result (IsInYears 0 9999 text.now.this_update × IsInYears 0 9999 text.now.next_update) }
     // For no other reason is refused what was written.
-    ensures refused { IfErr result (IsListRefusal text.now) }
+    ensures refused { IfErr result (IsCrlRefusal text.now) }
 {
-    write_whole_list(
+    write_whole_crl(
         alloc,
         text,
         &TimeText::of(text.this_update),

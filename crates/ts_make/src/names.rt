@@ -2,7 +2,7 @@
 
 ghost use Rattle.std.specs.Prelude.{OnOk};
 ghost use Rattle.std.specs.Str.{IsUtf8};
-ghost use Rattle.ts_name.specs.NameSpelling.{spelled_rdn};
+ghost use Rattle.ts_name.specs.NameEncoding.{encoded_rdn};
 ghost use Rattle.ts_make.specs.Description.{rdn_in};
 ghost use Rattle.ts_make.specs.Made.{name_octets};
 ghost use Rattle.ts_make.specs.Sayable.{AreTexts};
@@ -15,9 +15,9 @@ use std::alloc::Global;
 use ts_name::UTF8_STRING;
 
 /// Appends a relative distinguished name of one attribute: SET { SEQUENCE { OBJECT IDENTIFIER, UTF8String } }.
-#[tactic(auto, unfolding(ts_name::specs::NameSpelling::rdn_content, ts_name::specs::NameSpelling::attribute_content))]
+#[tactic(auto, unfolding(ts_name::specs::NameEncoding::rdn_content, ts_name::specs::NameEncoding::attribute_content))]
 fn append_rdn(alloc: Global, octets: &mut Vec<u8>, rdn: &RdnText<'_>) -> Result<(), MakeFault>
-    ensures exact { Appends result (spelled_rdn (rdn_in rdn.now)) octets.old.items octets.new.items }
+    ensures exact { Appends result (encoded_rdn (rdn_in rdn.now)) octets.old.items octets.new.items }
     ensures text { OnOk result (IsUtf8 rdn.now.text.now) }
 {
     let mut fields = Vec::new(alloc);

@@ -1,7 +1,7 @@
 //! Numbers.
 
 ghost use Rattle.std.specs.Prelude.{◌≢◌, ◌%◌};
-ghost use Rattle.ts_der.specs.Element.{spell};
+ghost use Rattle.ts_der.specs.Element.{encode};
 ghost use Rattle.ts_make.specs.Serial.{serial_content};
 ghost use Rattle.ts_make.specs.Writing.{Appends};
 
@@ -18,7 +18,7 @@ pub(crate) fn append_number(
     n: u32,
 ) -> Result<(), MakeFault>
     requires { tag % 32 ≢ 31 }
-    ensures { Appends result (spell tag (serial_content n)) octets.old.items octets.new.items }
+    ensures { Appends result (encode tag (serial_content n)) octets.old.items octets.new.items }
 {
     let [a, b, c, d] = n.to_be_bytes();
     match n {

@@ -109,7 +109,7 @@ fn made_length(alloc: Global, from: i64, to: i64, length: usize) -> Result<usize
 /// The second before the year 0.
 const BEFORE: i64 = -62_167_219_201;
 
-/// The first second behind the year 9999.
+/// The first second after the year 9999.
 const AFTER: i64 = 253_402_300_800;
 
 const FROM_FAULT: CertFault = CertFault {

@@ -1,7 +1,7 @@
 //! Times.
 
 ghost use Rattle.std.specs.Prelude.{◌≡◌, ◌++◌};
-ghost use Rattle.ts_der.specs.Element.{spell};
+ghost use Rattle.ts_der.specs.Element.{encode};
 ghost use Rattle.ts_make.specs.Times.{IsTimeOf};
 ghost use Rattle.ts_make.specs.TimeView.{time_octets};
 ghost use Rattle.ts_make.specs.Writing.{Appends};
@@ -61,7 +61,7 @@ pub(crate) fn append_validity(
     before: &TimeText,
     after: &TimeText,
 ) -> Result<(), MakeFault>
-    ensures { Appends result (spell 0x30 (time_octets before.now ++ time_octets after.now)) octets.old.items octets.new.items }
+    ensures { Appends result (encode 0x30 (time_octets before.now ++ time_octets after.now)) octets.old.items octets.new.items }
 {
     let mut times = Vec::new(alloc);
     before.append(alloc, &mut times)?;

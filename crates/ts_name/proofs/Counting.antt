@@ -1,4 +1,4 @@
--- Sets of attributes are one where each attribute stands as often in both.
+-- Sets of attributes are one where each attribute occurs as often in both.
 use Rattle.std.proofs.Common.{◌≡◌, ℕ, suc, List, [], ◌∷◌, ◌++◌, length, refl, sym, ap, ◌∙◌}
 use Rattle.std.specs.Prelude.{map, All}
 use Rattle.std.specs.List.{AllByRecursion}
@@ -7,11 +7,11 @@ use Rattle.std.proofs.lemmas.List.Elements.{All-nil, All-cons}
 use Rattle.ts_name.specs.Canon.{Attr, CanonAttr, canon_attr, canon_rdn, count_of, insert_attr, sort_attrs}
 use Rattle.ts_name.proofs.Order.{same_counts, counts_same, sort-push}
 
--- how often an attribute stands in canonical form
+-- how often an attribute occurs in canonical form
 abbrev pub count_in : List Attr → Attr → ℕ
 count_in xs a = count_of (canon_attr a) (map canon_attr xs)
 
--- each of these stands as often in both lists
+-- each of these occurs as often in both lists
 abbrev pub SameCounts : List Attr → List Attr → List Attr → Type 0
 SameCounts xs ys these = AllByRecursion (λ (a : Attr). count_in xs a ≡ count_in ys a) these
 

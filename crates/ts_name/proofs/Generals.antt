@@ -1,4 +1,4 @@
--- General names: what is read is spelled so, what is spelled so is read, and a fault is the first rule of the table.
+-- General names: what is read is encoded so, what is encoded so is read, and a fault is the first rule of the table.
 use Rattle.std.proofs.Common.{◌≡◌, ℕ, ◌+◌, Bool, true, false, cond, eqb, not, ◌&&◌, ◌||◌, List, [], ◌++◌, length, Option, Some, None, Result, Ok, Err, refl, sym, ap, subst, ◌∙◌}
 use Rattle.std.specs.Prelude.{option_map}
 use Rattle.std.proofs.lemmas.List.{append-nil}
@@ -18,7 +18,7 @@ use Rattle.ts_name.specs.Canon.{Attr}
 use Rattle.ts_shape.specs.Fault.{der, breaks}
 use Rattle.ts_shape.specs.Fields.{Within}
 use Rattle.ts_name.specs.Names.{name_at}
-use Rattle.ts_name.specs.NameSpelling.{IsName}
+use Rattle.ts_name.specs.NameEncoding.{IsName}
 use Rattle.ts_shape.specs.Items.{each}
 use Rattle.ts_name.specs.General.{GeneralName, otherName, rfc822Name, dNSName, x400Address, directoryName, ediPartyName, uniformResourceIdentifier, iPAddress, registeredID, IsForm, IsGeneralName, directory_of, general_of, general_at, has_range_length}
 use Rattle.ts_name.specs.GeneralTable.{general_name}
@@ -50,7 +50,7 @@ directory-again e rdns is =
     let d = end-again (e.start + length e.content) in
     rw (n, d) refl
 
--- ---- what is read is spelled so
+-- ---- what is read is encoded so
 
 -- octets that a form keeps as they are
 kept-found : (form : List ℕ → GeneralName) (content : List ℕ) (P : GeneralName → Type 0) → P (form content) → (x : GeneralName) → (let r : Result GeneralName Fault = Ok (form content) in r ≡ Ok x) → P x
@@ -96,7 +96,7 @@ general-found e x fits read =
     (choice-found 0x88 e _ _ P (λ t. oid-found (λ o. registeredID o) e P (λ a. (t, (refl, a))))
     (λ x r. absurd cc))))))))) x read
 
--- ---- what is spelled so is read
+-- ---- what is encoded so is read
 
 pub general-again : (e : Tlv) (x : GeneralName) → IsForm e.tag e.content x → general_of e ≡ Ok x
 unfolding general_of directory_of

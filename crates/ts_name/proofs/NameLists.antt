@@ -13,7 +13,7 @@ unfolding canon_name
 canon-append [] b = refl
 canon-append (x ∷ a) b = ap (λ (xs : List (List CanonAttr)). canon_rdn x ∷ xs) (canon-append a b)
 
--- behind what is the same, the rest of a name that lies within a subtree lies within the rest of the subtree
+-- after what is the same, the rest of a name that lies within a subtree lies within the rest of the subtree
 pub rest-within : (passed taken rest more : List (List Attr)) → canon_name passed ≡ canon_name taken → IsWithin (passed ++ rest) (taken ++ more) → IsWithin rest more
 rest-within passed taken rest more same within =
     let b = within.0 in

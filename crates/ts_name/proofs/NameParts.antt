@@ -7,14 +7,14 @@ use Rattle.ts_der.specs.declared.fault.DerFault.TheVariants.{IntegerForm, OidFor
 use Rattle.ts_der.specs.declared.fault.Fault.{Fault}
 use Rattle.ts_der.specs.Octets.{AreOctets}
 use Rattle.ts_der.specs.Rules.{first_broken, value_unless}
-use Rattle.ts_der.specs.Element.{Tlv, spell}
+use Rattle.ts_der.specs.Element.{Tlv, encode}
 use Rattle.ts_der.specs.Integer.{is_shortest, integer_rules}
 use Rattle.ts_der.specs.BitString.{whole_octets_rules}
 use Rattle.ts_der.specs.ObjectIdentifier.{is_oid, oid_rules}
 use Rattle.ts_der.specs.Reading.{located, value_at}
 use Rattle.ts_der.proofs.Laws.{ok_is}
 use Rattle.ts_name.specs.Names.{name_of, name_at}
-use Rattle.ts_name.specs.NameSpelling.{IsName}
+use Rattle.ts_name.specs.NameEncoding.{IsName}
 use Rattle.ts_shape.specs.Fields.{Within, IsOid, IsInteger, IsBits, oid_at, integer_at, bits_at}
 use Rattle.ts_name.proofs.Shapes.{name-found, name-again}
 use Rattle.ts_shape.proofs.Parts.{Part, within-part}

@@ -116,7 +116,7 @@ insert-insert a b (c ∷ cs) = by_test (insert-insert a b cs) (at_most a c) refl
         ∙ sym (insert-before b c (insert_attr a cs) false q)
         ∙ sym (ap (insert_attr b) (insert-before a c cs false p))
 
--- ---- how often attributes stand in lists
+-- ---- how often attributes are in lists
 
 abbrev once : CanonAttr → CanonAttr → ℕ
 once z a = cond (is_same z a) 1 0
@@ -187,7 +187,7 @@ takes_out a (b ∷ bs) h = by_test (takes_out a bs) (is_same a b) refl
           sorted = ap (insert_attr b) rest.sorted ∙ insert-insert b a (sort_attrs (without a bs)) ∙ ap (λ cs. insert_attr a (sort_attrs cs)) (sym out);
         }
 
--- lists of one length in which each attribute of the first stands as often have one sorted form
+-- lists of one length in which each attribute of the first occurs as often have one sorted form
 pub counts_same : (xs ys : List CanonAttr) → length xs ≡ length ys → All (λ x. count_of x xs ≡ count_of x ys) xs → sort_attrs xs ≡ sort_attrs ys
 counts_same [] [] n a = refl
 counts_same [] (y ∷ ys) n a = absurd (omega arith)

@@ -1,4 +1,4 @@
--- The shapes of a name: what is read is spelled so, and what is spelled so is read.
+-- The shapes of a name: what is read is encoded so, and what is encoded so is read.
 use Rattle.std.proofs.Common.{◌≡◌, ◌≢◌, ℕ, ◌+◌, ◌^◌, ◌<◌, Bool, true, false, not, ◌&&◌, ltb, cond, List, [], ◌∷◌, ◌++◌, length, Option, Some, None, Result, Ok, Err, refl, sym, ap, subst, ◌∙◌, arith}
 use Rattle.std.specs.Prelude.{map}
 use Rattle.std.specs.List.{flat_map, AllByRecursion}
@@ -10,10 +10,10 @@ use Rattle.ts_der.specs.declared.fault.Fault.{Fault}
 use Rattle.ts_der.specs.Octets.{AreOctets}
 use Rattle.ts_der.specs.Answer.{◌>>=◌}
 use Rattle.ts_der.specs.Rules.{first_broken, value_unless}
-use Rattle.ts_der.specs.Element.{Place, Tlv, Fits, spell, inside}
+use Rattle.ts_der.specs.Element.{Place, Tlv, Fits, encode, inside}
 use Rattle.ts_der.specs.ObjectIdentifier.{is_oid, oid_rules}
 use Rattle.ts_der.specs.Reading.{is_end, fault_at, located, value_at, next_at, element_at, many, end_at}
-use Rattle.ts_der.specs.SetOf.{ascends, Member, spelled, order_at, set_of_at}
+use Rattle.ts_der.specs.SetOf.{ascends, Member, encoded, order_at, set_of_at}
 use Rattle.ts_der.proofs.Sets.{members-again}
 use Rattle.ts_der.proofs.OctetLists.{AreOctets-back}
 use Rattle.ts_der.proofs.Elements.{next-found}
@@ -22,7 +22,7 @@ use Rattle.ts_shape.proofs.Endings.{end-ok, end-again}
 use Rattle.ts_name.specs.Canon.{Attr}
 use Rattle.ts_name.specs.Names.{text_rules, attribute_of, attribute_at, rdn_of, name_of}
 use Rattle.ts_shape.specs.Items.{some_rules}
-use Rattle.ts_name.specs.NameSpelling.{attribute_content, spelled_attribute, rdn_content, IsAttribute, IsRdn, IsName}
+use Rattle.ts_name.specs.NameEncoding.{attribute_content, encoded_attribute, rdn_content, IsAttribute, IsRdn, IsName}
 use Rattle.ts_shape.proofs.Codecs.{Codec, many-found, many-again}
 
 -- a value that was located
@@ -80,13 +80,13 @@ attribute-found e a fits read =
     let p = parts e a read in
     let k = element-found 0x06 (inside e) p.kind p.middle fits p.kind-read in
     let ks = k.0 in
-    let first : e.content ≡ spell p.kind.tag p.kind.content ++ p.middle.rest = ks.whole ∙ ap (λ (w : List ℕ). w ++ p.middle.rest) ks.spelled in
-    let second : e.content ≡ spell 0x06 p.kind.content ++ p.middle.rest = first ∙ ap (λ (t : ℕ). spell t p.kind.content ++ p.middle.rest) k.1 in
-    let v = next-found p.middle p.value p.behind (AreOctets-back (spell 0x06 p.kind.content) p.middle.rest (subst AreOctets second fits)) p.value-read in
-    let last : p.middle.rest ≡ spell p.value.tag p.value.content = v.whole ∙ (ap (λ (w : List ℕ). w ++ p.behind.rest) v.spelled ∙ (ap (λ (w : List ℕ). spell p.value.tag p.value.content ++ w) p.done ∙ append-nil (spell p.value.tag p.value.content))) in
-    let whole : e.content ≡ spell 0x06 p.kind.content ++ spell p.value.tag p.value.content = second ∙ ap (λ (w : List ℕ). spell 0x06 p.kind.content ++ w) last in
+    let first : e.content ≡ encode p.kind.tag p.kind.content ++ p.middle.rest = ks.whole ∙ ap (λ (w : List ℕ). w ++ p.middle.rest) ks.encoded in
+    let second : e.content ≡ encode 0x06 p.kind.content ++ p.middle.rest = first ∙ ap (λ (t : ℕ). encode t p.kind.content ++ p.middle.rest) k.1 in
+    let v = next-found p.middle p.value p.behind (AreOctets-back (encode 0x06 p.kind.content) p.middle.rest (subst AreOctets second fits)) p.value-read in
+    let last : p.middle.rest ≡ encode p.value.tag p.value.content = v.whole ∙ (ap (λ (w : List ℕ). w ++ p.behind.rest) v.encoded ∙ (ap (λ (w : List ℕ). encode p.value.tag p.value.content ++ w) p.done ∙ append-nil (encode p.value.tag p.value.content))) in
+    let whole : e.content ≡ encode 0x06 p.kind.content ++ encode p.value.tag p.value.content = second ∙ ap (λ (w : List ℕ). encode 0x06 p.kind.content ++ w) last in
     let is : IsAttribute (record { kind = p.kind.content; tag = p.value.tag; value = p.value.content }) = record { kind = p.kind-is; value = v.fits; text = p.text-is } in
-    subst (λ (b : Attr). (e.content ≡ spell 0x06 b.kind ++ spell b.tag b.value) × IsAttribute b) p.made (whole, is)
+    subst (λ (b : Attr). (e.content ≡ encode 0x06 b.kind ++ encode b.tag b.value) × IsAttribute b) p.made (whole, is)
 
 oid-short : (c : List ℕ) → is_oid c ≡ true → length c < 2 ^ 32
 unfolding is_oid
@@ -100,10 +100,10 @@ attribute-again : (e : Tlv) (a : Attr) → IsAttribute a → e.content ≡ attri
 unfolding attribute_of attribute_content
 attribute-again e a is whole =
     let fits : Fits 0x06 a.kind = record { octet = omega arith; low = omega arith; short = oid-short a.kind is.kind } in
-    let kind = element-only (inside e) 0x06 a.kind (spell a.tag a.value) fits whole in
-    let middle : Place = record { rest = spell a.tag a.value; at = e.start + length (spell 0x06 a.kind) } in
-    let value = next-only middle a.tag a.value [] is.value (sym (append-nil (spell a.tag a.value))) in
-    let done = end-again (middle.at + length (spell a.tag a.value)) in
+    let kind = element-only (inside e) 0x06 a.kind (encode a.tag a.value) fits whole in
+    let middle : Place = record { rest = encode a.tag a.value; at = e.start + length (encode 0x06 a.kind) } in
+    let value = next-only middle a.tag a.value [] is.value (sym (append-nil (encode a.tag a.value))) in
+    let done = end-again (middle.at + length (encode a.tag a.value)) in
     rw (kind, is.kind, value, is.text, done) refl
 
 pub attribute-codec : Codec 0x30 attribute_of attribute_content IsAttribute
@@ -114,23 +114,23 @@ attribute-codec = record { found = attribute-found; again = attribute-again }
 member : Attr → Member
 member a = record { tag = 0x30; content = attribute_content a }
 
-same_members : (attributes : List Attr) → map spelled (map member attributes) ≡ map spelled_attribute attributes
+same_members : (attributes : List Attr) → map encoded (map member attributes) ≡ map encoded_attribute attributes
 unfolding member
 same_members [] = refl
-same_members (a ∷ attributes) = ap (λ (xs : List (List ℕ)). spelled_attribute a ∷ xs) (same_members attributes)
+same_members (a ∷ attributes) = ap (λ (xs : List (List ℕ)). encoded_attribute a ∷ xs) (same_members attributes)
 
-same_whole : (attributes : List Attr) → flat_map spelled (map member attributes) ≡ flat_map spelled_attribute attributes
+same_whole : (attributes : List Attr) → flat_map encoded (map member attributes) ≡ flat_map encoded_attribute attributes
 unfolding member
 same_whole [] = refl
-same_whole (a ∷ attributes) = ap (λ (xs : List ℕ). spelled_attribute a ++ xs) (same_whole attributes)
+same_whole (a ∷ attributes) = ap (λ (xs : List ℕ). encoded_attribute a ++ xs) (same_whole attributes)
 
 members_fit : (attributes : List Attr) → AllByRecursion (λ a. IsAttribute a × Fits 0x30 (attribute_content a)) attributes → AllByRecursion (λ m. Fits m.tag m.content) (map member attributes)
 unfolding member
 members_fit [] each = tt
 members_fit (a ∷ attributes) each = (each.0.1, members_fit attributes each.1)
 
-set_is_ordered : (e : Tlv) (attributes : List Attr) → AllByRecursion (λ a. IsAttribute a × Fits 0x30 (attribute_content a)) attributes → e.content ≡ flat_map spelled_attribute attributes
-    → order_at e ≡ Ok (ascends (map spelled_attribute attributes))
+set_is_ordered : (e : Tlv) (attributes : List Attr) → AllByRecursion (λ a. IsAttribute a × Fits 0x30 (attribute_content a)) attributes → e.content ≡ flat_map encoded_attribute attributes
+    → order_at e ≡ Ok (ascends (map encoded_attribute attributes))
 unfolding order_at
 set_is_ordered e attributes each whole =
     let a = members-again (map member attributes) e.start (members_fit attributes each) in
@@ -161,14 +161,14 @@ rdn-found e attributes fits read =
     let same : m.0 ≡ attributes = ok_is {E = Fault} m.0 attributes o.2 in
     let items = many-found 0x30 attribute_of attribute_content IsAttribute attribute-codec (inside e) m.0 fits m.1 in
     let some = value-ok (first_broken some_rules e.content) e.at e.content v.0 v.1 in
-    let not_empty : m.0 ≢ [] = λ none. true_false (sym (ap is_end (items.whole ∙ ap (λ (xs : List Attr). flat_map spelled_attribute xs) none)) ∙ some-ok e.content some.0) in
-    let ordered : ascends (map spelled_attribute m.0) ≡ true = in_order e (ascends (map spelled_attribute m.0)) o.0 (set_is_ordered e m.0 items.each items.whole) o.1 in
-    subst (λ (xs : List Attr). (e.content ≡ flat_map spelled_attribute xs) × IsRdn xs) same (items.whole, record { some = not_empty; each = items.each; ordered = ordered })
+    let not_empty : m.0 ≢ [] = λ none. true_false (sym (ap is_end (items.whole ∙ ap (λ (xs : List Attr). flat_map encoded_attribute xs) none)) ∙ some-ok e.content some.0) in
+    let ordered : ascends (map encoded_attribute m.0) ≡ true = in_order e (ascends (map encoded_attribute m.0)) o.0 (set_is_ordered e m.0 items.each items.whole) o.1 in
+    subst (λ (xs : List Attr). (e.content ≡ flat_map encoded_attribute xs) × IsRdn xs) same (items.whole, record { some = not_empty; each = items.each; ordered = ordered })
   where
     true_false : true ≡ false → ⊥
     true_false h = true≢false h
 
-not_end : (attributes : List Attr) → attributes ≢ [] → is_end (flat_map spelled_attribute attributes) ≡ false
+not_end : (attributes : List Attr) → attributes ≢ [] → is_end (flat_map encoded_attribute attributes) ≡ false
 not_end [] ne = absurd (ne refl)
 not_end (a ∷ attributes) ne = refl
 

@@ -1,4 +1,4 @@
--- General subtrees: what is read is spelled so, what is spelled so is read, and a fault is the first rule of the table.
+-- General subtrees: what is read is encoded so, what is encoded so is read, and a fault is the first rule of the table.
 use Rattle.std.proofs.Common.{◌≡◌, ℕ, ◌+◌, Bool, true, false, cond, eqb, not, ◌&&◌, ◌||◌, List, [], ◌∷◌, ◌++◌, length, Option, Some, None, ◌⊎◌, inl, inr, Result, Ok, Err, refl, sym, ap, subst, ◌∙◌}
 use Rattle.std.specs.Prelude.{unwrap_or}
 use Rattle.std.proofs.lemmas.List.{append-nil}
@@ -8,7 +8,7 @@ use Rattle.ts_der.specs.declared.fault.Fault.{Fault}
 use Rattle.ts_der.specs.Octets.{AreOctets}
 use Rattle.ts_der.specs.Answer.{◌>>=◌, Answers, refusal}
 use Rattle.ts_der.specs.Rules.{first_broken, value_unless}
-use Rattle.ts_der.specs.Element.{Place, Tlv, spell, spelled_at, inside}
+use Rattle.ts_der.specs.Element.{Place, Tlv, encode, encoded_at, inside}
 use Rattle.ts_der.specs.Header.{header_rules}
 use Rattle.ts_der.specs.Integer.{is_shortest, integer_rules}
 use Rattle.ts_der.specs.Reading.{unless, located, begins_with, is_end, element_of, behind, next_at, element_at, end_at}
@@ -44,7 +44,7 @@ distance-found e x read =
 minimum-value : Value 0x80 minimum_of IsDistance
 minimum-value = record { found = λ e x fits w read. distance-found e x read; again = again }
   where
-    again : (e : Tlv) (x : List ℕ) → e.whole ≡ spell 0x80 e.content → IsDistance e.content x → minimum_of e ≡ Ok x
+    again : (e : Tlv) (x : List ℕ) → e.whole ≡ encode 0x80 e.content → IsDistance e.content x → minimum_of e ≡ Ok x
     again e x w is = rw (is.0.0, is.0.1, is.1) refl
 
 integer-ok : (s : Bool) (at : ℕ) (c x : List ℕ) → located at (value_unless (cond (not s) (Some IntegerForm) None) c) ≡ Ok x → (c ≡ x) × (s ≡ true)
@@ -54,13 +54,13 @@ integer-ok false at c x e = absurd cc
 maximum-value : Value 0x81 maximum_of IsInteger
 maximum-value = record { found = found; again = again }
   where
-    found : (e : Tlv) (x : List ℕ) → AreOctets e.content → e.whole ≡ spell 0x81 e.content → maximum_of e ≡ Ok x → IsInteger e.content x
+    found : (e : Tlv) (x : List ℕ) → AreOctets e.content → e.whole ≡ encode 0x81 e.content → maximum_of e ≡ Ok x → IsInteger e.content x
     found e x fits w read = let d = integer-ok (is_shortest e.content) e.at e.content x read in (d.0, ap is_shortest (sym d.0) ∙ d.1)
 
-    again : (e : Tlv) (x : List ℕ) → e.whole ≡ spell 0x81 e.content → IsInteger e.content x → maximum_of e ≡ Ok x
+    again : (e : Tlv) (x : List ℕ) → e.whole ≡ encode 0x81 e.content → IsInteger e.content x → maximum_of e ≡ Ok x
     again e x w is = rw (is.0, is.1) refl
 
--- ---- what is read is spelled so
+-- ---- what is read is encoded so
 
 pub subtree-found : (e : Tlv) (s : GeneralSubtree) → AreOctets e.content → subtree_of e ≡ Ok s → IsSubtree e.content s
 unfolding subtree_of
@@ -82,12 +82,12 @@ subtree-found e s fits read =
       least = second.0;
       most = third.0;
       base = first.1;
-      minimum = record { encoded = m.0.0; spelled = second.1; value = refl };
+      minimum = record { minimum_octets = m.0.0; encoded = second.1; value = refl };
       maximum = third.1;
       fields = first.2 ∙ ap (λ (r : List ℕ). first.0 ++ r) middle;
     })
 
--- ---- what is spelled so is read
+-- ---- what is encoded so is read
 
 pub subtree-again : (e : Tlv) (s : GeneralSubtree) → IsSubtree e.content s → subtree_of e ≡ Ok s
 unfolding subtree_of
@@ -96,7 +96,7 @@ subtree-again e s is =
     let one : Place = record { rest = is.least ++ is.most; at = e.start + length is.named } in
     let absent : begins_with 0x80 is.most ≡ false =
     ap (begins_with 0x80) (sym (append-nil is.most)) ∙ begins-if-any 0x81 IsInteger is.most s.maximum is.maximum 0x80 refl [] refl in
-    let m = optional-again 0x80 minimum_of IsDistance minimum-value one is.minimum.encoded is.least is.most is.minimum.spelled absent refl in
+    let m = optional-again 0x80 minimum_of IsDistance minimum-value one is.minimum.minimum_octets is.least is.most is.minimum.encoded absent refl in
     let two : Place = record { rest = is.most; at = e.start + length is.named + length is.least } in
     let x = optional-again 0x81 maximum_of IsInteger maximum-value two s.maximum is.most [] is.maximum refl (sym (append-nil is.most)) in
     let d = end-again (e.start + length is.named + length is.least + length is.most) in
@@ -116,8 +116,8 @@ constrained-ok s x e = by_tests (is_unbounded s) (has_range_length s.base) e
     by_tests true false e = absurd cc
     by_tests false c e = absurd cc
 
-input_again : (octets content : List ℕ) → octets ≡ spell 0x30 content → octets ≡ spell 0x30 content ++ []
-input_again octets content e = e ∙ sym (append-nil (spell 0x30 content))
+input_again : (octets content : List ℕ) → octets ≡ encode 0x30 content → octets ≡ encode 0x30 content ++ []
+input_again octets content e = e ∙ sym (append-nil (encode 0x30 content))
 
 pub constraint-found : (octets : List ℕ) (s : GeneralSubtree) → AreOctets octets → constraint_of octets ≡ Ok s → IsConstraint octets s
 unfolding constraint_of
@@ -132,7 +132,7 @@ constraint-found octets s fits read =
     let is : IsSubtree e.0.0.content x.0 = subtree-found e.0.0 x.0 t.inner (der-ok (subtree_of e.0.0) x.0 x.1) in
     subst (λ (y : GeneralSubtree). IsConstraint octets y) c.0
     (record {
-      whole = record { content = e.0.0.content; fits = t.fits; spelled = whole ∙ t.spelled; value = is };
+      whole = record { content = e.0.0.content; fits = t.fits; encoded = whole ∙ t.encoded; value = is };
       unbounded = c.1;
       range = c.2;
     })
@@ -141,9 +141,9 @@ pub constraint-again : (octets : List ℕ) (s : GeneralSubtree) → IsConstraint
 unfolding constraint_of constrained
 constraint-again octets s is =
     let content = is.whole.content in
-    let e = element-only (input octets) 0x30 content [] is.whole.fits (input_again octets content is.whole.spelled) in
-    let x = subtree-again (spelled_at 0 0x30 content) s is.whole.value in
-    let d = end-again (0 + length (spell 0x30 content)) in
+    let e = element-only (input octets) 0x30 content [] is.whole.fits (input_again octets content is.whole.encoded) in
+    let x = subtree-again (encoded_at 0 0x30 content) s is.whole.value in
+    let d = end-again (0 + length (encode 0x30 content)) in
     rw (e, x, d, is.unbounded, is.range) refl
 
 -- ---- the first rule that is broken
@@ -197,7 +197,7 @@ field {A} tag value here x after read = by_start (begins_with tag here.rest) ref
         let same : (Some y.0, e.0.1) ≡ (x, after) = ok_is {A = Option A × Place} {E = Fault} (Some y.0, e.0.1) (x, after) y.2 in
         inr (e.0.0, y.0, sym (ap (λ (p : Option A × Place). p.0) same), y.1, begun tag here.rest t)
 
--- nothing stands behind the base of a subtree without bounds
+-- nothing follows the base of a subtree without bounds
 none_behind : (base : GeneralName) (here : Place) (m : Option (List ℕ)) (middle : Place) (x : Option (List ℕ)) (after : Place)
     → Absent here m middle ⊎ Stood minimum_of here m → Absent middle x after ⊎ Stood maximum_of middle x → after.rest ≡ []
     → is_unbounded (record { base = base; minimum = unwrap_or m (0 ∷ []); maximum = x }) ≡ is_end here.rest

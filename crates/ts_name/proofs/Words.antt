@@ -6,7 +6,7 @@ use Rattle.std.specs.List.{join_with_byte}
 use Rattle.ts_name.specs.Canon.{begin_with, parts, is_word, words, fold_case, folded}
 use Rattle.ts_name.specs.Gaps.{at_word, without_gaps}
 
--- the octets before the first octet 20, and the parts behind it
+-- the octets before the first octet 20, and the parts after it
 abbrev front : List ℕ → List ℕ
 front [] = []
 front (octet ∷ rest) = cond (eqb octet 0x20) [] (octet ∷ front rest)
@@ -21,7 +21,7 @@ parts-is (octet ∷ rest) =
     ap (λ ps. cond (eqb octet 0x20) ([] ∷ ps) (begin_with octet ps)) (parts-is rest)
     ∙ (elim (eqb octet 0x20) as (λ b. cond b ([] ∷ front rest ∷ back rest) ((octet ∷ front rest) ∷ back rest) ≡ cond b [] (octet ∷ front rest) ∷ cond b (front rest ∷ back rest) (back rest)) [ true ↦ refl | false ↦ refl ])
 
--- the words that follow, each behind an octet 20
+-- the words that follow, each after an octet 20
 abbrev spaced : List (List ℕ) → List ℕ
 spaced [] = []
 spaced (word ∷ words) = 0x20 ∷ join_with_byte 0x20 (word ∷ words)

@@ -81,6 +81,6 @@ canon_rdn attrs = sort_attrs (map canon_attr attrs)
 abbrev pub is_same : CanonAttr → CanonAttr → Bool
 is_same a b = is_eq (compare_attrs a b)
 
--- how often an attribute in canonical form stands in a list
+-- how often an attribute in canonical form occurs in a list
 abbrev pub count_of : CanonAttr → List CanonAttr → ℕ
 count_of a bs = count_by (is_same a) bs

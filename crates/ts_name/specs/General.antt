@@ -10,7 +10,7 @@ use Rattle.ts_der.specs.Text.{is_ascii, ascii_rules}
 use Rattle.ts_name.specs.Canon.{Attr}
 use Rattle.ts_shape.specs.Fields.{Within, IsOid}
 use Rattle.ts_name.specs.Names.{name_at}
-use Rattle.ts_name.specs.NameSpelling.{IsName}
+use Rattle.ts_name.specs.NameEncoding.{IsName}
 use Rattle.ts_shape.specs.Items.{each, IsChoice}
 
 -- GeneralName, by its content: octets, or the relative distinguished names of a directory name
@@ -35,7 +35,7 @@ abbrev pub has_range_length : GeneralName → Bool
 has_range_length (iPAddress octets) = length octets == 8 || length octets == 32
 has_range_length other = true
 
--- ---- spelling
+-- ---- encoding
 
 -- IA5String, by its content: octets below 80
 abbrev pub IsIa5 : List ℕ → List ℕ → Type 0
@@ -68,7 +68,7 @@ IsGeneralName = IsChoice IsForm
 
 -- ---- reading
 
--- directoryName [4] EXPLICIT Name: one name, and nothing behind it
+-- directoryName [4] EXPLICIT Name: one name, and nothing after it
 unfoldable pub directory_of : Tlv → Result (List (List Attr)) Fault
 directory_of e = do
   name ← name_at (inside e)
@@ -89,6 +89,6 @@ general_of e =
     else (if e.tag == 0x88 then (value_at oid_rules (λ c. c) e >>= λ oid. Ok (registeredID oid))
     else Err (fault_at e.at WrongTag)))))))))
 
--- the general name that stands next
+-- the general name that is next
 abbrev pub general_at : Place → Result (GeneralName × Place) Fault
 general_at = each general_of

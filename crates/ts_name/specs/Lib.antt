@@ -5,7 +5,7 @@ pub mod View
 pub mod CanonView
 pub mod Names
 pub mod NameView
-pub mod NameSpelling
+pub mod NameEncoding
 pub mod General
 pub mod GeneralTable
 pub mod GeneralView

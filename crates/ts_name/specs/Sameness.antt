@@ -10,7 +10,7 @@ canon_name rdns = map canon_rdn rdns
 abbrev pub IsWithin : List (List Attr) → List (List Attr) → Type 0
 IsWithin name subtree = (behind : List (List CanonAttr)) × (canon_name name ≡ canon_name subtree ++ behind)
 
--- what is left of a name behind a front, or that it does not begin so
+-- what is left of a name after a front, or that it does not begin so
 abbrev pub StripsTo : List (List Attr) → List (List Attr) → Option (List (List Attr)) → Type 0
 StripsTo name front (Some rest) = canon_name name ≡ canon_name front ++ canon_name rest
 StripsTo name front None = IsWithin name front → ⊥

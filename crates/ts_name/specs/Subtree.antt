@@ -28,7 +28,7 @@ is_zero content = false
 abbrev pub is_unbounded : GeneralSubtree → Bool
 is_unbounded s = is_zero s.minimum && not (is_some s.maximum)
 
--- ---- spelling
+-- ---- encoding
 
 -- an encoded minimum: INTEGER, and not the default (X.690 11.5)
 abbrev pub IsDistance : List ℕ → List ℕ → Type 0
@@ -36,9 +36,9 @@ IsDistance content octets = IsInteger content octets × (is_zero octets ≡ fals
 
 -- minimum [0] BaseDistance DEFAULT 0
 pub record IsMinimum (octets : List ℕ) (minimum : List ℕ) : Type 0 where
-  pub encoded : Option (List ℕ)
-  pub spelled : IfAny 0x80 IsDistance octets encoded
-  pub value : minimum ≡ unwrap_or encoded (0 ∷ [])
+  pub minimum_octets : Option (List ℕ)
+  pub encoded : IfAny 0x80 IsDistance octets minimum_octets
+  pub value : minimum ≡ unwrap_or minimum_octets (0 ∷ [])
 
 -- GeneralSubtree ::= SEQUENCE { base GeneralName, minimum [0] BaseDistance DEFAULT 0, maximum [1] BaseDistance OPTIONAL }
 pub record IsSubtree (content : List ℕ) (s : GeneralSubtree) : Type 0 where
@@ -85,7 +85,7 @@ constrained s =
     if not (is_unbounded s) then Err (breaks 0 SubtreeBounds)
     else (if not (has_range_length s.base) then Err (breaks 0 AddressLength) else Ok s)
 
--- the subtree that octets are, and nothing behind it
+-- the subtree that octets are, and nothing after it
 unfoldable pub constraint_of : List ℕ → Result GeneralSubtree CertFault
 constraint_of octets = do
   e ← der (element_at 0x30 (record { rest = octets; at = 0 }))

@@ -32,7 +32,7 @@ general_subtree = sequence subtree_fields
 abbrev pub input : List ℕ → Place
 input octets = record { rest = octets; at = 0 }
 
--- minimum is zero, which is not encoded, and maximum is absent (4.2.1.10): nothing stands behind base
+-- minimum is zero, which is not encoded, and maximum is absent (4.2.1.10): nothing follows base
 abbrev pub bounds_fault : Tlv → Option CertFault
 bounds_fault subtree = if is_end (behind (inside subtree)).rest then None else Some (breaks 0 SubtreeBounds)
 
@@ -41,7 +41,7 @@ abbrev pub address_fault : Tlv → Option CertFault
 address_fault base =
     if base.tag == 0x87 && not (length base.content == 8 || length base.content == 32) then Some (breaks 0 AddressLength) else None
 
--- the first rule that is broken: the table, and nothing behind it; no bounds; an address and its mask
+-- the first rule that is broken: the table, and nothing after it; no bounds; an address and its mask
 abbrev pub constraint_fault : List ℕ → Option CertFault
 constraint_fault octets =
     let subtree = element_of (input octets) in

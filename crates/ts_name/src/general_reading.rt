@@ -37,7 +37,7 @@ const IP_ADDRESS: u8 = 0x87;
 
 const REGISTERED_ID: u8 = 0x88;
 
-/// The name that a directory name holds, and nothing behind it.
+/// The name that a directory name holds, and nothing after it.
 #[tactic(auto, unfolding(crate::specs::General::directory_of, crate::specs::Names::name_at, ts_shape::specs::Fields::within))]
 fn read_directory<'a>(element: Element<'a>) -> Result<Name<'a>, Fault>
     ensures { Answers rdns_in result (directory_of (now element.entry)) }

@@ -34,7 +34,7 @@ pub fn form<'a>(name: General<'a>) -> (u8, &'a [u8]) {
     }
 }
 
-/// The same of a name that is read.
+/// The same for a name that is read.
 fn form_of<'a>(octets: &'a [u8]) -> Result<(u8, &'a [u8]), Fault> {
     Ok(form(general(octets)?))
 }
@@ -119,7 +119,7 @@ const NAMES: [(&[u8], Option<(DerFault, usize)>); 20] = [
     // No object identifier.
     (b"\x88\x00", Some((DerFault::OidForm, 0))),
     (b"\x88\x01\x80", Some((DerFault::OidForm, 0))),
-    // A directory name without a name, with a set for it, with an empty set in it, with an element behind it.
+    // A directory name without a name, with a set for it, with an empty set in it, with an element after it.
     (b"\xa4\x00", Some((DerFault::Truncated, 2))),
     (b"\xa4\x02\x31\x00", Some((DerFault::WrongTag, 2))),
     (b"\xa4\x04\x30\x02\x31\x00", Some((DerFault::Empty, 4))),

@@ -5,6 +5,7 @@
 mod attribute;
 mod canon;
 mod canonical;
+mod fast_names;
 mod folded;
 mod general;
 mod general_reading;
@@ -20,7 +21,6 @@ mod name_tests;
 mod ordering;
 mod rdn;
 mod sameness;
-mod short_names;
 mod subtree;
 mod subtree_reading;
 #[cfg(test)]
@@ -30,11 +30,11 @@ mod tests;
 
 pub use attribute::{Attribute, IA5_STRING, PRINTABLE_STRING, UTF8_STRING};
 pub use canon::{Canon, CanonAttribute, CanonRdn, canon_attribute};
+pub use fast_names::is_name;
 pub use folded::same_text;
 pub use general::General;
 pub use general_reading::GeneralNames;
 pub use name::Name;
 pub use name_items::{Attributes, Rdns};
 pub use rdn::Rdn;
-pub use short_names::is_name;
 pub use subtree::Subtree;

@@ -11,16 +11,16 @@ ghost use Rattle.ts_name.specs.Names.{attribute_of, attribute_at, rdn_of, rdn_at
 ghost use Rattle.ts_shape.specs.Steps.{Takes, Passes};
 ghost use Rattle.ts_name.specs.Canon.{Attr};
 ghost use Rattle.ts_shape.specs.Fault.{about};
-ghost use Rattle.ts_name.specs.NameSpelling.{IsRdnContent, IsName};
+ghost use Rattle.ts_name.specs.NameEncoding.{IsRdnContent, IsName};
 ghost use Rattle.ts_name.specs.NameView.{rdns_in, attributes_in};
 ghost use Rattle.ts_name.specs.NameRows.{relative_distinguished_name, rdn_fault};
 ghost use Rattle.ts_shape.specs.Shape.{items, judge};
 ghost use Rattle.ts_name.specs.View.{attr_of};
 
 use crate::attribute::{Attribute, IA5_STRING, PRINTABLE_STRING, UTF8_STRING};
+use crate::fast_names::are_short_rdns;
 use crate::name::Name;
 use crate::rdn::Rdn;
-use crate::short_names::are_short_rdns;
 use std::str;
 use ts_der::{DerFault, Element, Fault, Reader};
 
@@ -114,7 +114,7 @@ fn are_in_character_set(tag: u8, octets: &[u8]) -> bool
 }
 
 /// Whether the content of a set is one attribute, with lengths of one octet and a type of three numbers below 128, as in
-/// most names. Where it is not, nothing is said.
+/// most names. Where it is not, nothing is claimed.
 #[inline(always)]
 fn is_one_short_attribute(content: &[u8]) -> bool
     ensures { result ≡ true → (x : Attr) × IsRdnContent content.now (x ∷ []) }
@@ -147,7 +147,7 @@ fn is_one_short_attribute(content: &[u8]) -> bool
     are_in_character_set(*tag, value)
 }
 
-/// What stands in a set that is a relative distinguished name, and its order.
+/// What is in a set that is a relative distinguished name, and its order.
 #[tactic(auto, unfolding(crate::specs::Names::rdn_of))]
 fn check_any_rdn(set: Element<'_>) -> Result<(), Fault>
     ensures { refusal result ≡ refusal (rdn_of (now set.entry)) }
@@ -166,7 +166,7 @@ fn check_any_rdn(set: Element<'_>) -> Result<(), Fault>
     Ok(())
 }
 
-/// The same, with a short way for what stands in most names.
+/// The same, with a short way for what is in most names.
 #[inline(always)]
 fn check_rdn(set: Element<'_>) -> Result<(), Fault>
     ensures { refusal result ≡ refusal (rdn_of (now set.entry)) }

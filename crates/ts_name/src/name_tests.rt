@@ -72,7 +72,7 @@ fn names_that_are_one_or_within(rt: HostRuntime) {
     }
 }
 
-/// Whether these are the values of a name's attributes, with a bar behind each relative distinguished name, which is
+/// Whether these are the values of a name's attributes, with a bar after each relative distinguished name, which is
 /// itself.
 fn has_values(alloc: Global, octets: &[u8], wanted: &[u8]) -> Option<bool> {
     let mut values = Vec::new(alloc);
@@ -121,13 +121,13 @@ const FAULTS: [(&[u8], DerFault, usize); 7] = [
         DerFault::TextForm,
         11,
     ),
-    // An octet behind the value.
+    // An octet after the value.
     (
         b"\x30\x0c\x31\x0a\x30\x08\x06\x03\x55\x04\x03\x0c\x00\x00",
         DerFault::Trailing,
         13,
     ),
-    // A set whose members stand in descending order.
+    // A set whose members are in descending order.
     (
         b"\x30\x16\x31\x14\x30\x08\x06\x03\x55\x04\x0a\x0c\x01A\x30\x08\x06\x03\x55\x04\x03\x0c\x01b",
         DerFault::SetOrder,

@@ -117,7 +117,7 @@ impl Rdn<'_> {
     }
 }
 
-/// What is left of a name's relative distinguished names behind these others, if it begins with them.
+/// What is left of a name's relative distinguished names after these others, if it begins with them.
 fn behind<'a>(name: Rdns<'a>, front: Rdns<'_>) -> Option<Rdns<'a>>
     ensures { StripsTo name.entry front.entry result }
 {

@@ -39,7 +39,7 @@ fn read_minimum<'a>(element: Element<'a>) -> Result<Integer<'a>, Fault>
     }
 }
 
-/// The minimum, if one stands next, which the reader has then passed.
+/// The minimum, if one is next, which the reader has then passed.
 #[tactic(auto, using(ts_shape::proofs::OptionalReads::optional_fails, ts_shape::proofs::OptionalReads::optional_is_absent, ts_shape::proofs::OptionalReads::optional_reads, ts_shape::proofs::OptionalReads::optional_refuses))]
 #[inline(always)]
 fn next_minimum<'a>(fields: &mut Reader<'a>) -> Result<Option<Integer<'a>>, Fault>
@@ -51,7 +51,7 @@ fn next_minimum<'a>(fields: &mut Reader<'a>) -> Result<Option<Integer<'a>>, Faul
     }
 }
 
-/// The maximum, if one stands next, which the reader has then passed.
+/// The maximum, if one is next, which the reader has then passed.
 #[tactic(auto, using(ts_shape::proofs::OptionalReads::optional_fails, ts_shape::proofs::OptionalReads::optional_is_absent, ts_shape::proofs::OptionalReads::optional_reads, ts_shape::proofs::OptionalReads::optional_refuses))]
 #[inline(always)]
 fn next_maximum<'a>(fields: &mut Reader<'a>) -> Result<Option<Integer<'a>>, Fault>
@@ -101,7 +101,7 @@ fn check_constraint(subtree: Subtree<'_>) -> Result<(), CertFault>
     Ok(())
 }
 
-/// The subtree of a constraint that octets are, with nothing behind it.
+/// The subtree of a constraint that octets are, with nothing after it.
 #[tactic(auto, unfolding(crate::specs::Subtree::constraint_of, crate::specs::Subtree::constrained))]
 fn read_constraint(octets: &[u8]) -> Result<Subtree<'_>, CertFault>
     ensures { Answers subtree_in result (constraint_of octets.now) }

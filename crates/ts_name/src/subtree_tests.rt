@@ -39,7 +39,7 @@ fn base<'a>(subtree: Subtree<'a>) -> (u8, &'a [u8]) {
     form(subtree.base())
 }
 
-/// The same of a subtree that is read, whether it has no bounds, and whether its length is that of addresses.
+/// The same for a subtree that is read, whether it has no bounds, and whether its length is that of addresses.
 fn parts<'a>(octets: &'a [u8]) -> Result<((u8, &'a [u8]), bool, bool), Fault> {
     let subtree = element(octets)?;
     Ok((
@@ -109,7 +109,7 @@ const FAULTS: [(&[u8], DerFault, usize); 7] = [
         7,
     ),
     (b"\x30\x07\x82\x03a.b\x81\x00", DerFault::IntegerForm, 7),
-    // The maximum before the minimum, and another element behind the base.
+    // The maximum before the minimum, and another element after the base.
     (
         b"\x30\x0b\x82\x03a.b\x81\x01\x05\x80\x01\x01",
         DerFault::Trailing,
@@ -163,7 +163,7 @@ const CONSTRAINTS: [(&[u8], Option<(CertRule, usize)>); 13] = [
         b"\x30\x09\x87\x04\x0a\x00\x00\x00\x81\x01\x05",
         Some((CertRule::SubtreeBounds, 0)),
     ),
-    // And octets behind that: the rules of DER come before both.
+    // And octets after that: the rules of DER come before both.
     (
         b"\x30\x09\x87\x04\x0a\x00\x00\x00\x81\x01\x05\x00",
         Some((CertRule::Der(DerFault::Trailing), 11)),

@@ -25,6 +25,6 @@ policies_in c = record {
 abbrev pub maps_any_of : List Mapping → Bool
 maps_any_of ms = list_any (λ m. same m.issuer_domain.now any_policy || same m.subject_domain.now any_policy) ms
 
--- the same of the pairs
+-- the same for the pairs
 abbrev pub maps_any : CertPolicies → Bool
 maps_any c = list_any (λ m. same m.0 any_policy || same m.1 any_policy) c.mappings

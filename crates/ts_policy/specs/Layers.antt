@@ -30,7 +30,7 @@ abbrev pub IsEnd : List Layer → Label → Type 0
 IsEnd [] q = q ≡ any_policy
 IsEnd (l ∷ ls) q = has_label l q ≡ true
 
--- each link leads to a label of the layer above, and only anyPolicy stands above anyPolicy
+-- each link leads to a label of the layer above, and only anyPolicy is above anyPolicy
 abbrev pub Leads : Layer → List Layer → Type 0
 Leads l ls = (p q : Label) → In (p, q) l → IsEnd ls q × (p ≡ any_policy → q ≡ any_policy)
 

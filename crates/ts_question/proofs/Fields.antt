@@ -15,7 +15,7 @@ use Rattle.ts_question.specs.declared.question.Target.{Target}
 use Rattle.ts_question.specs.declared.question.Target.TheVariants.{Chain, Search}
 use Rattle.ts_question.specs.Parts.{bits, blob8, blob32, optional}
 use Rattle.ts_question.specs.Reading.{◌>>=◌, provided, octet_at, optional_at, many_at, whole}
-use Rattle.ts_question.specs.Question.{Asked, is_position, are_subtrees, are_terms, are_certificates, is_target, flags_octet, policies_spelling, subtrees_spelling, certificates_spelling, terms_spelling, kind_of, target_spelling, spelling, TermsFit, TargetFits, Fits}
+use Rattle.ts_question.specs.Question.{Asked, is_position, are_subtrees, are_terms, are_certificates, is_target, flags_octet, policies_encoding, subtrees_encoding, certificates_encoding, terms_encoding, kind_of, target_encoding, encoding, TermsFit, TargetFits, Fits}
 use Rattle.ts_question.specs.QuestionReading.{bit, position_at, oid_at, certificate_at, presence_at, policies_at, subtrees_at, certificates_at, terms_at, target_at, question_at}
 use Rattle.ts_question.proofs.PartLaws.{IsBytes, Takes, Part, answer, step, test, some_is, made, octet_part, number16, number32, number64, octets_part, blob8_part, blob16_part, blob32_part, tested, provided_is, optional_part, many_part, whole_again}
 
@@ -31,39 +31,39 @@ pub certificate_part : Part blob32 (λ c. (length c < 2 ^ 32) × (nat_le (length
 unfolding certificate_at
 certificate_part = tested blob32_part (λ c. nat_le (length c) 65536)
 
--- ---- lists behind their number
+-- ---- lists after their number
 
-pub listed : {A : Type 0} {count : ℕ → List ℕ} {Fit : ℕ → Type 0} {read : List ℕ → Option (ℕ × List ℕ)} (number : Part count Fit read) (holds : ℕ → Bool) {spell : A → List ℕ} {Each : A → Type 0} {item : List ℕ → Option (A × List ℕ)} (each : Part spell Each item)
-    → Part (λ xs. count (length xs) ++ flat_map spell xs) (λ xs. Fit (length xs) × (holds (length xs) ≡ true) × AllByRecursion Each xs)
+pub listed : {A : Type 0} {count : ℕ → List ℕ} {Fit : ℕ → Type 0} {read : List ℕ → Option (ℕ × List ℕ)} (number : Part count Fit read) (holds : ℕ → Bool) {encode : A → List ℕ} {Each : A → Type 0} {item : List ℕ → Option (A × List ℕ)} (each : Part encode Each item)
+    → Part (λ xs. count (length xs) ++ flat_map encode xs) (λ xs. Fit (length xs) × (holds (length xs) ≡ true) × AllByRecursion Each xs)
     (λ octets. read octets >>= λ n. provided (holds n.0) n >>= λ m. many_at item m.0 m.1)
-listed {A} {count} {Fit} {read} number holds {spell} {Each} {item} each = record { takes = takes; again = again }
+listed {A} {count} {Fit} {read} number holds {encode} {Each} {item} each = record { takes = takes; again = again }
   where
     takes : (octets : List ℕ) (xs : List A) (rest : List ℕ) → IsBytes octets → (read octets >>= λ n. provided (holds n.0) n >>= λ m. many_at item m.0 m.1) ≡ Some (xs, rest)
-        → Takes octets (count (length xs) ++ flat_map spell xs) rest × (Fit (length xs) × (holds (length xs) ≡ true) × AllByRecursion Each xs)
+        → Takes octets (count (length xs) ++ flat_map encode xs) rest × (Fit (length xs) × (holds (length xs) ≡ true) × AllByRecursion Each xs)
     takes octets xs rest bytes is =
         step number octets (λ n. provided (holds n.0) n >>= λ m. many_at item m.0 m.1) (xs, rest) bytes is
         (λ n after first more fit e. test (holds n) (n, after) (λ m. many_at item m.0 m.1) (xs, rest) e
         (λ good h.
         let t = (many_part each n).takes after xs rest more h in
-        let all : octets ≡ (count n ++ flat_map spell xs) ++ rest = first ∙ ap (λ l. count n ++ l) t.0.is ∙ sym (append_assoc (count n) (flat_map spell xs) rest) in
-        subst (λ k. Takes octets (count k ++ flat_map spell xs) rest × (Fit k × (holds k ≡ true) × AllByRecursion Each xs)) (sym t.1.1)
+        let all : octets ≡ (count n ++ flat_map encode xs) ++ rest = first ∙ ap (λ l. count n ++ l) t.0.is ∙ sym (append_assoc (count n) (flat_map encode xs) rest) in
+        subst (λ k. Takes octets (count k ++ flat_map encode xs) rest × (Fit k × (holds k ≡ true) × AllByRecursion Each xs)) (sym t.1.1)
         (record { is = all; more = t.0.more }, (fit, good, t.1.0))))
 
     again : (xs : List A) (rest : List ℕ) → Fit (length xs) × (holds (length xs) ≡ true) × AllByRecursion Each xs
-        → (read ((count (length xs) ++ flat_map spell xs) ++ rest) >>= λ n. provided (holds n.0) n >>= λ m. many_at item m.0 m.1) ≡ Some (xs, rest)
+        → (read ((count (length xs) ++ flat_map encode xs) ++ rest) >>= λ n. provided (holds n.0) n >>= λ m. many_at item m.0 m.1) ≡ Some (xs, rest)
     again xs rest fit =
-        ap (λ l. read l >>= λ n. provided (holds n.0) n >>= λ m. many_at item m.0 m.1) (append_assoc (count (length xs)) (flat_map spell xs) rest)
-        ∙ rw (number.again (length xs) (flat_map spell xs ++ rest) fit.0, fit.1) ((many_part each (length xs)).again xs rest (fit.2, refl))
+        ap (λ l. read l >>= λ n. provided (holds n.0) n >>= λ m. many_at item m.0 m.1) (append_assoc (count (length xs)) (flat_map encode xs) rest)
+        ∙ rw (number.again (length xs) (flat_map encode xs ++ rest) fit.0, fit.1) ((many_part each (length xs)).again xs rest (fit.2, refl))
 
-policies_part : Part policies_spelling (λ xs. (length xs < 256) × (nat_le (length xs) 32 ≡ true) × AllByRecursion (λ c. (length c < 256) × (is_oid c ≡ true)) xs) policies_at
+policies_part : Part policies_encoding (λ xs. (length xs < 256) × (nat_le (length xs) 32 ≡ true) × AllByRecursion (λ c. (length c < 256) × (is_oid c ≡ true)) xs) policies_at
 unfolding policies_at
 policies_part = listed octet_part (λ n. nat_le n 32) oid_part
 
-subtrees_part : Part subtrees_spelling (λ xs. (length xs < 2 ^ 16) × (nat_le (length xs) 64 ≡ true) × AllByRecursion (λ c. length c < 2 ^ 16) xs) subtrees_at
+subtrees_part : Part subtrees_encoding (λ xs. (length xs < 2 ^ 16) × (nat_le (length xs) 64 ≡ true) × AllByRecursion (λ c. length c < 2 ^ 16) xs) subtrees_at
 unfolding subtrees_at
 subtrees_part = listed number16 (λ n. nat_le n 64) blob16_part
 
-certificates_part : (most : ℕ) → Part certificates_spelling (λ xs. (length xs < 256) × ((nat_le 1 (length xs) && nat_le (length xs) most) ≡ true) × AllByRecursion (λ c. (length c < 2 ^ 32) × (nat_le (length c) 65536 ≡ true)) xs) (certificates_at most)
+certificates_part : (most : ℕ) → Part certificates_encoding (λ xs. (length xs < 256) × ((nat_le 1 (length xs) && nat_le (length xs) most) ≡ true) × AllByRecursion (λ c. (length c < 2 ^ 32) × (nat_le (length c) 65536 ≡ true)) xs) (certificates_at most)
 unfolding certificates_at
 certificates_part most = listed octet_part (λ n. nat_le 1 n && nat_le n most) certificate_part
 
@@ -165,8 +165,8 @@ taken_apart b0 b1 b2 b3 b4 b5 b6 = by (bits (b0 ∷ b1 ∷ b2 ∷ b3 ∷ b4 ∷ 
           s6 = of_digit b6 (o / 64 % 2) (ap (λ x. x / 64 % 2) e6 ∙ digit6 (d0 + 2 * d1 + 4 * d2 + 8 * d3 + 16 * d4 + 32 * d5) 0 d6 (omega (arith, l0, l1, l2, l3, l4, l5)) l6 ∙ i6);
         }
 
-abbrev presence_spelling : Presence → List ℕ
-presence_spelling p = flags_octet p.flags p.k p.purpose ∷ []
+abbrev presence_encoding : Presence → List ℕ
+presence_encoding p = flags_octet p.flags p.k p.purpose ∷ []
 
 abbrev presence_of : ℕ → Presence
 presence_of o = record {
@@ -184,18 +184,18 @@ presence_of o = record {
 abbrev pair : Presence → List ℕ → Presence × List ℕ
 pair p rest = (p, rest)
 
-presence_part : Part presence_spelling (λ p. Unit {0}) presence_at
+presence_part : Part presence_encoding (λ p. Unit {0}) presence_at
 unfolding presence_at
 presence_part = record { takes = takes; again = again }
   where
-    takes : (octets : List ℕ) (p : Presence) (rest : List ℕ) → IsBytes octets → (octet_at octets >>= λ o. provided (nat_lt o.0 128) (pair (presence_of o.0) o.1)) ≡ Some (p, rest) → Takes octets (presence_spelling p) rest × Unit {0}
+    takes : (octets : List ℕ) (p : Presence) (rest : List ℕ) → IsBytes octets → (octet_at octets >>= λ o. provided (nat_lt o.0 128) (pair (presence_of o.0) o.1)) ≡ Some (p, rest) → Takes octets (presence_encoding p) rest × Unit {0}
     takes octets p rest bytes is =
         step octet_part octets (λ o. provided (nat_lt o.0 128) (pair (presence_of o.0) o.1)) (p, rest) bytes is
         (λ o after first more fit e. provided_is (nat_lt o 128) (presence_of o, after) (p, rest) e
-        (λ small same. subst (λ (x : Presence × List ℕ). Takes octets (presence_spelling x.0) x.1 × Unit {0}) same
+        (λ small same. subst (λ (x : Presence × List ℕ). Takes octets (presence_encoding x.0) x.1 × Unit {0}) same
         (record { is = first ∙ ap (λ x. x ∷ after) (sym (made_up o (ltb-true o 128 small))); more = more }, tt)))
 
-    again : (p : Presence) (rest : List ℕ) → Unit {0} → (octet_at (presence_spelling p ++ rest) >>= λ o. provided (nat_lt o.0 128) (pair (presence_of o.0) o.1)) ≡ Some (p, rest)
+    again : (p : Presence) (rest : List ℕ) → Unit {0} → (octet_at (presence_encoding p ++ rest) >>= λ o. provided (nat_lt o.0 128) (pair (presence_of o.0) o.1)) ≡ Some (p, rest)
     again p rest fit =
         let b = taken_apart p.flags.explicit_policy p.flags.inhibit_policy_mapping p.flags.inhibit_any_policy p.flags.hard p.k p.purpose p.flags.use_deltas in
         rw b.small (λ i. answer (record { flags = record { explicit_policy = b.s0 i; inhibit_policy_mapping = b.s1 i; inhibit_any_policy = b.s2 i; hard = b.s3 i; use_deltas = b.s6 i }; k = b.s4 i; purpose = b.s5 i }) rest)
@@ -317,7 +317,7 @@ joined m o k u p a b o0 o1 o2 o3 o4 o5 o6 o7 e0 e1 e2 e3 e4 e5 e6 =
     ∙ ap (λ l. u ++ l) (append_assoc p (a ++ b) o7
     ∙ ap (λ l. p ++ l) (append_assoc a b o7)))))
 
-terms_take : (octets : List ℕ) (t : Terms) (rest : List ℕ) → IsBytes octets → terms_at octets ≡ Some (t, rest) → Takes octets (terms_spelling t) rest × Termed t
+terms_take : (octets : List ℕ) (t : Terms) (rest : List ℕ) → IsBytes octets → terms_at octets ≡ Some (t, rest) → Takes octets (terms_encoding t) rest × Termed t
 unfolding terms_at
 terms_take octets t rest bytes is =
     step number64 octets after_moment (t, rest) bytes is
@@ -330,8 +330,8 @@ terms_take octets t rest bytes is =
     (λ b o7 e6 b7 f6 h6.
     let small : Fits64 w64 m = record { fits = f0 } in
     let one = of_z-to_z w64 m f0 in
-    made terms_spelling Termed octets o7 (terms_of m p k u ps a b) t rest h6
-    (joined (to_be_bytes w64 (cast_unsigned w64 (cast_signed w64 m))) (flags_octet p.flags (is_some k) (is_some u)) (optional (to_be_bytes w32) k) (optional blob8 u) (policies_spelling ps) (subtrees_spelling a) (subtrees_spelling b) octets o1 o2 o3 o4 o5 o6 o7
+    made terms_encoding Termed octets o7 (terms_of m p k u ps a b) t rest h6
+    (joined (to_be_bytes w64 (cast_unsigned w64 (cast_signed w64 m))) (flags_octet p.flags (is_some k) (is_some u)) (optional (to_be_bytes w32) k) (optional blob8 u) (policies_encoding ps) (subtrees_encoding a) (subtrees_encoding b) octets o1 o2 o3 o4 o5 o6 o7
     (e0 ∙ ap (λ n. to_be_bytes w64 n ++ o1) (sym one))
     (e1 ∙ ap (λ b. flags_octet p.flags b p.purpose ∷ o2) (sym f2.1) ∙ ap (λ b. flags_octet p.flags (is_some k) b ∷ o2) (sym f3.1)) e2 e3 e4 e5 e6)
     b7
@@ -345,18 +345,18 @@ terms_take octets t rest bytes is =
     })
     )))))))
 
-terms_again : (t : Terms) (rest : List ℕ) → Termed t → terms_at (terms_spelling t ++ rest) ≡ Some (t, rest)
+terms_again : (t : Terms) (rest : List ℕ) → Termed t → terms_at (terms_encoding t ++ rest) ≡ Some (t, rest)
 unfolding terms_at
 terms_again t rest fit =
     let w = within_parts t fit.within in
     let p : Presence = record { flags = t.flags; k = is_some t.k; purpose = is_some t.purpose } in
     let m = cast_unsigned w64 t.moment in
-    let o6 = subtrees_spelling t.excluded_subtrees ++ rest in
-    let o5 = subtrees_spelling t.permitted_subtrees ++ o6 in
-    let o4 = policies_spelling t.user_policies ++ o5 in
+    let o6 = subtrees_encoding t.excluded_subtrees ++ rest in
+    let o5 = subtrees_encoding t.permitted_subtrees ++ o6 in
+    let o4 = policies_encoding t.user_policies ++ o5 in
     let o3 = optional blob8 t.purpose ++ o4 in
     let o2 = optional (to_be_bytes w32) t.k ++ o3 in
-    let o1 = presence_spelling p ++ o2 in
+    let o1 = presence_encoding p ++ o2 in
     let few : length t.user_policies ≤ 32 = leb-true (length t.user_policies) 32 w.policies in
     let small : m < 2 ^ 64 = (let b : Fits64 w64 m = Fits-of_z fit.fits.moment in b.fits) in
     let r0 = number64.again m o1 small in
@@ -367,7 +367,7 @@ terms_again t rest fit =
     let r5 = subtrees_part.again t.permitted_subtrees o6 (subtrees_fit t.permitted_subtrees w.permitted) in
     let r6 = subtrees_part.again t.excluded_subtrees rest (subtrees_fit t.excluded_subtrees w.excluded) in
     let z = to_z-of_z w64 t.moment fit.fits.moment in
-    let all : terms_spelling t ++ rest ≡ to_be_bytes w64 m ++ o1 = sym (joined (to_be_bytes w64 m) (flags_octet t.flags (is_some t.k) (is_some t.purpose)) (optional (to_be_bytes w32) t.k) (optional blob8 t.purpose) (policies_spelling t.user_policies) (subtrees_spelling t.permitted_subtrees) (subtrees_spelling t.excluded_subtrees) (to_be_bytes w64 m ++ o1) o1 o2 o3 o4 o5 o6 rest refl refl refl refl refl refl refl) in
+    let all : terms_encoding t ++ rest ≡ to_be_bytes w64 m ++ o1 = sym (joined (to_be_bytes w64 m) (flags_octet t.flags (is_some t.k) (is_some t.purpose)) (optional (to_be_bytes w32) t.k) (optional blob8 t.purpose) (policies_encoding t.user_policies) (subtrees_encoding t.permitted_subtrees) (subtrees_encoding t.excluded_subtrees) (to_be_bytes w64 m ++ o1) o1 o2 o3 o4 o5 o6 rest refl refl refl refl refl refl refl) in
     ap terms_at all
     ∙ ap (λ r. r >>= after_moment) r0
     ∙ ap (λ r. r >>= after_presence m) r1
@@ -378,7 +378,7 @@ terms_again t rest fit =
     ∙ ap (λ r. r >>= λ excluded. answer (terms_of m p t.k t.purpose t.user_policies t.permitted_subtrees excluded.0) excluded.1) r6
     ∙ ap (λ y. answer (record t { moment = y }) rest) z
 
-terms_part : Part terms_spelling Termed terms_at
+terms_part : Part terms_encoding Termed terms_at
 terms_part = record { takes = terms_take; again = terms_again }
 
 -- ---- the certificates
@@ -413,26 +413,26 @@ after_anchor anchor = certificates_at 16 anchor.1 >>= chain_of anchor.0
 abbrev search_of : List (List ℕ) × List ℕ → Option (Target × List ℕ)
 search_of cs = answer (Search cs.0) cs.1
 
-target_take : (kind : ℕ) (octets : List ℕ) (t : Target) (rest : List ℕ) → IsBytes octets → target_at kind octets ≡ Some (t, rest) → Takes octets (target_spelling t) rest × Targeted kind t
+target_take : (kind : ℕ) (octets : List ℕ) (t : Target) (rest : List ℕ) → IsBytes octets → target_at kind octets ≡ Some (t, rest) → Takes octets (target_encoding t) rest × Targeted kind t
 unfolding target_at
 target_take zero octets t rest bytes is = absurd (cc is)
 target_take (suc zero) octets t rest bytes is =
     step (octets_part 32) octets after_anchor (t, rest) bytes is
     (λ anchor o1 e0 b1 f0 h0. step (certificates_part 16) o1 (chain_of anchor) (t, rest) b1 h0
-    (λ cs o2 e1 b2 f1 h1. made target_spelling (Targeted 1) octets o2 (Chain anchor cs) t rest h1
-    (e0 ∙ ap (λ l. anchor ++ l) e1 ∙ sym (append_assoc anchor (certificates_spelling cs) o2)) b2
+    (λ cs o2 e1 b2 f1 h1. made target_encoding (Targeted 1) octets o2 (Chain anchor cs) t rest h1
+    (e0 ∙ ap (λ l. anchor ++ l) e1 ∙ sym (append_assoc anchor (certificates_encoding cs) o2)) b2
     (record { fits = f0; within = certificates_within 16 cs f1.1 f1.2; kind_is = refl })))
 target_take (suc (suc zero)) octets t rest bytes is =
     step (certificates_part 33) octets search_of (t, rest) bytes is
-    (λ cs o1 e0 b1 f0 h0. made target_spelling (Targeted 2) octets o1 (Search cs) t rest h0 e0 b1
+    (λ cs o1 e0 b1 f0 h0. made target_encoding (Targeted 2) octets o1 (Search cs) t rest h0 e0 b1
     (record { fits = tt; within = certificates_within 33 cs f0.1 f0.2; kind_is = refl }))
 target_take (suc (suc (suc kind))) octets t rest bytes is = absurd (cc is)
 
-target_again : (t : Target) (rest : List ℕ) → TargetFits t → is_target t ≡ true → target_at (kind_of t) (target_spelling t ++ rest) ≡ Some (t, rest)
+target_again : (t : Target) (rest : List ℕ) → TargetFits t → is_target t ≡ true → target_at (kind_of t) (target_encoding t ++ rest) ≡ Some (t, rest)
 unfolding target_at
 target_again (Chain anchor cs) rest fits within =
-    ap (target_at 1) (append_assoc anchor (certificates_spelling cs) rest)
-    ∙ ap (λ r. r >>= after_anchor) ((octets_part 32).again anchor (certificates_spelling cs ++ rest) fits)
+    ap (target_at 1) (append_assoc anchor (certificates_encoding cs) rest)
+    ∙ ap (λ r. r >>= after_anchor) ((octets_part 32).again anchor (certificates_encoding cs ++ rest) fits)
     ∙ ap (λ r. r >>= chain_of anchor) ((certificates_part 16).again cs rest (certificates_fit 16 cs (omega arith) within))
 target_again (Search cs) rest fits within =
     ap (λ r. r >>= search_of) ((certificates_part 33).again cs rest (certificates_fit 33 cs (omega arith) within))
@@ -448,44 +448,44 @@ after_terms kind terms = target_at kind terms.1 >>= λ target. answer (asked_of 
 abbrev after_kind : ℕ × List ℕ → Option (Asked × List ℕ)
 after_kind kind = terms_at kind.1 >>= after_terms kind.0
 
-target_part : (kind : ℕ) → Part target_spelling (Targeted kind) (target_at kind)
+target_part : (kind : ℕ) → Part target_encoding (Targeted kind) (target_at kind)
 target_part kind = record {
   takes = target_take kind;
-  again = λ t rest fit. ap (λ k. target_at k (target_spelling t ++ rest)) (sym fit.kind_is) ∙ target_again t rest fit.fits fit.within;
+  again = λ t rest fit. ap (λ k. target_at k (target_encoding t ++ rest)) (sym fit.kind_is) ∙ target_again t rest fit.fits fit.within;
 }
 
-question_take : (octets : List ℕ) (q : Asked) (rest : List ℕ) → IsBytes octets → question_at octets ≡ Some (q, rest) → Takes octets (spelling q) rest × Fits q
+question_take : (octets : List ℕ) (q : Asked) (rest : List ℕ) → IsBytes octets → question_at octets ≡ Some (q, rest) → Takes octets (encoding q) rest × Fits q
 unfolding question_at
 question_take octets q rest bytes is =
     step octet_part octets after_kind (q, rest) bytes is
     (λ kind o1 e0 b1 f0 h0. step terms_part o1 (after_terms kind) (q, rest) b1 h0
     (λ terms o2 e1 b2 f1 h1. step (target_part kind) o2 (λ target. answer (asked_of terms target.0) target.1) (q, rest) b2 h1
-    (λ target o3 e2 b3 f2 h2. made spelling Fits octets o3 (asked_of terms target) q rest h2
-    (e0 ∙ ap (λ k. k ∷ o1) (sym f2.kind_is) ∙ ap (λ l. kind_of target ∷ l) (e1 ∙ ap (λ l. terms_spelling terms ++ l) e2 ∙ sym (append_assoc (terms_spelling terms) (target_spelling target) o3))) b3
+    (λ target o3 e2 b3 f2 h2. made encoding Fits octets o3 (asked_of terms target) q rest h2
+    (e0 ∙ ap (λ k. k ∷ o1) (sym f2.kind_is) ∙ ap (λ l. kind_of target ∷ l) (e1 ∙ ap (λ l. terms_encoding terms ++ l) e2 ∙ sym (append_assoc (terms_encoding terms) (target_encoding target) o3))) b3
     (record { terms = f1.fits; target = f2.fits; within = both_true (are_terms terms) (is_target target) f1.within f2.within }))))
 
-question_again : (q : Asked) (rest : List ℕ) → Fits q → question_at (spelling q ++ rest) ≡ Some (q, rest)
+question_again : (q : Asked) (rest : List ℕ) → Fits q → question_at (encoding q ++ rest) ≡ Some (q, rest)
 unfolding question_at
 question_again q rest fit =
     let terms = first_true (are_terms q.terms) (is_target q.target) fit.within in
     let target = second_true (are_terms q.terms) (is_target q.target) fit.within in
-    ap (λ l. terms_at l >>= after_terms (kind_of q.target)) (append_assoc (terms_spelling q.terms) (target_spelling q.target) rest)
-    ∙ ap (λ r. r >>= after_terms (kind_of q.target)) (terms_again q.terms (target_spelling q.target ++ rest) (record { fits = fit.terms; within = terms }))
+    ap (λ l. terms_at l >>= after_terms (kind_of q.target)) (append_assoc (terms_encoding q.terms) (target_encoding q.target) rest)
+    ∙ ap (λ r. r >>= after_terms (kind_of q.target)) (terms_again q.terms (target_encoding q.target ++ rest) (record { fits = fit.terms; within = terms }))
     ∙ ap (λ r. r >>= λ target. answer (asked_of q.terms target.0) target.1) (target_again q.target rest fit.target target)
 
-pub question_part : Part spelling Fits question_at
+pub question_part : Part encoding Fits question_at
 question_part = record { takes = question_take; again = question_again }
 
--- no two questions have one spelling
-pub one_question : (q other : Asked) → Fits q → Fits other → spelling q ≡ spelling other → q ≡ other
+-- no two questions have one encoding
+pub one_question : (q other : Asked) → Fits q → Fits other → encoding q ≡ encoding other → q ≡ other
 one_question q other fit too is = some_is q other (sym (whole_again question_part q fit) ∙ ap (λ l. whole (question_at l)) is ∙ whole_again question_part other too)
 
 -- what the octets are
-pub only_one : (octets : List ℕ) (x q : Asked) → IsBytes octets → whole (question_at octets) ≡ Some x → Fits q → octets ≡ spelling q → x ≡ q
-only_one octets x q bytes is fit spelled = some_is x q (sym is ∙ ap (λ l. whole (question_at l)) spelled ∙ whole_again question_part q fit)
+pub only_one : (octets : List ℕ) (x q : Asked) → IsBytes octets → whole (question_at octets) ≡ Some x → Fits q → octets ≡ encoding q → x ≡ q
+only_one octets x q bytes is fit encoded = some_is x q (sym is ∙ ap (λ l. whole (question_at l)) encoded ∙ whole_again question_part q fit)
 
-pub not_none : (octets : List ℕ) (q : Asked) → whole (question_at octets) ≡ None → Fits q → octets ≡ spelling q → ⊥
-not_none octets q is fit spelled = absurd (none_some q (sym is ∙ ap (λ l. whole (question_at l)) spelled ∙ whole_again question_part q fit))
+pub not_none : (octets : List ℕ) (q : Asked) → whole (question_at octets) ≡ None → Fits q → octets ≡ encoding q → ⊥
+not_none octets q is fit encoded = absurd (none_some q (sym is ∙ ap (λ l. whole (question_at l)) encoded ∙ whole_again question_part q fit))
   where
     none_some : (x : Asked) → None ≡ Some x → ⊥
     none_some x e = cc e

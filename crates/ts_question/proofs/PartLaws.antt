@@ -1,4 +1,4 @@
--- A part is read in one way: what is read is spelled so, and what is spelled so is read.
+-- A part is read in one way: what is read is encoded so, and what is encoded so is read.
 use Rattle.std.proofs.Common.{◌≡◌, ℕ, zero, suc, ◌+◌, ◌^◌, ◌<◌, ◌≤◌, Bool, true, false, cond, ltb, eqb, List, [], ◌∷◌, ◌++◌, length, get_or, take, drop, Option, Some, None, refl, sym, ap, subst, ◌∙◌, append_assoc, arith, inl, inr}
 use Rattle.std.specs.Prelude.{IfSome, is_some}
 use Rattle.std.specs.List.{flat_map, AllByRecursion}
@@ -25,23 +25,23 @@ IsBytes-take n bytes h i =
     ]
 
 -- what a reader took from the front
-pub record Takes (octets spelled rest : List ℕ) : Type 0 where
-  pub is : octets ≡ spelled ++ rest
+pub record Takes (octets encoded rest : List ℕ) : Type 0 where
+  pub is : octets ≡ encoded ++ rest
   pub more : IsBytes rest
 
--- the values that fit have a spelling each, and are read by it
-pub record Part {A : Type 0} (spell : A → List ℕ) (Fit : A → Type 0) (read : List ℕ → Option (A × List ℕ)) : Type 0 where
-  pub takes : (octets : List ℕ) (x : A) (rest : List ℕ) → IsBytes octets → read octets ≡ Some (x, rest) → Takes octets (spell x) rest × Fit x
-  pub again : (x : A) (rest : List ℕ) → Fit x → read (spell x ++ rest) ≡ Some (x, rest)
+-- the values that fit have an encoding each, and are read by it
+pub record Part {A : Type 0} (encode : A → List ℕ) (Fit : A → Type 0) (read : List ℕ → Option (A × List ℕ)) : Type 0 where
+  pub takes : (octets : List ℕ) (x : A) (rest : List ℕ) → IsBytes octets → read octets ≡ Some (x, rest) → Takes octets (encode x) rest × Fit x
+  pub again : (x : A) (rest : List ℕ) → Fit x → read (encode x ++ rest) ≡ Some (x, rest)
 
 -- a value and the octets after it
 abbrev pub answer : {A : Type 0} → A → List ℕ → Option (A × List ℕ)
 answer x rest = Some (x, rest)
 
 -- the first step of a reading, and what follows from the others
-pub step : {A B P : Type 0} {spell : A → List ℕ} {Fit : A → Type 0} {read : List ℕ → Option (A × List ℕ)} (part : Part spell Fit read) (octets : List ℕ) (f : A × List ℕ → Option B) (y : B)
+pub step : {A B P : Type 0} {encode : A → List ℕ} {Fit : A → Type 0} {read : List ℕ → Option (A × List ℕ)} (part : Part encode Fit read) (octets : List ℕ) (f : A × List ℕ → Option B) (y : B)
     → IsBytes octets → (read octets >>= f) ≡ Some y
-    → ((x : A) (rest : List ℕ) → octets ≡ spell x ++ rest → IsBytes rest → Fit x → f (x, rest) ≡ Some y → P) → P
+    → ((x : A) (rest : List ℕ) → octets ≡ encode x ++ rest → IsBytes rest → Fit x → f (x, rest) ≡ Some y → P) → P
 step {A = A} {B = B} {P = P} {read = read} part octets f y bytes is go = by (read octets) refl is
   where
     by : (r : Option (A × List ℕ)) → read octets ≡ r → (r >>= f) ≡ Some y → P
@@ -62,9 +62,9 @@ provided_is false x y is go = absurd (cc is)
 pub some_is : {A : Type 0} (x y : A) → Some x ≡ Some y → x ≡ y
 some_is {A} x y e = let e : (let s : Option A = Some x in s) ≡ Some y = e in cc
 
-pub made : {A : Type 0} (spell : A → List ℕ) (Fit : A → Type 0) (octets after : List ℕ) (y x : A) (rest : List ℕ) → answer y after ≡ answer x rest → octets ≡ spell y ++ after → IsBytes after → Fit y → Takes octets (spell x) rest × Fit x
-made {A} spell Fit octets after y x rest e is bytes fit =
-    subst (λ (z : A × List ℕ). Takes octets (spell z.0) z.1 × Fit z.0) (some_is {A = A × List ℕ} (y, after) (x, rest) e) (record { is = is; more = bytes }, fit)
+pub made : {A : Type 0} (encode : A → List ℕ) (Fit : A → Type 0) (octets after : List ℕ) (y x : A) (rest : List ℕ) → answer y after ≡ answer x rest → octets ≡ encode y ++ after → IsBytes after → Fit y → Takes octets (encode x) rest × Fit x
+made {A} encode Fit octets after y x rest e is bytes fit =
+    subst (λ (z : A × List ℕ). Takes octets (encode z.0) z.1 × Fit z.0) (some_is {A = A × List ℕ} (y, after) (x, rest) e) (record { is = is; more = bytes }, fit)
 
 -- ---- octets and numbers
 
@@ -158,22 +158,22 @@ octets_part n = record { takes = takes; again = again }
 
 -- ---- blobs
 
--- behind a number, that many octets
-counted : (spell : ℕ → List ℕ) (limit : ℕ) (read : List ℕ → Option (ℕ × List ℕ)) → Part spell (λ n. n < limit) read
-    → Part (λ x. spell (length x) ++ x) (λ x. length x < limit) (λ octets. read octets >>= λ n. octets_at n.0 n.1)
-counted spell limit read size = record { takes = takes; again = again }
+-- after a number, that many octets
+counted : (encode : ℕ → List ℕ) (limit : ℕ) (read : List ℕ → Option (ℕ × List ℕ)) → Part encode (λ n. n < limit) read
+    → Part (λ x. encode (length x) ++ x) (λ x. length x < limit) (λ octets. read octets >>= λ n. octets_at n.0 n.1)
+counted encode limit read size = record { takes = takes; again = again }
   where
-    takes : (octets x rest : List ℕ) → IsBytes octets → (read octets >>= λ n. octets_at n.0 n.1) ≡ Some (x, rest) → Takes octets (spell (length x) ++ x) rest × (length x < limit)
+    takes : (octets x rest : List ℕ) → IsBytes octets → (read octets >>= λ n. octets_at n.0 n.1) ≡ Some (x, rest) → Takes octets (encode (length x) ++ x) rest × (length x < limit)
     takes octets x rest bytes is =
         step size octets (λ n. octets_at n.0 n.1) (x, rest) bytes is
         (λ n after first more fit e.
         let t = (octets_part n).takes after x rest more e in
-        let all : octets ≡ (spell (length x) ++ x) ++ rest = first ∙ ap (λ l. spell n ++ l) t.0.is ∙ sym (append_assoc (spell n) x rest) ∙ ap (λ k. (spell k ++ x) ++ rest) (sym t.1) in
+        let all : octets ≡ (encode (length x) ++ x) ++ rest = first ∙ ap (λ l. encode n ++ l) t.0.is ∙ sym (append_assoc (encode n) x rest) ∙ ap (λ k. (encode k ++ x) ++ rest) (sym t.1) in
         (record { is = all; more = t.0.more }, omega (arith, fit, t.1)))
 
-    again : (x rest : List ℕ) → length x < limit → (read ((spell (length x) ++ x) ++ rest) >>= λ n. octets_at n.0 n.1) ≡ Some (x, rest)
+    again : (x rest : List ℕ) → length x < limit → (read ((encode (length x) ++ x) ++ rest) >>= λ n. octets_at n.0 n.1) ≡ Some (x, rest)
     again x rest fit =
-        ap (λ l. read l >>= λ n. octets_at n.0 n.1) (append_assoc (spell (length x)) x rest)
+        ap (λ l. read l >>= λ n. octets_at n.0 n.1) (append_assoc (encode (length x)) x rest)
         ∙ rw (size.again (length x) (x ++ rest) fit) ((octets_part (length x)).again x rest refl)
 
 pub blob8_part : Part blob8 (λ x. length x < 256) blob8_at
@@ -188,86 +188,86 @@ pub blob32_part : Part blob32 (λ x. length x < 2 ^ 32) blob32_at
 unfolding blob32_at
 blob32_part = counted (to_be_bytes w32) (2 ^ 32) (number_at w32) number32
 
--- ---- a test, a part that may be absent, and items one behind another
+-- ---- a test, a part that may be absent, and items one after another
 
 -- values that meet a test, too
-pub tested : {A : Type 0} {spell : A → List ℕ} {Fit : A → Type 0} {read : List ℕ → Option (A × List ℕ)} (part : Part spell Fit read) (holds : A → Bool)
-    → Part spell (λ x. Fit x × (holds x ≡ true)) (λ octets. read octets >>= λ x. provided (holds x.0) x)
-tested {A} {spell} {Fit} {read} part holds = record { takes = takes; again = again }
+pub tested : {A : Type 0} {encode : A → List ℕ} {Fit : A → Type 0} {read : List ℕ → Option (A × List ℕ)} (part : Part encode Fit read) (holds : A → Bool)
+    → Part encode (λ x. Fit x × (holds x ≡ true)) (λ octets. read octets >>= λ x. provided (holds x.0) x)
+tested {A} {encode} {Fit} {read} part holds = record { takes = takes; again = again }
   where
-    takes : (octets : List ℕ) (x : A) (rest : List ℕ) → IsBytes octets → (read octets >>= λ x. provided (holds x.0) x) ≡ Some (x, rest) → Takes octets (spell x) rest × (Fit x × (holds x ≡ true))
+    takes : (octets : List ℕ) (x : A) (rest : List ℕ) → IsBytes octets → (read octets >>= λ x. provided (holds x.0) x) ≡ Some (x, rest) → Takes octets (encode x) rest × (Fit x × (holds x ≡ true))
     takes octets x rest bytes is =
         step part octets (λ x. provided (holds x.0) x) (x, rest) bytes is
         (λ y after first more fit e. provided_is (holds y) (y, after) (x, rest) e
-        (λ good same. subst (λ (p : A × List ℕ). Takes octets (spell p.0) p.1 × (Fit p.0 × (holds p.0 ≡ true))) same (record { is = first; more = more }, (fit, good))))
+        (λ good same. subst (λ (p : A × List ℕ). Takes octets (encode p.0) p.1 × (Fit p.0 × (holds p.0 ≡ true))) same (record { is = first; more = more }, (fit, good))))
 
-    again : (x : A) (rest : List ℕ) → Fit x × (holds x ≡ true) → (read (spell x ++ rest) >>= λ x. provided (holds x.0) x) ≡ Some (x, rest)
+    again : (x : A) (rest : List ℕ) → Fit x × (holds x ≡ true) → (read (encode x ++ rest) >>= λ x. provided (holds x.0) x) ≡ Some (x, rest)
     again x rest fit = rw (part.again x rest fit.0, fit.1) refl
 
-pub optional_part : {A : Type 0} {spell : A → List ℕ} {Fit : A → Type 0} {read : List ℕ → Option (A × List ℕ)} (part : Part spell Fit read) (there : Bool)
-    → Part (optional spell) (λ x. IfSome x Fit × (is_some x ≡ there)) (optional_at read there)
+pub optional_part : {A : Type 0} {encode : A → List ℕ} {Fit : A → Type 0} {read : List ℕ → Option (A × List ℕ)} (part : Part encode Fit read) (there : Bool)
+    → Part (optional encode) (λ x. IfSome x Fit × (is_some x ≡ there)) (optional_at read there)
 unfolding optional_at
-optional_part {A} {spell} {Fit} {read} part true = record { takes = takes; again = again }
+optional_part {A} {encode} {Fit} {read} part true = record { takes = takes; again = again }
   where
-    takes : (octets : List ℕ) (x : Option A) (rest : List ℕ) → IsBytes octets → (read octets >>= λ y. answer (Some y.0) y.1) ≡ Some (x, rest) → Takes octets (optional spell x) rest × (IfSome x Fit × (is_some x ≡ true))
+    takes : (octets : List ℕ) (x : Option A) (rest : List ℕ) → IsBytes octets → (read octets >>= λ y. answer (Some y.0) y.1) ≡ Some (x, rest) → Takes octets (optional encode x) rest × (IfSome x Fit × (is_some x ≡ true))
     takes octets x rest bytes is =
         step part octets (λ y. answer (Some y.0) y.1) (x, rest) bytes is
-        (λ y after first more fit e. made {A = Option A} (optional spell) (λ x. IfSome x Fit × (is_some x ≡ true)) octets after (Some y) x rest e first more (fit, refl))
+        (λ y after first more fit e. made {A = Option A} (optional encode) (λ x. IfSome x Fit × (is_some x ≡ true)) octets after (Some y) x rest e first more (fit, refl))
 
-    again : (x : Option A) (rest : List ℕ) → IfSome x Fit × (is_some x ≡ true) → (read (optional spell x ++ rest) >>= λ y. answer (Some y.0) y.1) ≡ Some (x, rest)
+    again : (x : Option A) (rest : List ℕ) → IfSome x Fit × (is_some x ≡ true) → (read (optional encode x ++ rest) >>= λ y. answer (Some y.0) y.1) ≡ Some (x, rest)
     again None rest fit = absurd (cc fit.1)
     again (Some y) rest fit = rw (part.again y rest fit.0) refl
-optional_part {A} {spell} {Fit} {read} part false = record { takes = takes; again = again }
+optional_part {A} {encode} {Fit} {read} part false = record { takes = takes; again = again }
   where
-    takes : (octets : List ℕ) (x : Option A) (rest : List ℕ) → IsBytes octets → answer None octets ≡ answer x rest → Takes octets (optional spell x) rest × (IfSome x Fit × (is_some x ≡ false))
-    takes octets x rest bytes is = made {A = Option A} (optional spell) (λ x. IfSome x Fit × (is_some x ≡ false)) octets octets None x rest is refl bytes (tt, refl)
+    takes : (octets : List ℕ) (x : Option A) (rest : List ℕ) → IsBytes octets → answer None octets ≡ answer x rest → Takes octets (optional encode x) rest × (IfSome x Fit × (is_some x ≡ false))
+    takes octets x rest bytes is = made {A = Option A} (optional encode) (λ x. IfSome x Fit × (is_some x ≡ false)) octets octets None x rest is refl bytes (tt, refl)
 
-    again : (x : Option A) (rest : List ℕ) → IfSome x Fit × (is_some x ≡ false) → answer None (optional spell x ++ rest) ≡ answer x rest
+    again : (x : Option A) (rest : List ℕ) → IfSome x Fit × (is_some x ≡ false) → answer None (optional encode x ++ rest) ≡ answer x rest
     again None rest fit = refl
     again (Some y) rest fit = absurd (cc fit.1)
 
-one_more : {A : Type 0} {spell : A → List ℕ} {Fit : A → Type 0} {read : List ℕ → Option (A × List ℕ)} (part : Part spell Fit read) (octets : List ℕ) (xs : List A) (rest : List ℕ) (n : ℕ) (x : A) (after : List ℕ) → octets ≡ spell x ++ after → Fit x → (r : Option (List A × List ℕ))
-    → ((ys : List A) (end : List ℕ) → r ≡ Some (ys, end) → Takes after (flat_map spell ys) end × (AllByRecursion Fit ys × (length ys ≡ n)))
-    → (r >>= λ others. answer (x ∷ others.0) others.1) ≡ Some (xs, rest) → Takes octets (flat_map spell xs) rest × (AllByRecursion Fit xs × (length xs ≡ suc n))
+one_more : {A : Type 0} {encode : A → List ℕ} {Fit : A → Type 0} {read : List ℕ → Option (A × List ℕ)} (part : Part encode Fit read) (octets : List ℕ) (xs : List A) (rest : List ℕ) (n : ℕ) (x : A) (after : List ℕ) → octets ≡ encode x ++ after → Fit x → (r : Option (List A × List ℕ))
+    → ((ys : List A) (end : List ℕ) → r ≡ Some (ys, end) → Takes after (flat_map encode ys) end × (AllByRecursion Fit ys × (length ys ≡ n)))
+    → (r >>= λ others. answer (x ∷ others.0) others.1) ≡ Some (xs, rest) → Takes octets (flat_map encode xs) rest × (AllByRecursion Fit xs × (length xs ≡ suc n))
 one_more part octets xs rest n x after first fit None go e = absurd (cc e)
-one_more {A} {spell} {Fit} part octets xs rest n x after first fit (Some ys) go e =
+one_more {A} {encode} {Fit} part octets xs rest n x after first fit (Some ys) go e =
     let t = go ys.0 ys.1 refl in
-    made {A = List A} (flat_map spell) (λ xs. AllByRecursion Fit xs × (length xs ≡ suc n)) octets ys.1 (x ∷ ys.0) xs rest e
-    (first ∙ ap (λ l. spell x ++ l) t.0.is ∙ sym (append_assoc (spell x) (flat_map spell ys.0) ys.1) ∙ ap (λ l. l ++ ys.1) (sym (flat_map-cons spell x ys.0)))
+    made {A = List A} (flat_map encode) (λ xs. AllByRecursion Fit xs × (length xs ≡ suc n)) octets ys.1 (x ∷ ys.0) xs rest e
+    (first ∙ ap (λ l. encode x ++ l) t.0.is ∙ sym (append_assoc (encode x) (flat_map encode ys.0) ys.1) ∙ ap (λ l. l ++ ys.1) (sym (flat_map-cons encode x ys.0)))
     t.0.more ((fit, t.1.0), ap suc t.1.1)
 
-many_takes : {A : Type 0} {spell : A → List ℕ} {Fit : A → Type 0} {read : List ℕ → Option (A × List ℕ)} (part : Part spell Fit read) (n : ℕ) (octets : List ℕ) (xs : List A) (rest : List ℕ) → IsBytes octets → many_at read n octets ≡ Some (xs, rest) → Takes octets (flat_map spell xs) rest × (AllByRecursion Fit xs × (length xs ≡ n))
+many_takes : {A : Type 0} {encode : A → List ℕ} {Fit : A → Type 0} {read : List ℕ → Option (A × List ℕ)} (part : Part encode Fit read) (n : ℕ) (octets : List ℕ) (xs : List A) (rest : List ℕ) → IsBytes octets → many_at read n octets ≡ Some (xs, rest) → Takes octets (flat_map encode xs) rest × (AllByRecursion Fit xs × (length xs ≡ n))
 unfolding many_at
-many_takes {A} {spell} {Fit} part zero octets xs rest bytes is = made {A = List A} (flat_map spell) (λ xs. AllByRecursion Fit xs × (length xs ≡ 0)) octets octets [] xs rest is refl bytes (tt, refl)
+many_takes {A} {encode} {Fit} part zero octets xs rest bytes is = made {A = List A} (flat_map encode) (λ xs. AllByRecursion Fit xs × (length xs ≡ 0)) octets octets [] xs rest is refl bytes (tt, refl)
 many_takes {read = read} part (suc n) octets xs rest bytes is =
     step part octets (λ first. many_at read n first.1 >>= λ others. answer (first.0 ∷ others.0) others.1) (xs, rest) bytes is
     (λ x after first more fit e. one_more part octets xs rest n x after first fit (many_at read n after) (λ ys end h. many_takes part n after ys end more h) e)
 
-many_again : {A : Type 0} {spell : A → List ℕ} {Fit : A → Type 0} {read : List ℕ → Option (A × List ℕ)} (part : Part spell Fit read) (xs : List A) (rest : List ℕ) → AllByRecursion Fit xs → many_at read (length xs) (flat_map spell xs ++ rest) ≡ Some (xs, rest)
+many_again : {A : Type 0} {encode : A → List ℕ} {Fit : A → Type 0} {read : List ℕ → Option (A × List ℕ)} (part : Part encode Fit read) (xs : List A) (rest : List ℕ) → AllByRecursion Fit xs → many_at read (length xs) (flat_map encode xs ++ rest) ≡ Some (xs, rest)
 unfolding many_at
 many_again part [] rest fit = refl
-many_again {spell = spell} {read = read} part (x ∷ xs) rest fit =
-    ap (many_at read (suc (length xs))) (ap (λ l. l ++ rest) (flat_map-cons spell x xs) ∙ append_assoc (spell x) (flat_map spell xs) rest)
-    ∙ rw (part.again x (flat_map spell xs ++ rest) fit.0, many_again part xs rest fit.1) refl
+many_again {encode = encode} {read = read} part (x ∷ xs) rest fit =
+    ap (many_at read (suc (length xs))) (ap (λ l. l ++ rest) (flat_map-cons encode x xs) ∙ append_assoc (encode x) (flat_map encode xs) rest)
+    ∙ rw (part.again x (flat_map encode xs ++ rest) fit.0, many_again part xs rest fit.1) refl
 
-pub many_part : {A : Type 0} {spell : A → List ℕ} {Fit : A → Type 0} {read : List ℕ → Option (A × List ℕ)} (part : Part spell Fit read) (n : ℕ)
-    → Part (flat_map spell) (λ xs. AllByRecursion Fit xs × (length xs ≡ n)) (many_at read n)
-many_part {spell = spell} {read = read} part n = record {
+pub many_part : {A : Type 0} {encode : A → List ℕ} {Fit : A → Type 0} {read : List ℕ → Option (A × List ℕ)} (part : Part encode Fit read) (n : ℕ)
+    → Part (flat_map encode) (λ xs. AllByRecursion Fit xs × (length xs ≡ n)) (many_at read n)
+many_part {encode = encode} {read = read} part n = record {
   takes = λ octets xs rest bytes is. many_takes part n octets xs rest bytes is;
-  again = λ xs rest fit. ap (λ k. many_at read k (flat_map spell xs ++ rest)) (sym fit.1) ∙ many_again part xs rest fit.0;
+  again = λ xs rest fit. ap (λ k. many_at read k (flat_map encode xs ++ rest)) (sym fit.1) ∙ many_again part xs rest fit.0;
 }
 
 -- ---- all of the octets
 
-pub whole_takes : {A : Type 0} {spell : A → List ℕ} {Fit : A → Type 0} {read : List ℕ → Option (A × List ℕ)} (part : Part spell Fit read) (octets : List ℕ) (x : A) → IsBytes octets → whole (read octets) ≡ Some x → Fit x × (octets ≡ spell x)
-whole_takes {A} {spell} {Fit} {read} part octets x bytes is =
+pub whole_takes : {A : Type 0} {encode : A → List ℕ} {Fit : A → Type 0} {read : List ℕ → Option (A × List ℕ)} (part : Part encode Fit read) (octets : List ℕ) (x : A) → IsBytes octets → whole (read octets) ≡ Some x → Fit x × (octets ≡ encode x)
+whole_takes {A} {encode} {Fit} {read} part octets x bytes is =
     step part octets (λ x. provided (eqb (length x.1) 0) x.0) x bytes is
     (λ y after first more fit e. provided_is (eqb (length after) 0) y x e
     (λ ended same.
     let nothing : after ≡ [] = nil_from_length after (eqb-true _ _ ended) in
-    subst (λ (p : A). Fit p × (octets ≡ spell p)) same (fit, first ∙ ap (λ l. spell y ++ l) nothing ∙ append-nil (spell y))))
+    subst (λ (p : A). Fit p × (octets ≡ encode p)) same (fit, first ∙ ap (λ l. encode y ++ l) nothing ∙ append-nil (encode y))))
 
-pub whole_again : {A : Type 0} {spell : A → List ℕ} {Fit : A → Type 0} {read : List ℕ → Option (A × List ℕ)} (part : Part spell Fit read) (x : A) → Fit x → whole (read (spell x)) ≡ Some x
-whole_again {A} {spell} {Fit} {read} part x fit =
-    let e : read (spell x) ≡ Some (x, []) = ap read (sym (append-nil (spell x))) ∙ part.again x [] fit in
+pub whole_again : {A : Type 0} {encode : A → List ℕ} {Fit : A → Type 0} {read : List ℕ → Option (A × List ℕ)} (part : Part encode Fit read) (x : A) → Fit x → whole (read (encode x)) ≡ Some x
+whole_again {A} {encode} {Fit} {read} part x fit =
+    let e : read (encode x) ≡ Some (x, []) = ap read (sym (append-nil (encode x))) ∙ part.again x [] fit in
     rw e refl

@@ -12,7 +12,7 @@ use Rattle.ts_question.specs.declared.reply.Reply.TheVariants.{Valid, Invalid, F
 use Rattle.ts_question.specs.Parts.{blob8}
 use Rattle.ts_question.specs.Reading.{◌>>=◌, provided, octet_at, number_at, blob8_at, many_at, whole, lookup}
 use Rattle.ts_question.specs.QuestionReading.{oid_at}
-use Rattle.ts_question.specs.Reply.{Answered, is_distinct, are_places, are_countable, is_place, is_reply, number_of, detail, reason_spelling, accepted_spelling, tag_of, fields, spelling, DetailFits, FieldsFit, Fits}
+use Rattle.ts_question.specs.Reply.{Answered, is_distinct, are_places, are_countable, is_place, is_reply, number_of, detail, reason_encoding, accepted_encoding, tag_of, fields, encoding, DetailFits, FieldsFit, Fits}
 use Rattle.ts_question.specs.ReplyReading.{accepted_at, plain_reasons, with_rest, detail_at, reason_at, valid_at, invalid_at, found_at, not_yet_at, malformed_at, limit_at, bare, readers, reply_at, answer_at}
 use Rattle.ts_question.proofs.Lengths.{first_true, second_true}
 use Rattle.ts_question.proofs.PartLaws.{IsBytes, Takes, Part, answer, step, test, provided_is, some_is, made, octet_part, number32, octets_part, blob8_part, many_part, whole_again}
@@ -47,7 +47,7 @@ look {A} {B} {P} n rows Q f y all is go = by (lookup n rows) refl is
 abbrev OidFits : List ℕ → Type 0
 OidFits c = (length c < 256) × (is_oid c ≡ true)
 
-accepted_take : (octets : List ℕ) (xs : List (List ℕ)) (rest : List ℕ) → IsBytes octets → accepted_at octets ≡ Some (xs, rest) → Takes octets (accepted_spelling xs) rest × ((length xs < 2 ^ 32) × AllByRecursion OidFits xs)
+accepted_take : (octets : List ℕ) (xs : List (List ℕ)) (rest : List ℕ) → IsBytes octets → accepted_at octets ≡ Some (xs, rest) → Takes octets (accepted_encoding xs) rest × ((length xs < 2 ^ 32) × AllByRecursion OidFits xs)
 unfolding accepted_at
 accepted_take octets xs rest bytes is =
     step number32 octets (λ n. many_at oid_at n.0 n.1) (xs, rest) bytes is
@@ -57,14 +57,14 @@ accepted_take octets xs rest bytes is =
     subst (λ k. Takes octets (to_be_bytes w32 k ++ flat_map blob8 xs) rest × ((k < 2 ^ 32) × AllByRecursion OidFits xs)) (sym t.1.1)
     (record { is = all; more = t.0.more }, (fit, t.1.0)))
 
-accepted_again : (xs : List (List ℕ)) (rest : List ℕ) → (length xs < 2 ^ 32) × AllByRecursion OidFits xs → accepted_at (accepted_spelling xs ++ rest) ≡ Some (xs, rest)
+accepted_again : (xs : List (List ℕ)) (rest : List ℕ) → (length xs < 2 ^ 32) × AllByRecursion OidFits xs → accepted_at (accepted_encoding xs ++ rest) ≡ Some (xs, rest)
 unfolding accepted_at
 accepted_again xs rest fit =
     ap (λ l. number_at w32 l >>= λ n. many_at oid_at n.0 n.1) (append_assoc (to_be_bytes w32 (length xs)) (flat_map blob8 xs) rest)
     ∙ ap (λ r. r >>= λ n. many_at oid_at n.0 n.1) (number32.again (length xs) (flat_map blob8 xs ++ rest) fit.0)
     ∙ (many_part oid_part (length xs)).again xs rest (fit.1, refl)
 
-accepted_part : Part accepted_spelling (λ xs. (length xs < 2 ^ 32) × AllByRecursion OidFits xs) accepted_at
+accepted_part : Part accepted_encoding (λ xs. (length xs < 2 ^ 32) × AllByRecursion OidFits xs) accepted_at
 accepted_part = record { takes = accepted_take; again = accepted_again }
 
 countable : (xs : List (List ℕ)) → length xs < 2 ^ 32 → are_countable xs ≡ true
@@ -149,7 +149,7 @@ detail_again (CriticalExtension oid) rest fit = ap (λ r. r >>= extension_of) (o
 detail_again FinalPolicy rest fit = refl
 detail_again Purpose rest fit = refl
 
-reason_take : (octets : List ℕ) (r : Reason) (rest : List ℕ) → IsBytes octets → reason_at octets ≡ Some (r, rest) → Takes octets (reason_spelling r) rest × DetailFits r
+reason_take : (octets : List ℕ) (r : Reason) (rest : List ℕ) → IsBytes octets → reason_at octets ≡ Some (r, rest) → Takes octets (reason_encoding r) rest × DetailFits r
 unfolding reason_at
 reason_take octets r rest bytes is =
     step octet_part octets (λ n. detail_at n.0 n.1) (r, rest) bytes is
@@ -157,11 +157,11 @@ reason_take octets r rest bytes is =
     let t = detail_take n after r rest more e in
     (record { is = first ∙ ap (λ l. n ∷ l) t.0.is ∙ ap (λ k. k ∷ (detail r ++ rest)) (sym t.1.number); more = t.0.more }, t.1.fits))
 
-reason_again : (r : Reason) (rest : List ℕ) → DetailFits r → reason_at (reason_spelling r ++ rest) ≡ Some (r, rest)
+reason_again : (r : Reason) (rest : List ℕ) → DetailFits r → reason_at (reason_encoding r ++ rest) ≡ Some (r, rest)
 unfolding reason_at
 reason_again r rest fit = detail_again r rest fit
 
-reason_part : Part reason_spelling DetailFits reason_at
+reason_part : Part reason_encoding DetailFits reason_at
 reason_part = record { takes = reason_take; again = reason_again }
 
 -- ---- replies
@@ -172,7 +172,7 @@ pub record Replied (k n : ℕ) (r : Reply) : Type 0 where
   pub within : is_reply k r ≡ true
   pub tag : tag_of r ≡ n
 
--- what is read behind a tag is a reply of this tag
+-- what is read after a tag is a reply of this tag
 abbrev Reads : ℕ → ℕ → (List ℕ → Option (Reply × List ℕ)) → Type 0
 Reads k n read = (octets : List ℕ) (r : Reply) (rest : List ℕ) → IsBytes octets → read octets ≡ Some (r, rest) → Takes octets (fields r) rest × Replied k n r
 
@@ -188,7 +188,7 @@ valid_take k octets r rest bytes is =
     step (octets_part 32) octets after_anchor (r, rest) bytes is
     (λ anchor o1 e0 b1 f0 h0. step accepted_part o1 (valid_of anchor) (r, rest) b1 h0
     (λ ps o2 e1 b2 f1 h1. made fields (Replied k 1) octets o2 (Valid anchor ps) r rest h1
-    (e0 ∙ ap (λ l. anchor ++ l) e1 ∙ sym (append_assoc anchor (accepted_spelling ps) o2)) b2
+    (e0 ∙ ap (λ l. anchor ++ l) e1 ∙ sym (append_assoc anchor (accepted_encoding ps) o2)) b2
     (record { fits = (f0, are_oids ps f1.1); within = countable ps f1.0; tag = refl })))
 
 abbrev invalid_of : ℕ → Reason × List ℕ → Option (Reply × List ℕ)
@@ -229,7 +229,7 @@ found_take k octets r rest bytes is =
     (λ places o2 e1 b2 f1 h1. test (are_places places) (places, o2) (after_places anchor) (r, rest) h1
     (λ good h. step accepted_part o2 (found_of anchor places) (r, rest) b2 h
     (λ ps o3 e2 b3 f2 h2. made fields (Replied k 3) octets o3 (Found anchor places ps) r rest h2
-    (e0 ∙ ap (λ l. anchor ++ l) (e1 ∙ ap (λ l. blob8 places ++ l) e2 ∙ sym (append_assoc (blob8 places) (accepted_spelling ps) o3)) ∙ sym (append_assoc anchor (blob8 places ++ accepted_spelling ps) o3)) b3
+    (e0 ∙ ap (λ l. anchor ++ l) (e1 ∙ ap (λ l. blob8 places ++ l) e2 ∙ sym (append_assoc (blob8 places) (accepted_encoding ps) o3)) ∙ sym (append_assoc anchor (blob8 places ++ accepted_encoding ps) o3)) b3
     (record { fits = (f0, are_oids ps f2.1); within = both_true (are_places places) (are_countable ps) good (countable ps f2.0); tag = refl })))))
 
 bare_take : (k n : ℕ) (reply : Reply) → fields reply ≡ [] → FieldsFit reply → is_reply k reply ≡ true → tag_of reply ≡ n → Reads k n (bare reply)
@@ -294,18 +294,18 @@ are_few places good = first_true (nat_le (length places) 255) (slice_index place
 reply_again : (k : ℕ) (r : Reply) (rest : List ℕ) → FieldsFit r → is_reply k r ≡ true → reply_at k (tag_of r) (fields r ++ rest) ≡ Some (r, rest)
 unfolding reply_at valid_at invalid_at found_at not_yet_at malformed_at limit_at
 reply_again k (Valid anchor ps) rest fit within =
-    ap valid_at (append_assoc anchor (accepted_spelling ps) rest)
-    ∙ ap (λ r. r >>= after_anchor) ((octets_part 32).again anchor (accepted_spelling ps ++ rest) fit.0)
+    ap valid_at (append_assoc anchor (accepted_encoding ps) rest)
+    ∙ ap (λ r. r >>= after_anchor) ((octets_part 32).again anchor (accepted_encoding ps ++ rest) fit.0)
     ∙ ap (λ r. r >>= valid_of anchor) (accepted_again ps rest (accepted_fit ps within fit.1))
 reply_again k (Invalid p reason) rest fit within =
     rw within (ap (λ r. r >>= invalid_of p) (reason_again reason rest fit))
 reply_again k (Found anchor places ps) rest fit within =
     let good = first_true (are_places places) (are_countable ps) within in
     let few : length places ≤ 255 = leb-true (length places) 255 (are_few places good) in
-    ap found_at (append_assoc anchor (blob8 places ++ accepted_spelling ps) rest ∙ ap (λ l. anchor ++ l) (append_assoc (blob8 places) (accepted_spelling ps) rest))
-    ∙ ap (λ r. r >>= after_found) ((octets_part 32).again anchor (blob8 places ++ (accepted_spelling ps ++ rest)) fit.0)
-    ∙ ap (λ r. r >>= after_blob anchor) (blob8_part.again places (accepted_spelling ps ++ rest) (omega (arith, few)))
-    ∙ ap (λ b. provided b (kept places (accepted_spelling ps ++ rest)) >>= after_places anchor) good
+    ap found_at (append_assoc anchor (blob8 places ++ accepted_encoding ps) rest ∙ ap (λ l. anchor ++ l) (append_assoc (blob8 places) (accepted_encoding ps) rest))
+    ∙ ap (λ r. r >>= after_found) ((octets_part 32).again anchor (blob8 places ++ (accepted_encoding ps ++ rest)) fit.0)
+    ∙ ap (λ r. r >>= after_blob anchor) (blob8_part.again places (accepted_encoding ps ++ rest) (omega (arith, few)))
+    ∙ ap (λ b. provided b (kept places (accepted_encoding ps ++ rest)) >>= after_places anchor) good
     ∙ ap (λ r. r >>= found_of anchor places) (accepted_again ps rest (accepted_fit ps (second_true (are_places places) (are_countable ps) within) fit.1))
 reply_again k NoPath rest fit within = refl
 reply_again k SearchLimit rest fit within = refl
@@ -335,17 +335,17 @@ tagged k tag = record {
   again = λ r rest fit. ap (λ n. reply_at k n (fields r ++ rest)) (sym fit.tag) ∙ reply_again k r rest fit.fits fit.within;
 }
 
-answer_take : (octets : List ℕ) (a : Answered) (rest : List ℕ) → IsBytes octets → answer_at octets ≡ Some (a, rest) → Takes octets (spelling a) rest × Fits a
+answer_take : (octets : List ℕ) (a : Answered) (rest : List ℕ) → IsBytes octets → answer_at octets ≡ Some (a, rest) → Takes octets (encoding a) rest × Fits a
 unfolding answer_at
 answer_take octets a rest bytes is =
     step position_part octets after_k (a, rest) bytes is
     (λ k o1 e0 b1 f0 h0. step octet_part o1 (after_tag k) (a, rest) b1 h0
     (λ tag o2 e1 b2 f1 h1. step (tagged k tag) o2 (λ reply. answer (answered_of k reply.0) reply.1) (a, rest) b2 h1
-    (λ r o3 e2 b3 f2 h2. made spelling Fits octets o3 (answered_of k r) a rest h2
+    (λ r o3 e2 b3 f2 h2. made encoding Fits octets o3 (answered_of k r) a rest h2
     (e0 ∙ ap (λ l. to_be_bytes w32 k ++ l) (e1 ∙ ap (λ n. n ∷ o2) (sym f2.tag) ∙ ap (λ l. tag_of r ∷ l) e2) ∙ sym (append_assoc (to_be_bytes w32 k) (tag_of r ∷ fields r) o3)) b3
     (record { fields = f2.fits; within = both_true (nat_le k 1000000) (is_reply k r) f0.1 f2.within }))))
 
-answer_again : (a : Answered) (rest : List ℕ) → Fits a → answer_at (spelling a ++ rest) ≡ Some (a, rest)
+answer_again : (a : Answered) (rest : List ℕ) → Fits a → answer_at (encoding a ++ rest) ≡ Some (a, rest)
 unfolding answer_at
 answer_again a rest fit =
     let low = first_true (nat_le a.k 1000000) (is_reply a.k a.reply) fit.within in
@@ -354,19 +354,19 @@ answer_again a rest fit =
     ∙ ap (λ r. r >>= after_k) (position_part.again a.k (tag_of a.reply ∷ (fields a.reply ++ rest)) (omega (arith, n), low))
     ∙ ap (λ r. r >>= λ reply. answer (answered_of a.k reply.0) reply.1) (reply_again a.k a.reply rest fit.fields (second_true (nat_le a.k 1000000) (is_reply a.k a.reply) fit.within))
 
-pub answer_part : Part spelling Fits answer_at
+pub answer_part : Part encoding Fits answer_at
 answer_part = record { takes = answer_take; again = answer_again }
 
--- no two answers have one spelling
-pub one_answer : (a other : Answered) → Fits a → Fits other → spelling a ≡ spelling other → a ≡ other
+-- no two answers have one encoding
+pub one_answer : (a other : Answered) → Fits a → Fits other → encoding a ≡ encoding other → a ≡ other
 one_answer a other fit too is = some_is a other (sym (whole_again answer_part a fit) ∙ ap (λ l. whole (answer_at l)) is ∙ whole_again answer_part other too)
 
 -- what the octets are
-pub only_one : (octets : List ℕ) (x a : Answered) → IsBytes octets → whole (answer_at octets) ≡ Some x → Fits a → octets ≡ spelling a → x ≡ a
-only_one octets x a bytes is fit spelled = some_is x a (sym is ∙ ap (λ l. whole (answer_at l)) spelled ∙ whole_again answer_part a fit)
+pub only_one : (octets : List ℕ) (x a : Answered) → IsBytes octets → whole (answer_at octets) ≡ Some x → Fits a → octets ≡ encoding a → x ≡ a
+only_one octets x a bytes is fit encoded = some_is x a (sym is ∙ ap (λ l. whole (answer_at l)) encoded ∙ whole_again answer_part a fit)
 
-pub not_none : (octets : List ℕ) (a : Answered) → whole (answer_at octets) ≡ None → Fits a → octets ≡ spelling a → ⊥
-not_none octets a is fit spelled = absurd (none_some a (sym is ∙ ap (λ l. whole (answer_at l)) spelled ∙ whole_again answer_part a fit))
+pub not_none : (octets : List ℕ) (a : Answered) → whole (answer_at octets) ≡ None → Fits a → octets ≡ encoding a → ⊥
+not_none octets a is fit encoded = absurd (none_some a (sym is ∙ ap (λ l. whole (answer_at l)) encoded ∙ whole_again answer_part a fit))
   where
     none_some : (x : Answered) → None ≡ Some x → ⊥
     none_some x e = cc e

@@ -1,4 +1,4 @@
--- Parts of a format: numbers are big endian, and octets of their own length stand behind it.
+-- Parts of a format: numbers are big endian, and octets of their own length follow it.
 use Rattle.std.specs.Prelude.{ℕ, ◌+◌, ◌*◌, Bool, List, [], ◌∷◌, ◌++◌, length, Option, Some, None, if◌then◌else◌}
 use Rattle.std.specs.Int.{to_be_bytes, w16, w32}
 
@@ -16,8 +16,8 @@ blob32 octets = to_be_bytes w32 (length octets) ++ octets
 
 -- nothing where there is none
 abbrev pub optional : {A : Type 0} → (A → List ℕ) → Option A → List ℕ
-optional spell None = []
-optional spell (Some x) = spell x
+optional encode None = []
+optional encode (Some x) = encode x
 
 -- the number of these bits, bit 0 first
 abbrev pub bits : List Bool → ℕ

@@ -1,4 +1,4 @@
--- What is asked of a node: its limits, and its one spelling.
+-- What is asked of a node: its limits, and its one encoding.
 use Rattle.std.specs.Prelude.{◌≡◌, ◌&&◌, ℕ, Bool, true, nat_le, is_some, List, [], ◌∷◌, ◌++◌, length, Option, Some, None, IfSome}
 use Rattle.std.specs.List.{flat_map, list_all}
 use Rattle.std.specs.Int.{to_be_bytes, w16, w32, w64, cast_unsigned}
@@ -41,45 +41,45 @@ is_target (Search certificates) = are_certificates 33 certificates
 abbrev pub is_within : Asked → Bool
 is_within q = are_terms q.terms && is_target q.target
 
--- ---- spelling
+-- ---- encoding
 
 -- bit 0 explicit policy, 1 inhibit mapping, 2 inhibit anyPolicy, 3 hard, 4 k present, 5 purpose present, 6 use deltas
 abbrev pub flags_octet : Flags → Bool → Bool → ℕ
 flags_octet f k purpose = bits (f.explicit_policy ∷ f.inhibit_policy_mapping ∷ f.inhibit_any_policy ∷ f.hard ∷ k ∷ purpose ∷ f.use_deltas ∷ [])
 
 -- an octet of their number, and the contents octets of each
-abbrev pub policies_spelling : List (List ℕ) → List ℕ
-policies_spelling oids = length oids ∷ flat_map blob8 oids
+abbrev pub policies_encoding : List (List ℕ) → List ℕ
+policies_encoding oids = length oids ∷ flat_map blob8 oids
 
 -- two octets of their number, and the octets of each
-abbrev pub subtrees_spelling : List (List ℕ) → List ℕ
-subtrees_spelling subtrees = to_be_bytes w16 (length subtrees) ++ flat_map blob16 subtrees
+abbrev pub subtrees_encoding : List (List ℕ) → List ℕ
+subtrees_encoding subtrees = to_be_bytes w16 (length subtrees) ++ flat_map blob16 subtrees
 
-abbrev pub certificates_spelling : List (List ℕ) → List ℕ
-certificates_spelling certificates = length certificates ∷ flat_map blob32 certificates
+abbrev pub certificates_encoding : List (List ℕ) → List ℕ
+certificates_encoding certificates = length certificates ∷ flat_map blob32 certificates
 
-abbrev pub terms_spelling : Terms → List ℕ
-terms_spelling t = to_be_bytes w64 (cast_unsigned w64 t.moment)
+abbrev pub terms_encoding : Terms → List ℕ
+terms_encoding t = to_be_bytes w64 (cast_unsigned w64 t.moment)
     ++ (flags_octet t.flags (is_some t.k) (is_some t.purpose)
     ∷ (optional (to_be_bytes w32) t.k
     ++ (optional blob8 t.purpose
-    ++ (policies_spelling t.user_policies
-    ++ (subtrees_spelling t.permitted_subtrees
-    ++ subtrees_spelling t.excluded_subtrees)))))
+    ++ (policies_encoding t.user_policies
+    ++ (subtrees_encoding t.permitted_subtrees
+    ++ subtrees_encoding t.excluded_subtrees)))))
 
 abbrev pub kind_of : Target → ℕ
 kind_of (Chain anchor certificates) = 1
 kind_of (Search certificates) = 2
 
-abbrev pub target_spelling : Target → List ℕ
-target_spelling (Chain anchor certificates) = anchor ++ certificates_spelling certificates
-target_spelling (Search certificates) = certificates_spelling certificates
+abbrev pub target_encoding : Target → List ℕ
+target_encoding (Chain anchor certificates) = anchor ++ certificates_encoding certificates
+target_encoding (Search certificates) = certificates_encoding certificates
 
 -- 1 for a chain and 2 for a search, the terms, and the certificates
-abbrev pub spelling : Asked → List ℕ
-spelling q = kind_of q.target ∷ (terms_spelling q.terms ++ target_spelling q.target)
+abbrev pub encoding : Asked → List ℕ
+encoding q = kind_of q.target ∷ (terms_encoding q.terms ++ target_encoding q.target)
 
--- ---- which have a spelling
+-- ---- which have an encoding
 
 pub record TermsFit (t : Terms) : Type 0 where
   pub moment : FitsSigned w64 t.moment

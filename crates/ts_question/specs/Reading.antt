@@ -49,11 +49,11 @@ blob32_at octets = do
   n ← number_at w32 octets
   octets_at n.0 n.1
 
--- a part that stands here only where a flag says so
+-- a part that is here only where a flag says so
 unfoldable pub optional_at : {A : Type 0} → (List ℕ → Option (A × List ℕ)) → Bool → List ℕ → Option (Option A × List ℕ)
 optional_at part there octets = if there then (part octets >>= λ x. Some (Some x.0, x.1)) else Some (None, octets)
 
--- so many items, one behind another
+-- so many items, one after another
 unfoldable pub many_at : {A : Type 0} → (List ℕ → Option (A × List ℕ)) → ℕ → List ℕ → Option (List A × List ℕ)
 many_at item zero octets = Some ([], octets)
 many_at item (suc n) octets = do

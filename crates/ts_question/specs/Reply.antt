@@ -1,4 +1,4 @@
--- What a node answers: its ranges, and its one spelling.
+-- What a node answers: its ranges, and its one encoding.
 use Rattle.std.specs.Prelude.{◌≡◌, ◌==◌, ◌&&◌, ◌-◌, ℕ, Bool, true, not, nat_le, nat_lt, List, [], ◌∷◌, ◌++◌, length, slice_index}
 use Rattle.std.specs.List.{flat_map, list_all, list_any}
 use Rattle.std.specs.Int.{to_be_bytes, w32}
@@ -47,7 +47,7 @@ is_reply k other = true
 abbrev pub is_answer : Answered → Bool
 is_answer a = nat_le a.k 1000000 && is_reply a.k a.reply
 
--- ---- spelling
+-- ---- encoding
 
 abbrev pub number_of : Reason → ℕ
 number_of AnchorPurpose = 1
@@ -76,12 +76,12 @@ detail (CriticalExtension oid) = blob8 oid
 detail other = []
 
 -- the number, and what it says beside it
-abbrev pub reason_spelling : Reason → List ℕ
-reason_spelling reason = number_of reason ∷ detail reason
+abbrev pub reason_encoding : Reason → List ℕ
+reason_encoding reason = number_of reason ∷ detail reason
 
 -- four octets of their number, and the contents octets of each
-abbrev pub accepted_spelling : List (List ℕ) → List ℕ
-accepted_spelling policies = to_be_bytes w32 (length policies) ++ flat_map blob8 policies
+abbrev pub accepted_encoding : List (List ℕ) → List ℕ
+accepted_encoding policies = to_be_bytes w32 (length policies) ++ flat_map blob8 policies
 
 abbrev pub tag_of : Reply → ℕ
 tag_of (Valid anchor policies) = 1
@@ -95,9 +95,9 @@ tag_of NoAnchor = 8
 tag_of Limit = 9
 
 abbrev pub fields : Reply → List ℕ
-fields (Valid anchor policies) = anchor ++ accepted_spelling policies
-fields (Invalid position reason) = position ∷ reason_spelling reason
-fields (Found anchor places policies) = anchor ++ (blob8 places ++ accepted_spelling policies)
+fields (Valid anchor policies) = anchor ++ accepted_encoding policies
+fields (Invalid position reason) = position ∷ reason_encoding reason
+fields (Found anchor places policies) = anchor ++ (blob8 places ++ accepted_encoding policies)
 fields NoPath = []
 fields SearchLimit = []
 fields (NotYet prefix) = to_be_bytes w32 prefix
@@ -106,10 +106,10 @@ fields NoAnchor = []
 fields Limit = 1 ∷ []
 
 -- four octets of k, the tag, and the fields
-abbrev pub spelling : Answered → List ℕ
-spelling a = to_be_bytes w32 a.k ++ (tag_of a.reply ∷ fields a.reply)
+abbrev pub encoding : Answered → List ℕ
+encoding a = to_be_bytes w32 a.k ++ (tag_of a.reply ∷ fields a.reply)
 
--- ---- which have a spelling
+-- ---- which have an encoding
 
 abbrev pub DetailFits : Reason → Type 0
 DetailFits (CriticalExtension oid) = is_oid oid ≡ true

@@ -76,7 +76,7 @@ limit_at octets = do
 abbrev pub bare : Reply → List ℕ → Option (Reply × List ℕ)
 bare reply octets = Some (reply, octets)
 
--- how the fields behind each tag are read
+-- how the fields after each tag are read
 abbrev pub readers : ℕ → List (ℕ × (List ℕ → Option (Reply × List ℕ)))
 readers k = (1, valid_at) ∷ (2, invalid_at) ∷ (3, found_at) ∷ (4, bare NoPath) ∷ (5, bare SearchLimit) ∷ (6, not_yet_at k) ∷ (7, malformed_at) ∷ (8, bare NoAnchor) ∷ (9, limit_at) ∷ []
 

@@ -3,7 +3,7 @@
 ghost use Rattle.std.specs.Prelude.{◌≡◌, ◌++◌, true, false, Some, IfOk, IfSome, OnOk, MatchResult};
 ghost use Rattle.ts_question.specs.Reading.{Gives};
 ghost use Rattle.ts_question.specs.ReplyReading.{answer_at};
-ghost use Rattle.ts_question.specs.Reply.{Answered, is_answer, spelling, Fits};
+ghost use Rattle.ts_question.specs.Reply.{Answered, is_answer, encoding, Fits};
 
 use crate::fault::ReadFault;
 use crate::question::OutOfLimits;
@@ -60,10 +60,10 @@ impl Answer {
     ///
     /// Memory that is refused.
     pub fn read(alloc: Global, octets: &[u8]) -> Result<Option<Answer>, AllocError>
-        // What is read is spelled so.
-        ensures found { IfOk result (λ read. IfSome read (λ a. Fits a × (octets.now ≡ spelling a))) }
-        // What is spelled so is read.
-        ensures only { (a : Answered) → Fits a → octets.now ≡ spelling a → IfOk result (λ read. read ≡ Some a) }
+        // What is read is encoded so.
+        ensures found { IfOk result (λ read. IfSome read (λ a. Fits a × (octets.now ≡ encoding a))) }
+        // What is encoded so is read.
+        ensures only { (a : Answered) → Fits a → octets.now ≡ encoding a → IfOk result (λ read. read ≡ Some a) }
     {
         match reply_reading::whole_answer(alloc, octets) {
             Ok((k, reply)) => Ok(Some(Answer { k, reply })),
@@ -84,13 +84,13 @@ impl Answer {
         Ok((Answer { k, reply }, rest))
     }
 
-    /// Writes the octets of the answer, which are its one spelling, behind others.
+    /// Writes the octets of the answer, which are its one encoding, after others.
     ///
     /// # Errors
     ///
     /// Memory that is refused.
     pub fn write(&self, out: &mut Vec<u8>) -> Result<(), AllocError>
-        ensures spelled { OnOk result (out.new.items ≡ out.old.items ++ spelling self.now) }
+        ensures encoded { OnOk result (out.new.items ≡ out.old.items ++ encoding self.now) }
         ensures fits { Fits self.now }
     {
         out.extend_from_slice(&self.k.to_be_bytes())?;
@@ -99,13 +99,13 @@ impl Answer {
         Ok(())
     }
 
-    /// The octets of the answer, which are its one spelling.
+    /// The octets of the answer, which are its one encoding.
     ///
     /// # Errors
     ///
     /// Memory that is refused.
     pub fn octets(&self, alloc: Global) -> Result<Vec<u8>, AllocError>
-        ensures { IfOk result (λ octets. octets.items ≡ spelling self.now) }
+        ensures { IfOk result (λ octets. octets.items ≡ encoding self.now) }
     {
         let mut octets = Vec::new(alloc);
         self.write(&mut octets)?;

@@ -1,7 +1,7 @@
 //! Questions are made, read and written.
 
 ghost use Rattle.std.specs.Prelude.{◌≡◌, ◌++◌, ◌∷◌, true, false, map, Some, Ok, IfOk, IfSome, OnOk, MatchResult};
-ghost use Rattle.ts_question.specs.Question.{Asked, is_within, spelling, Fits};
+ghost use Rattle.ts_question.specs.Question.{Asked, is_within, encoding, Fits};
 ghost use Rattle.ts_question.specs.declared.question.Target.TheVariants.{Chain, Search};
 
 use crate::fault::ReadFault;
@@ -84,10 +84,10 @@ impl Question {
     ///
     /// Memory that is refused.
     pub fn read(alloc: Global, octets: &[u8]) -> Result<Option<Question>, AllocError>
-        // What is read is spelled so.
-        ensures found { IfOk result (λ read. IfSome read (λ q. Fits q × (octets.now ≡ spelling q))) }
-        // What is spelled so is read.
-        ensures only { (q : Asked) → Fits q → octets.now ≡ spelling q → IfOk result (λ read. read ≡ Some q) }
+        // What is read is encoded so.
+        ensures found { IfOk result (λ read. IfSome read (λ q. Fits q × (octets.now ≡ encoding q))) }
+        // What is encoded so is read.
+        ensures only { (q : Asked) → Fits q → octets.now ≡ encoding q → IfOk result (λ read. read ≡ Some q) }
     {
         match reading::question(alloc, octets) {
             Ok((terms, target)) => Ok(Some(Question { terms, target })),
@@ -96,13 +96,13 @@ impl Question {
         }
     }
 
-    /// Writes the octets of the question, which are its one spelling, behind others.
+    /// Writes the octets of the question, which are its one encoding, after others.
     ///
     /// # Errors
     ///
     /// Memory that is refused.
     pub fn write(&self, out: &mut Vec<u8>) -> Result<(), AllocError>
-        ensures spelled { OnOk result (out.new.items ≡ out.old.items ++ spelling self.now) }
+        ensures encoded { OnOk result (out.new.items ≡ out.old.items ++ encoding self.now) }
         ensures fits { Fits self.now }
     {
         out.push(kind_of(&self.target))?;
@@ -111,13 +111,13 @@ impl Question {
         Ok(())
     }
 
-    /// The octets of the question, which are its one spelling.
+    /// The octets of the question, which are its one encoding.
     ///
     /// # Errors
     ///
     /// Memory that is refused.
     pub fn octets(&self, alloc: Global) -> Result<Vec<u8>, AllocError>
-        ensures { IfOk result (λ octets. octets.items ≡ spelling self.now) }
+        ensures { IfOk result (λ octets. octets.items ≡ encoding self.now) }
     {
         let mut octets = Vec::new(alloc);
         self.write(&mut octets)?;

@@ -1,8 +1,8 @@
-//! What is asked of a node about a chain of certificates, and what it answers: plain values, each with one spelling.
+//! What is asked of a node about a chain of certificates, and what it answers: plain values, each with one encoding.
 //!
 //! ```text
 //! let question = Question::chain(terms, anchor, certificates)?;   // OutOfLimits exactly outside the limits
-//! let octets = question.octets(alloc)?;                            // its one spelling
+//! let octets = question.octets(alloc)?;                            // its one encoding
 //! let again = Question::read(alloc, &octets)?;                     // Some, exactly where the octets are one whole question
 //! let answer = Answer::new(k, Reply::NoPath)?;
 //! let octets = answer.octets(alloc)?;
@@ -10,9 +10,9 @@
 //!
 //! Numbers are big endian. A question is 01 for a chain or 02 for a search; eight octets of the moment; an octet of flags (bit 0
 //! explicit policy, 1 inhibit mapping, 2 inhibit anyPolicy, 3 hard, 4 k is present, 5 a purpose is present, 6 use deltas); four
-//! octets of k; the purpose behind an octet of its length; an octet of the number of user policies, and each like the purpose; two
-//! octets of the number of permitted subtrees, and each behind two octets of its length; the excluded ones like them; of a chain the
-//! 32 octets of the anchor's id; and an octet of the number of certificates, and each behind four octets of its length.
+//! octets of k; the purpose after an octet of its length; an octet of the number of user policies, and each like the purpose; two
+//! octets of the number of permitted subtrees, and each after two octets of its length; the excluded ones like them; of a chain the
+//! 32 octets of the anchor's id; and an octet of the number of certificates, and each after four octets of its length.
 //!
 //! An answer is four octets of k, an octet of the reply's tag, and its fields (`specs/Reply`).
 //!
@@ -20,9 +20,9 @@
 //! |---|---|
 //! | [`Question::chain`], [`Question::search`] | `OutOfLimits` exactly where `is_within` (`specs/Question`) is false |
 //! | [`Answer::new`] | `OutOfLimits` exactly where `is_answer` (`specs/Reply`) is false |
-//! | [`Question::read`], [`Answer::read`] | `found`, `only`: what is read is spelled so, and what is spelled so is read |
-//! | [`Question::octets`], [`Question::write`], [`Answer::octets`], [`Answer::write`] | the spelling; `fits`: each value has one |
-//! | [`laws::one_question`], [`laws::one_answer`] | no two values have one spelling, and no two lists of octets are one value's |
+//! | [`Question::read`], [`Answer::read`] | `found`, `only`: what is read is encoded so, and what is encoded so is read |
+//! | [`Question::octets`], [`Question::write`], [`Answer::octets`], [`Answer::write`] | the encoding; `fits`: each value has one |
+//! | [`laws::one_question`], [`laws::one_answer`] | no two values have one encoding, and no two lists of octets are one value's |
 //! | [`parts`] | numbers and octets at the front of others, lent; each gives what its reading (`specs/Reading`) gives |
 //!
 //! DER is not looked into, except that policies, purposes and extensions are object identifiers. Memory that is refused is answered

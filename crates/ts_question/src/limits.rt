@@ -67,7 +67,7 @@ pub(crate) fn is_target(target: &Target) -> bool
     }
 }
 
-/// Terms have a spelling, where they are within their limits.
+/// Terms have an encoding, where they are within their limits.
 pub(crate) fn terms_fit(terms: &Terms)
     ensures { TermsFit terms.now }
 {
@@ -83,7 +83,7 @@ fn is_digest(digest: [u8; 32])
     ensures { length digest ≡ 32 }
 {}
 
-/// The certificates have a spelling, where they are within their limits.
+/// The certificates have an encoding, where they are within their limits.
 pub(crate) fn target_fits(target: &Target)
     ensures { TargetFits target.now }
 {

@@ -37,7 +37,7 @@ impl OctetStrings {
         }
     }
 
-    /// Puts a copy of octets behind the others.
+    /// Puts a copy of octets after the others.
     pub fn push_copy(&mut self, alloc: Global, octets: &[u8]) -> Result<(), AllocError>
         ensures pushed { OnOk result (self.new ≡ self.old ++ octets.now ∷ []) }
         ensures unchanged { OnErr result (self.new ≡ self.old) }

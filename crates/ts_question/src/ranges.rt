@@ -18,7 +18,7 @@ fn has(places: &[u8], place: u8) -> bool
     places.iter().any(|p| *p == place)
 }
 
-/// Whether no place stands twice. There are few.
+/// Whether no place occurs twice. There are few.
 fn is_distinct(places: &[u8]) -> bool
     ensures { result ≡ is_distinct places.now }
 {
@@ -97,7 +97,7 @@ fn detail_fits(reason: &Reason)
     }
 }
 
-/// Each reply whose fields are in their ranges has a spelling.
+/// Each reply whose fields are in their ranges has an encoding.
 pub(crate) fn fields_fit(reply: &Reply)
     ensures { FieldsFit reply.now }
 {

@@ -59,7 +59,7 @@ pub fn identifier(content: &[u8]) -> Option<OidRef<'_>>
     }
 }
 
-/// The contents octets of an object identifier, behind an octet of their length.
+/// The contents octets of an object identifier, after an octet of their length.
 #[tactic(auto, unfolding(crate::specs::QuestionReading::oid_at))]
 pub(crate) fn oid(alloc: Global, octets: &[u8]) -> Result<(Oid, &[u8]), ReadFault>
     ensures { Gives (λ x. (x.0, x.1.now)) result (oid_at octets.now) }

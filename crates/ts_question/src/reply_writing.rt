@@ -2,7 +2,7 @@
 
 ghost use Rattle.std.specs.Prelude.{◌≡◌, ◌++◌, true, ℕ, OnOk};
 ghost use Rattle.ts_question.specs.Parts.{blob8};
-ghost use Rattle.ts_question.specs.Reply.{are_places, are_countable, is_reply, reason_spelling, accepted_spelling, tag_of, fields};
+ghost use Rattle.ts_question.specs.Reply.{are_places, are_countable, is_reply, reason_encoding, accepted_encoding, tag_of, fields};
 
 use crate::lists::{Oids, Places};
 use crate::reason::Reason;
@@ -12,7 +12,7 @@ use std::alloc::AllocError;
 
 fn push_accepted(out: &mut Vec<u8>, policies: &Oids) -> Result<(), AllocError>
     requires { are_countable policies.now ≡ true }
-    ensures { OnOk result (out.new.items ≡ out.old.items ++ accepted_spelling policies.now) }
+    ensures { OnOk result (out.new.items ≡ out.old.items ++ accepted_encoding policies.now) }
 {
     let policies = policies.as_slice();
     out.extend_from_slice(&(policies.len() as u32).to_be_bytes())?;
@@ -20,7 +20,7 @@ fn push_accepted(out: &mut Vec<u8>, policies: &Oids) -> Result<(), AllocError>
 }
 
 fn push_reason(out: &mut Vec<u8>, reason: &Reason) -> Result<(), AllocError>
-    ensures { OnOk result (out.new.items ≡ out.old.items ++ reason_spelling reason.now) }
+    ensures { OnOk result (out.new.items ≡ out.old.items ++ reason_encoding reason.now) }
 {
     out.push(reason.number())?;
     match reason {

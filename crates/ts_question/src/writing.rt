@@ -4,7 +4,7 @@ ghost use Rattle.std.specs.Prelude.{◌≡◌, ◌≤◌, ◌<◌, ◌^◌, ◌+
 ghost use Rattle.std.specs.List.{flat_map, list_all};
 ghost use Rattle.ts_question.specs.Parts.{blob8, blob16, blob32, optional};
 ghost use Rattle.std.specs.Int.{to_be_bytes, cast_unsigned, w32, w64};
-ghost use Rattle.ts_question.specs.Question.{flags_octet, is_position, are_subtrees, are_terms, are_certificates, is_target, policies_spelling, subtrees_spelling, certificates_spelling, terms_spelling, kind_of, target_spelling};
+ghost use Rattle.ts_question.specs.Question.{flags_octet, is_position, are_subtrees, are_terms, are_certificates, is_target, policies_encoding, subtrees_encoding, certificates_encoding, terms_encoding, kind_of, target_encoding};
 
 use crate::lists::{OctetStrings, Oids};
 use crate::question::Target;
@@ -12,7 +12,7 @@ use crate::terms::{Flags, Terms};
 use std::alloc::AllocError;
 use ts_der::Oid;
 
-/// Writes an object identifier behind an octet of its length.
+/// Writes an object identifier after an octet of its length.
 pub(crate) fn push_oid(out: &mut Vec<u8>, oid: &Oid) -> Result<(), AllocError>
     ensures { OnOk result (out.new.items ≡ out.old.items ++ blob8 oid.now) }
 {
@@ -22,7 +22,7 @@ pub(crate) fn push_oid(out: &mut Vec<u8>, oid: &Oid) -> Result<(), AllocError>
     Ok(())
 }
 
-/// Writes object identifiers, one behind another.
+/// Writes object identifiers, one after another.
 pub(crate) fn push_oids(out: &mut Vec<u8>, oids: &[Oid]) -> Result<(), AllocError>
     ensures { OnOk result (out.new.items ≡ out.old.items ++ flat_map blob8 oids.now) }
 {
@@ -34,14 +34,14 @@ pub(crate) fn push_oids(out: &mut Vec<u8>, oids: &[Oid]) -> Result<(), AllocErro
 
 fn push_policies(out: &mut Vec<u8>, policies: &Oids) -> Result<(), AllocError>
     requires { length policies.now ≤ 32 }
-    ensures { OnOk result (out.new.items ≡ out.old.items ++ policies_spelling policies.now) }
+    ensures { OnOk result (out.new.items ≡ out.old.items ++ policies_encoding policies.now) }
 {
     let policies = policies.as_slice();
     out.push(policies.len() as u8)?;
     push_oids(out, policies)
 }
 
-/// Writes octets behind two octets of their length.
+/// Writes octets after two octets of their length.
 fn push_blob16(out: &mut Vec<u8>, octets: &[u8]) -> Result<(), AllocError>
     requires { length octets.now < 2 ^ 16 }
     ensures { OnOk result (out.new.items ≡ out.old.items ++ blob16 octets.now) }
@@ -63,13 +63,13 @@ fn push_subtrees_of(out: &mut Vec<u8>, subtrees: &[Vec<u8>]) -> Result<(), Alloc
 
 fn push_subtrees(out: &mut Vec<u8>, subtrees: &OctetStrings) -> Result<(), AllocError>
     requires { are_subtrees subtrees.now ≡ true }
-    ensures { OnOk result (out.new.items ≡ out.old.items ++ subtrees_spelling subtrees.now) }
+    ensures { OnOk result (out.new.items ≡ out.old.items ++ subtrees_encoding subtrees.now) }
 {
     out.extend_from_slice(&(subtrees.len() as u16).to_be_bytes())?;
     push_subtrees_of(out, subtrees.as_slice())
 }
 
-/// Writes octets behind four octets of their length.
+/// Writes octets after four octets of their length.
 pub fn push_blob32(out: &mut Vec<u8>, octets: &[u8]) -> Result<(), AllocError>
     requires { length octets.now < 2 ^ 32 }
     ensures { OnOk result (out.new.items ≡ out.old.items ++ blob32 octets.now) }
@@ -91,7 +91,7 @@ fn push_certificates_of(out: &mut Vec<u8>, certificates: &[Vec<u8>]) -> Result<(
 
 fn push_certificates(out: &mut Vec<u8>, certificates: &OctetStrings) -> Result<(), AllocError>
     requires { are_certificates 33 certificates.now ≡ true }
-    ensures { OnOk result (out.new.items ≡ out.old.items ++ certificates_spelling certificates.now) }
+    ensures { OnOk result (out.new.items ≡ out.old.items ++ certificates_encoding certificates.now) }
 {
     out.push(certificates.len() as u8)?;
     push_certificates_of(out, certificates.as_slice())
@@ -154,8 +154,8 @@ fn push_inputs(out: &mut Vec<u8>, terms: &Terms) -> Result<(), AllocError>
 /// Writes the policies and the subtrees.
 fn push_lists(out: &mut Vec<u8>, terms: &Terms) -> Result<(), AllocError>
     requires { are_terms terms.now ≡ true }
-    ensures { OnOk result (out.new.items ≡ out.old.items ++ (policies_spelling terms.now.user_policies
-        ++ (subtrees_spelling terms.now.permitted_subtrees ++ subtrees_spelling terms.now.excluded_subtrees))) }
+    ensures { OnOk result (out.new.items ≡ out.old.items ++ (policies_encoding terms.now.user_policies
+        ++ (subtrees_encoding terms.now.permitted_subtrees ++ subtrees_encoding terms.now.excluded_subtrees))) }
 {
     push_policies(out, &terms.user_policies)?;
     push_subtrees(out, &terms.permitted_subtrees)?;
@@ -166,7 +166,7 @@ fn push_lists(out: &mut Vec<u8>, terms: &Terms) -> Result<(), AllocError>
 /// Writes the terms of a question.
 pub(crate) fn push_terms(out: &mut Vec<u8>, terms: &Terms) -> Result<(), AllocError>
     requires { are_terms terms.now ≡ true }
-    ensures { OnOk result (out.new.items ≡ out.old.items ++ terms_spelling terms.now) }
+    ensures { OnOk result (out.new.items ≡ out.old.items ++ terms_encoding terms.now) }
 {
     push_inputs(out, terms)?;
     push_lists(out, terms)?;
@@ -186,7 +186,7 @@ pub(crate) fn kind_of(target: &Target) -> u8
 /// Writes the certificates of a question.
 pub(crate) fn push_target(out: &mut Vec<u8>, target: &Target) -> Result<(), AllocError>
     requires { is_target target.now ≡ true }
-    ensures { OnOk result (out.new.items ≡ out.old.items ++ target_spelling target.now) }
+    ensures { OnOk result (out.new.items ≡ out.old.items ++ target_encoding target.now) }
 {
     match target {
         Target::Chain {

@@ -129,7 +129,7 @@ adding-append covered (x ∷ xs) ys = by_test (adding-append covered xs ys) (not
     by_test e true = ap (λ zs. x ∷ zs) e
     by_test e false = e
 
--- all pairs of pass 1, by the points as they stand
+-- all pairs of pass 1, by the points as they are
 abbrev pub own_pairs : Question → List Point → List Pair
 own_pairs q points = adding no_reasons (flat_map (pairs_at q) (filter is_own points))
 

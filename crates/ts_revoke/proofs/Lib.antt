@@ -3,4 +3,3 @@ mod Walks
 pub mod SameNames
 mod ByList
 mod Reaching
-mod Magnitudes

@@ -5,7 +5,7 @@ use Rattle.std.specs.Option.{option_and_then}
 use Rattle.std.specs.Str.{bytes_eq}
 use Rattle.ts_ext.specs.declared.known.Known.{Known}
 use Rattle.ts_ext.specs.declared.known.Known.TheVariants.{IssuingDistributionPoint, AuthorityKeyIdentifier}
-use Rattle.ts_ext.specs.Spelling.{reason_number}
+use Rattle.ts_ext.specs.Encoding.{reason_number}
 use Rattle.ts_crl.specs.Entries.{first_entry}
 use Rattle.ts_crl.specs.List.{RevokedCertificate, CertificateList}
 use Rattle.ts_crl.specs.Values.{is_known, extensions_of, reason_of}

@@ -1,4 +1,4 @@
--- Words are cut behind their keywords in one way.
+-- Words are cut after their keywords in one way.
 use Rattle.std.proofs.Common.{◌≡◌, ◌≢◌, ◌∙◌, refl, sym, ap, subst, ℕ, List, [], ◌∷◌, ◌++◌, Option, Some, None, MatchOption, Bool, true, false, not, ◌&&◌, eqb, cond}
 use Rattle.std.specs.List.{join_with_byte, list_all, onto_first}
 use Rattle.std.specs.Str.{bytes_eq}
@@ -44,12 +44,12 @@ pub not_named : (text : List ℕ) → keyword_named KEYWORDS text ≡ None → (
 not_named text none k is = let found = is_found k in cc (sym none ∙ (ap (keyword_named KEYWORDS) is ∙ found.named))
 
 -- and one that is found is written so
-named_step : (spelled text : List ℕ) (first k : Keyword) (others : Option Keyword) (b : Bool) → spelled ≡ keyword_text first → bytes_eq spelled text ≡ b
+named_step : (encoded text : List ℕ) (first k : Keyword) (others : Option Keyword) (b : Bool) → encoded ≡ keyword_text first → bytes_eq encoded text ≡ b
     → cond b (Some first) others ≡ Some k → (others ≡ Some k → text ≡ keyword_text k) → text ≡ keyword_text k
-named_step spelled text first k others true spells same is more =
+named_step encoded text first k others true encodes same is more =
     let one : first ≡ k = cc in
-    sym ((bytes_eq-Decides spelled text).0 same) ∙ (spells ∙ ap keyword_text one)
-named_step spelled text first k others false spells same is more = more is
+    sym ((bytes_eq-Decides encoded text).0 same) ∙ (encodes ∙ ap keyword_text one)
+named_step encoded text first k others false encodes same is more = more is
 
 named_is : (ks : List Keyword) (text : List ℕ) (k : Keyword) → keyword_named ks text ≡ Some k → text ≡ keyword_text k
 named_is [] text k is = absurd cc
@@ -114,7 +114,7 @@ pub cut_written : (word name : List ℕ) (k : Keyword) (v : Option (List ℕ)) �
     → word ≡ keyword_text k ++ value_text v
 cut_written word name k v cut is = one_whole 61 word (keyword_text k ++ value_text v) (cut ∙ (ap (λ (n : List ℕ). n ∷ pieces_behind 61 v) is ∙ sym (keyword_cut k v)))
 
--- such a word says what its value says behind its keyword
+-- such a word says what its value says after its keyword
 pub word_said : (word name : List ℕ) (k : Keyword) (v : Option (List ℕ)) (parts : List Part) → pieces_of 61 word ≡ name ∷ pieces_behind 61 v
     → name ≡ keyword_text k → SaysWith k v parts → IsWord word parts
 word_said word name k v parts cut is says = record { keyword = k; value = v; written = cut_written word name k v cut is; says = says }

@@ -3,10 +3,10 @@ pub mod Cutting
 pub mod Decoding
 pub mod DottedText
 pub mod Keywords
-pub mod ListReading
+pub mod CrlReading
 pub mod SameParts
 pub mod OneCertificate
 pub mod OneList
 pub mod OneParts
 pub mod Lookup
-pub mod Spelling
+pub mod Encoding

@@ -6,11 +6,11 @@ use Rattle.std.specs.Str.{bytes_eq}
 use Rattle.std.specs.declared.vec.Vec.{Vec}
 use Rattle.std.specs.declared.alloc.Global.{Global}
 use Rattle.indexmap.specs.IndexMap.{insert_entry}
-use Rattle.ts_script.specs.declared.named.Kept.{Kept}
+use Rattle.ts_script.specs.declared.symbols.Item.{Item}
 use Rattle.ts_script.specs.Known.{entry_in, thing_in, named}
 
 -- the entry of a name, as the map has it
-pub looked_up : (name : List ℕ) (es : List (Vec ℕ Global × Kept)) → option_map thing_in (lookup (λ k. bytes_eq name k.items) es) ≡ named (map entry_in es) name
+pub looked_up : (name : List ℕ) (es : List (Vec ℕ Global × Item)) → option_map thing_in (lookup (λ k. bytes_eq name k.items) es) ≡ named (map entry_in es) name
 looked_up name [] = refl
 looked_up name (e ∷ es) = by_test (bytes_eq name e.0.items) (looked_up name es)
   where
@@ -25,7 +25,7 @@ lent f None = refl
 lent f (Some one) = refl
 
 -- an entry of a name that is free goes last
-pub kept_last : (name : Vec ℕ Global) (kept : Kept) (es : List (Vec ℕ Global × Kept)) → named (map entry_in es) name.items ≡ None
+pub kept_last : (name : Vec ℕ Global) (kept : Item) (es : List (Vec ℕ Global × Item)) → named (map entry_in es) name.items ≡ None
     → map entry_in (insert_entry (λ a b. bytes_eq a.items b.items) es name kept) ≡ map entry_in es ++ entry_in (name, kept) ∷ []
 kept_last name kept [] free = refl
 kept_last name kept (e ∷ es) free = by_test (bytes_eq name.items e.0.items) (kept_last name kept es) free

@@ -12,7 +12,7 @@ use Rattle.ts_script.specs.declared.keyword.Keyword.TheVariants.{KeyUsage, Subje
 use Rattle.ts_script.specs.Words.{IsNumber, IsHex}
 use Rattle.ts_script.specs.Parts.{Part, PartName, usage_bit}
 use Rattle.ts_script.specs.ExtensionWords.{IsText, IsDotted, IsNumbers, IsNameValue, Says, SaysValue, SaysWith, IsWord, AreWords, AreParts}
-use Rattle.ts_script.proofs.Spelling.{IsHex-decoded, IsHex-one}
+use Rattle.ts_script.proofs.Encoding.{IsHex-decoded, IsHex-one}
 use Rattle.ts_script.proofs.Keywords.{cut_of}
 
 pub one_number : (word : List ℕ) (m n : ℕ) → IsNumber word m → IsNumber word n → m ≡ n

@@ -15,7 +15,7 @@ use Rattle.ts_script.specs.Parts.{part_in}
 use Rattle.ts_script.specs.ExtensionWords.{AreParts}
 use Rattle.ts_script.specs.Known.{Entry, certificate, named}
 
--- the words behind the signer
+-- the words after the signer
 abbrev pub extension_words : CertWords → List (List ℕ)
 extension_words c = pieces_behind 32 (option_map (λ rest. rest.now) c.others)
 
@@ -51,7 +51,7 @@ IsKept known c text after =
     × (after ≡ known ++ (c.name.now, certificate octets) ∷ [])
     × (text ≡ codes "cert " ++ (c.name.now ++ (codes " " ++ (decimal (length octets) ++ codes "\n"))))
 
--- the words stand in their places, and the name is one
+-- the words are in their places, and the name is one
 abbrev pub IsCertLine : List ℕ → CertWords → Type 0
 IsCertLine line c = (words_of line ≡ cert_line c) × IsName c.name.now
 

@@ -5,27 +5,27 @@ use Rattle.ts_shape.specs.declared.fault.CertFault.{CertFault}
 use Rattle.ts_time.specs.Text.{IsGeneral}
 use Rattle.ts_crl.specs.Fault.{broken}
 use Rattle.ts_crl.specs.Table.{crl_of}
-use Rattle.ts_make.specs.declared.list_description.CrlText.{CrlText}
+use Rattle.ts_make.specs.declared.crl_description.CrlText.{CrlText}
 use Rattle.ts_make.specs.Times.{IsTimeOf}
-use Rattle.ts_make.specs.ListMade.{made_list}
-use Rattle.ts_make.specs.ListMaking.{IsTaken}
+use Rattle.ts_make.specs.CrlMade.{made_crl}
+use Rattle.ts_make.specs.CrlMaking.{IsTaken}
 use Rattle.ts_script.specs.declared.crl_line.CrlWords.{CrlWords}
 use Rattle.ts_script.specs.declared.script.LineFault.{LineFault}
 use Rattle.ts_script.specs.declared.script.LineFault.TheVariants.{Unknown, Form, Name, Limit, Message, Memory}
 use Rattle.ts_script.specs.Pieces.{pieces_behind}
 use Rattle.ts_script.specs.Words.{words_of, IsName, IsHex, IsDn}
-use Rattle.ts_script.specs.ListWords.{AreFields, fields_of}
+use Rattle.ts_script.specs.CrlLineWords.{AreFields, fields_of}
 use Rattle.ts_script.specs.Known.{Entry, revocation_list, named}
 
--- the words behind the signer
-abbrev pub list_words : CrlWords → List (List ℕ)
-list_words c = pieces_behind 32 (option_map (λ rest. rest.now) c.others)
+-- the words after the signer
+abbrev pub crl_words : CrlWords → List (List ℕ)
+crl_words c = pieces_behind 32 (option_map (λ rest. rest.now) c.others)
 
 -- the words of a `crl` line, in their places
 unfoldable pub crl_line : CrlWords → List (List ℕ)
 crl_line c =
     codes "crl" ∷ c.name.now ∷ codes "issuer" ∷ c.issuer.now ∷ codes "this" ∷ c.this_update.now ∷ codes "next" ∷ c.next_update.now
-    ∷ codes "signer" ∷ c.signer.now ∷ list_words c
+    ∷ codes "signer" ∷ c.signer.now ∷ crl_words c
 
 -- the words are those of the description
 pub record IsListSaid (c : CrlWords) (text : CrlText) : Type 0 where
@@ -33,49 +33,49 @@ pub record IsListSaid (c : CrlWords) (text : CrlText) : Type 0 where
   pub this_update : IsGeneral c.this_update.now text.this_update
   pub next_update : IsGeneral c.next_update.now text.next_update
   pub signer : IsHex c.signer.now text.signer.now
-  pub fields : AreFields (list_words c) (fields_of text)
+  pub fields : AreFields (crl_words c) (fields_of text)
 
 -- the octets are those of the list that the words describe
-abbrev pub IsListMade : CrlWords → List ℕ → Type 0
-IsListMade c octets =
+abbrev pub IsCrlMade : CrlWords → List ℕ → Type 0
+IsCrlMade c octets =
     (text : CrlText) × IsListSaid c text × (this : List ℕ) × (next : List ℕ)
-    × IsTimeOf this text.this_update × IsTimeOf next text.next_update × (octets ≡ made_list this next text)
+    × IsTimeOf this text.this_update × IsTimeOf next text.next_update × (octets ≡ made_crl this next text)
 
 -- the words of a `crl` line say a list that is not too long, whose number of octets is printed, and which is known by its
 -- name from then on; before, nothing was
-abbrev pub IsListKept : List Entry → CrlWords → List ℕ → List Entry → Type 0
-IsListKept known c text after =
-    (octets : List ℕ) × IsListMade c octets × (length octets ≤ 4194304) × IsTaken (crl_of octets) × (named known c.name.now ≡ None)
+abbrev pub IsCrlKept : List Entry → CrlWords → List ℕ → List Entry → Type 0
+IsCrlKept known c text after =
+    (octets : List ℕ) × IsCrlMade c octets × (length octets ≤ 4194304) × IsTaken (crl_of octets) × (named known c.name.now ≡ None)
     × (after ≡ known ++ (c.name.now, revocation_list octets) ∷ [])
     × (text ≡ codes "crl " ++ (c.name.now ++ (codes " " ++ (decimal (length octets) ++ codes "\n"))))
 
--- the words stand in their places, and the name is one
+-- the words are in their places, and the name is one
 abbrev pub IsCrlLine : List ℕ → CrlWords → Type 0
 IsCrlLine line c = (words_of line ≡ crl_line c) × IsName c.name.now
 
 -- a `crl` line prints and makes known what its words say
 abbrev pub IsCrlSaid : List Entry → List ℕ → List ℕ → List Entry → Type 0
-IsCrlSaid known line text after = (c : CrlWords) × IsCrlLine line c × IsListKept known c text after
+IsCrlSaid known line text after = (c : CrlWords) × IsCrlLine line c × IsCrlKept known c text after
 
 -- octets that are not too long, and break a rule of lists that has a place
-abbrev pub IsNoList : List ℕ → Type 0
-IsNoList octets = (length octets ≤ 4194304) × (fault : CertFault) × (crl_of octets ≡ Err (broken fault))
+abbrev pub IsNoCrl : List ℕ → Type 0
+IsNoCrl octets = (length octets ≤ 4194304) × (fault : CertFault) × (crl_of octets ≡ Err (broken fault))
 
 -- why the words of a `crl` line are refused: they describe nothing, or what they describe is no list; they describe one, but
 -- the name is taken; it is not, but the list would be too long
-abbrev pub RefusesListWords : List Entry → CrlWords → LineFault → Type 0
-RefusesListWords known c Form = (octets : List ℕ) → IsListMade c octets → IsNoList octets
-RefusesListWords known c Name = (octets : List ℕ) × IsListMade c octets × ¬ (IsNoList octets) × (named known c.name.now ≢ None)
-RefusesListWords known c Limit = (octets : List ℕ) × IsListMade c octets × (named known c.name.now ≡ None) × (4194304 < length octets)
-RefusesListWords known c Memory = Unit {0}
-RefusesListWords known c Message = ⊥
-RefusesListWords known c Unknown = ⊥
+abbrev pub RefusesCrlWords : List Entry → CrlWords → LineFault → Type 0
+RefusesCrlWords known c Form = (octets : List ℕ) → IsCrlMade c octets → IsNoCrl octets
+RefusesCrlWords known c Name = (octets : List ℕ) × IsCrlMade c octets × ¬ (IsNoCrl octets) × (named known c.name.now ≢ None)
+RefusesCrlWords known c Limit = (octets : List ℕ) × IsCrlMade c octets × (named known c.name.now ≡ None) × (4194304 < length octets)
+RefusesCrlWords known c Memory = Unit {0}
+RefusesCrlWords known c Message = ⊥
+RefusesCrlWords known c Unknown = ⊥
 
 -- why a `crl` line is: it has no words in their places that describe a list; it has, but they are refused
 abbrev pub RefusesCrl : List Entry → List ℕ → LineFault → Type 0
-RefusesCrl known line Form = (c : CrlWords) → IsCrlLine line c → RefusesListWords known c Form
-RefusesCrl known line Name = (c : CrlWords) × IsCrlLine line c × RefusesListWords known c Name
-RefusesCrl known line Limit = (c : CrlWords) × IsCrlLine line c × RefusesListWords known c Limit
+RefusesCrl known line Form = (c : CrlWords) → IsCrlLine line c → RefusesCrlWords known c Form
+RefusesCrl known line Name = (c : CrlWords) × IsCrlLine line c × RefusesCrlWords known c Name
+RefusesCrl known line Limit = (c : CrlWords) × IsCrlLine line c × RefusesCrlWords known c Limit
 RefusesCrl known line Memory = Unit {0}
 RefusesCrl known line Message = ⊥
 RefusesCrl known line Unknown = ⊥

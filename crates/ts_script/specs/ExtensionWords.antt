@@ -1,4 +1,4 @@
--- The words behind the signer of a `cert` line: what they say of the certificate's extensions.
+-- The words after the signer of a `cert` line: what they say of the certificate's extensions.
 use Rattle.std.specs.Prelude.{◌≡◌, ℕ, ◌<◌, ◌≤◌, ◌^◌, true, if◌then◌else◌, List, [], ◌∷◌, ◌++◌, map, Option, Some, None, codes}
 use Rattle.std.specs.List.{AllByRecursion, count_by}
 use Rattle.std.specs.Str.{IsUtf8, bytes_eq}
@@ -12,7 +12,7 @@ use Rattle.ts_script.specs.declared.keyword.Keyword.{Keyword}
 use Rattle.ts_script.specs.declared.keyword.Keyword.TheVariants.{KeyUsage, SubjectAltName, BasicConstraints, PermittedSubtree, ExcludedSubtree, DistributionPoint, Policy, PolicyMapping, RequireExplicitPolicy, InhibitPolicyMapping, KeyPurpose, InhibitAnyPolicy, Critical}
 use Rattle.ts_script.specs.Pieces.{pieces_of}
 use Rattle.ts_script.specs.Words.{IsNumber, IsHex, first_of}
-use Rattle.ts_script.specs.Parts.{Part, PartName, dns_name, ip_address, mail_box, usage_bit, alt_name, authority, permitted, excluded, list_point, policy, mapped_policy, explicit_policy, no_mapping, purpose, no_any_policy, critical_unknown}
+use Rattle.ts_script.specs.Parts.{Part, PartName, dns_name, ip_address, mail_box, usage_bit, alt_name, authority, permitted, excluded, crl_point, policy, mapped_policy, explicit_policy, no_mapping, purpose, no_any_policy, critical_unknown}
 
 -- how a form of name is called
 abbrev pub kind_text : NameKind → List ℕ
@@ -75,14 +75,14 @@ IsNameValue Mail value name = (text : List ℕ) × IsText value text × (name �
 abbrev pub Says : {T : Type 0} → (List ℕ → T → Type 0) → (T → Part) → List ℕ → List Part → Type 0
 Says {T} Is part value parts = (x : T) × Is value x × (parts ≡ part x ∷ [])
 
--- what stands behind `=` after a keyword says these parts
+-- what follows `=` after a keyword says these parts
 abbrev pub SaysValue : Keyword → List ℕ → List Part → Type 0
 SaysValue KeyUsage value parts = (numbers : List ℕ) × IsNumbers value numbers × (parts ≡ map usage_bit numbers)
 SaysValue (SubjectAltName kind) value parts = Says (IsNameValue kind) alt_name value parts
 SaysValue BasicConstraints value parts = Says IsNumber (λ length. authority (Some length)) value parts
 SaysValue (PermittedSubtree kind) value parts = Says (IsNameValue kind) permitted value parts
 SaysValue (ExcludedSubtree kind) value parts = Says (IsNameValue kind) excluded value parts
-SaysValue DistributionPoint value parts = Says IsText list_point value parts
+SaysValue DistributionPoint value parts = Says IsText crl_point value parts
 SaysValue Policy value parts = Says IsDotted policy value parts
 SaysValue PolicyMapping value parts =
     (issuer : List ℕ) × (subject : List ℕ) × IsMapping value issuer subject × (parts ≡ mapped_policy issuer subject ∷ [])
@@ -97,7 +97,7 @@ abbrev pub SaysWith : Keyword → Option (List ℕ) → List Part → Type 0
 SaysWith keyword None parts = (keyword ≡ BasicConstraints) × (parts ≡ authority None ∷ [])
 SaysWith keyword (Some value) parts = SaysValue keyword value parts
 
--- a value, behind `=`
+-- a value, after `=`
 abbrev pub value_text : Option (List ℕ) → List ℕ
 value_text None = []
 value_text (Some value) = codes "=" ++ value
@@ -115,7 +115,7 @@ AreWords [] parts = parts ≡ []
 AreWords (word ∷ words) parts =
     (first : List Part) × (rest : List Part) × IsWord word first × AreWords words rest × (parts ≡ first ++ rest)
 
--- what stands before the first `=` of a word
+-- what precedes the first `=` of a word
 abbrev pub keyword_in : List ℕ → List ℕ
 keyword_in word = first_of (pieces_of 61 word)
 
@@ -127,7 +127,7 @@ StandsOnce words keyword = count_by (λ word. bytes_eq (keyword_in word) (keywor
 abbrev pub once : List Keyword
 once = BasicConstraints ∷ RequireExplicitPolicy ∷ InhibitPolicyMapping ∷ InhibitAnyPolicy ∷ []
 
--- the words behind the signer say these parts: those of which an extension has one value stand once at most, all others gather
+-- the words after the signer say these parts: those of which an extension has one value occur once at most, all others gather
 pub record AreParts (words : List (List ℕ)) (parts : List Part) : Type 0 where
   pub said : AreWords words parts
   pub alone : AllByRecursion (StandsOnce words) once

@@ -3,9 +3,9 @@ use Rattle.std.specs.Prelude.{ℕ, if◌then◌else◌, List, [], ◌∷◌, map
 use Rattle.std.specs.Str.{bytes_eq}
 use Rattle.std.specs.declared.vec.Vec.{Vec}
 use Rattle.std.specs.declared.alloc.Global.{Global}
-use Rattle.ts_script.specs.declared.named.Kept.{Kept}
-use Rattle.ts_script.specs.declared.named.Kept.TheVariants as kept
-use Rattle.ts_script.specs.declared.named.Named.{Named}
+use Rattle.ts_script.specs.declared.symbols.Item.{Item}
+use Rattle.ts_script.specs.declared.symbols.Item.TheVariants as kept
+use Rattle.ts_script.specs.declared.symbols.Symbols.{Symbols}
 
 -- what a name stands for: a certificate or a list of revoked certificates, as its octets
 pub data Thing : Type 0 where
@@ -16,14 +16,14 @@ pub data Thing : Type 0 where
 abbrev pub Entry : Type 0
 Entry = List ℕ × Thing
 
-abbrev pub thing_in : Kept → Thing
+abbrev pub thing_in : Item → Thing
 thing_in (kept.Certificate cert) = certificate cert.octets.items
 thing_in (kept.List octets) = revocation_list octets.items
 
-abbrev pub entry_in : Vec ℕ Global × Kept → Entry
+abbrev pub entry_in : Vec ℕ Global × Item → Entry
 entry_in e = (e.0.items, thing_in e.1)
 
-abbrev pub known_in : Named → List Entry
+abbrev pub known_in : Symbols → List Entry
 known_in known = map entry_in known.things.entries
 
 -- what a name stands for, by its first entry

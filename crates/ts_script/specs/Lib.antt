@@ -3,8 +3,8 @@ pub mod Words
 pub mod Parts
 pub mod ExtensionWords
 pub mod OwnedParts
-pub mod ListWords
-pub mod OwnedList
+pub mod CrlLineWords
+pub mod CrlParts
 pub mod Known
 pub mod Wrong
 pub mod CertLine

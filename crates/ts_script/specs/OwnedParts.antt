@@ -4,7 +4,7 @@ use Rattle.ts_script.specs.declared.extension_words.NameWord.{NameWord}
 use Rattle.ts_script.specs.declared.extension_words.NameWord.TheVariants as name
 use Rattle.ts_script.specs.declared.extension_words.ExtensionWord.{ExtensionWord}
 use Rattle.ts_script.specs.declared.extension_words.ExtensionWord.TheVariants as word
-use Rattle.ts_script.specs.Parts.{Part, PartName, dns_name, ip_address, mail_box, usage_bit, alt_name, authority, permitted, excluded, list_point, policy, mapped_policy, explicit_policy, no_mapping, purpose, no_any_policy, critical_unknown}
+use Rattle.ts_script.specs.Parts.{Part, PartName, dns_name, ip_address, mail_box, usage_bit, alt_name, authority, permitted, excluded, crl_point, policy, mapped_policy, explicit_policy, no_mapping, purpose, no_any_policy, critical_unknown}
 
 abbrev pub name_of : NameWord → PartName
 name_of (name.Dns text) = dns_name text.now
@@ -17,7 +17,7 @@ parts_of (word.SubjectAltName name) = alt_name (name_of name) ∷ []
 parts_of (word.BasicConstraints length) = authority length ∷ []
 parts_of (word.PermittedSubtree base) = permitted (name_of base) ∷ []
 parts_of (word.ExcludedSubtree base) = excluded (name_of base) ∷ []
-parts_of (word.DistributionPoint uri) = list_point uri.now ∷ []
+parts_of (word.DistributionPoint uri) = crl_point uri.now ∷ []
 parts_of (word.Policy oid) = policy oid ∷ []
 parts_of (word.PolicyMapping issuer subject) = mapped_policy issuer subject ∷ []
 parts_of (word.RequireExplicitPolicy skip) = explicit_policy skip ∷ []

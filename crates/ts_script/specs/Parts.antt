@@ -18,7 +18,7 @@ pub data Part : Type 0 where
   authority : Option ℕ → Part
   permitted : PartName → Part
   excluded : PartName → Part
-  list_point : List ℕ → Part
+  crl_point : List ℕ → Part
   policy : List ℕ → Part
   mapped_policy : List ℕ → List ℕ → Part
   explicit_policy : ℕ → Part
@@ -40,7 +40,7 @@ part_in (text.SubjectAltName name) = alt_name (name_in name)
 part_in (text.BasicConstraints length) = authority length
 part_in (text.PermittedSubtree base) = permitted (name_in base)
 part_in (text.ExcludedSubtree base) = excluded (name_in base)
-part_in (text.DistributionPoint uri) = list_point uri.now
+part_in (text.DistributionPoint uri) = crl_point uri.now
 part_in (text.Policy oid) = policy oid.content.now
 part_in (text.PolicyMapping issuer subject) = mapped_policy issuer.content.now subject.content.now
 part_in (text.RequireExplicitPolicy skip) = explicit_policy skip

@@ -16,7 +16,7 @@ all_onto_first (x ∷ xs) pieces = onto_first x (all_onto_first xs pieces)
 abbrev pub pieces_of : ℕ → List ℕ → List (List ℕ)
 pieces_of mark octets = slice_split (λ octet. octet == mark) octets
 
--- those of what stands behind a mark, and none where there is no mark
+-- those of what follows a mark, and none where there is no mark
 abbrev pub pieces_behind : ℕ → Option (List ℕ) → List (List ℕ)
 pieces_behind mark None = []
 pieces_behind mark (Some octets) = pieces_of mark octets

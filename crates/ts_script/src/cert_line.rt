@@ -10,8 +10,8 @@ ghost use Rattle.ts_script.specs.CertLine.{IsCertLine, IsMade, IsKept, RefusesWo
 
 use crate::cert_octets::CertOctets;
 use crate::extension_words::{extension_words, parts_in};
-use crate::named::{Kept, Named};
 use crate::script::LineFault;
+use crate::symbols::{Item, Symbols};
 use crate::words::{is_name, moment_of, number_of, octets_of, rdns_of, word_behind};
 use std::alloc::Global;
 use ts_make::{CertText, MakeFault, make_cert};
@@ -27,7 +27,7 @@ pub struct CertWords<'a> {
     pub to: &'a [u8],
     pub key: &'a [u8],
     pub signer: &'a [u8],
-    /// The words behind the signer.
+    /// The words after the signer.
     pub others: Option<&'a [u8]>,
 }
 
@@ -62,7 +62,7 @@ impl<'a> CertWords<'a> {
     }
 
     /// The octets of the certificate that the words say, where it can be read, unless its name is taken.
-    fn make(&self, alloc: Global, known: &Named) -> Result<Vec<u8>, LineFault>
+    fn make(&self, alloc: Global, known: &Symbols) -> Result<Vec<u8>, LineFault>
         ensures made { IfOk result (λ octets. IsMade self.now octets.items) }
         ensures short { IfOk result (λ octets. length octets.items ≤ 65536) }
         ensures reads { IfOk result (λ octets. is_ok (certificate_of octets.items) ≡ true) }
@@ -102,7 +102,7 @@ impl<'a> CertWords<'a> {
 }
 
 /// Answers a `cert` line, and keeps its certificate.
-pub fn answer_cert(alloc: Global, known: &mut Named, line: &[u8]) -> Result<String, LineFault>
+pub fn answer_cert(alloc: Global, known: &mut Symbols, line: &[u8]) -> Result<String, LineFault>
     ensures said { IfOk result (λ text. IsCertSaid (known_in known.old) line.now (string_bytes text) (known_in known.new)) }
     ensures fault { IfErr result (RefusesCert (known_in known.old) line.now) }
     ensures unchanged { OnErr result (known_in known.new ≡ known_in known.old) }
@@ -114,7 +114,7 @@ pub fn answer_cert(alloc: Global, known: &mut Named, line: &[u8]) -> Result<Stri
 }
 
 /// Keeps the certificate that the words of a `cert` line say, and answers the line.
-fn keep(alloc: Global, known: &mut Named, words: &CertWords<'_>) -> Result<String, LineFault>
+fn keep(alloc: Global, known: &mut Symbols, words: &CertWords<'_>) -> Result<String, LineFault>
     ensures said { IfOk result (λ text. IsKept (known_in known.old) words.now (string_bytes text) (known_in known.new)) }
     ensures fault { IfErr result (λ fault. IsName words.now.name.now → RefusesWords (known_in known.old) words.now fault) }
     ensures unchanged { OnErr result (known_in known.new ≡ known_in known.old) }
@@ -122,7 +122,7 @@ fn keep(alloc: Global, known: &mut Named, words: &CertWords<'_>) -> Result<Strin
     let octets = words.make(alloc, known)?;
     let name = Vec::from_slice(alloc, words.name)?;
     let text = cert_text(alloc, words.name, octets.len())?;
-    known.keep(name, Kept::Certificate(CertOctets { octets }))?;
+    known.keep(name, Item::Certificate(CertOctets { octets }))?;
     Ok(text)
 }
 

@@ -4,9 +4,9 @@ ghost use Rattle.std.specs.Prelude.{◌≤◌, IfOk, IfErr, length, string_bytes
 ghost use Rattle.ts_script.specs.Known.{known_in};
 ghost use Rattle.ts_script.specs.CheckLine.{IsVerdictText, RefusesCheck};
 
-use crate::named::Named;
 use crate::options::Options;
 use crate::script::LineFault;
+use crate::symbols::Symbols;
 use crate::verdict_text::print_verdict;
 use crate::words::{SPACE, are_names, first_piece, is_name, moment_of, word_behind};
 use std::alloc::{AllocError, Global};
@@ -59,7 +59,11 @@ impl<'a> CheckWords<'a> {
 }
 
 /// The certificates of these names. A name that has none is refused as `Name`.
-fn chain_of<'a>(alloc: Global, known: &'a Named, names: &[u8]) -> Result<Vec<Cert<'a>>, LineFault> {
+fn chain_of<'a>(
+    alloc: Global,
+    known: &'a Symbols,
+    names: &[u8],
+) -> Result<Vec<Cert<'a>>, LineFault> {
     let mut chain = Vec::new(alloc);
     let mut rest = Some(names);
     while let Some(left) = rest {
@@ -131,7 +135,7 @@ fn judge_by<'a>(
 }
 
 /// Answers a `check` line.
-pub fn answer_check(alloc: Global, known: &Named, line: &[u8]) -> Result<String, LineFault>
+pub fn answer_check(alloc: Global, known: &Symbols, line: &[u8]) -> Result<String, LineFault>
     ensures said { IfOk result (λ text. IsVerdictText (string_bytes text)) }
     ensures fault { IfErr result RefusesCheck }
 {

@@ -3,16 +3,16 @@
 ghost use Rattle.std.specs.Prelude.{◌≡◌, ◌++◌, ◌≤◌, length, IfOk, IfErr, MatchOption, OnOk, OnErr, string_bytes, codes};
 ghost use Rattle.std.specs.Fmt.{decimal};
 ghost use Rattle.ts_crl.specs.Table.{crl_of};
-ghost use Rattle.ts_make.specs.ListMaking.{IsTaken};
+ghost use Rattle.ts_make.specs.CrlMaking.{IsTaken};
 ghost use Rattle.ts_script.specs.declared.script.LineFault.TheVariants.{Memory};
 ghost use Rattle.ts_script.specs.Words.{IsName};
 ghost use Rattle.ts_script.specs.Known.{known_in, named};
-ghost use Rattle.ts_script.specs.CrlLine.{IsCrlLine, IsListMade, IsListKept, RefusesListWords, IsCrlSaid, RefusesCrl};
+ghost use Rattle.ts_script.specs.CrlLine.{IsCrlLine, IsCrlMade, IsCrlKept, RefusesCrlWords, IsCrlSaid, RefusesCrl};
 
-use crate::list_fields::ListFields;
-use crate::list_words::list_words;
-use crate::named::{Kept, Named};
+use crate::crl_fields::CrlFields;
+use crate::crl_words::crl_words;
 use crate::script::LineFault;
+use crate::symbols::{Item, Symbols};
 use crate::words::{is_name, moment_of, octets_of, rdns_of, word_behind};
 use std::alloc::Global;
 use ts_make::{CrlText, MakeFault, make_crl};
@@ -25,7 +25,7 @@ pub struct CrlWords<'a> {
     pub this_update: &'a [u8],
     pub next_update: &'a [u8],
     pub signer: &'a [u8],
-    /// The words behind the signer.
+    /// The words after the signer.
     pub others: Option<&'a [u8]>,
 }
 
@@ -54,19 +54,19 @@ impl<'a> CrlWords<'a> {
     }
 
     /// The octets of the list that the words say, where it can be read, unless its name is taken.
-    fn make(&self, alloc: Global, known: &Named) -> Result<Vec<u8>, LineFault>
-        ensures made { IfOk result (λ octets. IsListMade self.now octets.items) }
+    fn make(&self, alloc: Global, known: &Symbols) -> Result<Vec<u8>, LineFault>
+        ensures made { IfOk result (λ octets. IsCrlMade self.now octets.items) }
         ensures short { IfOk result (λ octets. length octets.items ≤ 4194304) }
         ensures reads { IfOk result (λ octets. IsTaken (crl_of octets.items)) }
         ensures free { OnOk result (named (known_in known.now) self.now.name.now ≡ None) }
-        ensures fault { IfErr result (RefusesListWords (known_in known.now) self.now) }
+        ensures fault { IfErr result (RefusesCrlWords (known_in known.now) self.now) }
     {
         let this_update = moment_of(self.this_update).ok_or(LineFault::Form)?;
         let next_update = moment_of(self.next_update).ok_or(LineFault::Form)?;
         let issuer = rdns_of(alloc, self.issuer)?;
         let signer = octets_of(alloc, self.signer)?;
-        let words = list_words(alloc, self.others)?;
-        let fields = ListFields::gather(alloc, &words)?;
+        let words = crl_words(alloc, self.others)?;
+        let fields = CrlFields::gather(alloc, &words)?;
         let text = CrlText {
             issuer: &issuer,
             this_update,
@@ -93,7 +93,7 @@ impl<'a> CrlWords<'a> {
 }
 
 /// Answers a `crl` line, and keeps its list.
-pub fn answer_crl(alloc: Global, known: &mut Named, line: &[u8]) -> Result<String, LineFault>
+pub fn answer_crl(alloc: Global, known: &mut Symbols, line: &[u8]) -> Result<String, LineFault>
     ensures said { IfOk result (λ text. IsCrlSaid (known_in known.old) line.now (string_bytes text) (known_in known.new)) }
     ensures fault { IfErr result (RefusesCrl (known_in known.old) line.now) }
     ensures unchanged { OnErr result (known_in known.new ≡ known_in known.old) }
@@ -105,15 +105,15 @@ pub fn answer_crl(alloc: Global, known: &mut Named, line: &[u8]) -> Result<Strin
 }
 
 /// Keeps the list that the words of a `crl` line say, and answers the line.
-fn keep(alloc: Global, known: &mut Named, words: &CrlWords<'_>) -> Result<String, LineFault>
-    ensures said { IfOk result (λ text. IsListKept (known_in known.old) words.now (string_bytes text) (known_in known.new)) }
-    ensures fault { IfErr result (λ fault. IsName words.now.name.now → RefusesListWords (known_in known.old) words.now fault) }
+fn keep(alloc: Global, known: &mut Symbols, words: &CrlWords<'_>) -> Result<String, LineFault>
+    ensures said { IfOk result (λ text. IsCrlKept (known_in known.old) words.now (string_bytes text) (known_in known.new)) }
+    ensures fault { IfErr result (λ fault. IsName words.now.name.now → RefusesCrlWords (known_in known.old) words.now fault) }
     ensures unchanged { OnErr result (known_in known.new ≡ known_in known.old) }
 {
     let octets = words.make(alloc, known)?;
     let name = Vec::from_slice(alloc, words.name)?;
     let text = crl_text(alloc, words.name, octets.len())?;
-    known.keep(name, Kept::List(octets))?;
+    known.keep(name, Item::List(octets))?;
     Ok(text)
 }
 

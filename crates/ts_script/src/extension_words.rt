@@ -82,7 +82,7 @@ pub enum ExtensionWord<'a> {
 }
 
 impl<'a> ExtensionWord<'a> {
-    /// What a value says behind a keyword.
+    /// What a value says after a keyword.
     fn read_value(
         alloc: Global,
         keyword: Keyword,
@@ -239,7 +239,7 @@ fn stand_once(words: Option<&[u8]>) -> bool
         && stands_once(words, Keyword::InhibitAnyPolicy)
 }
 
-/// What the words behind the signer of a `cert` line say.
+/// What the words after the signer of a `cert` line say.
 pub fn extension_words(
     alloc: Global,
     words: Option<&[u8]>,

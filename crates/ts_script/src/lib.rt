@@ -1,7 +1,7 @@
 //! The words of the lab's scripts, and the lines that stand alone: those that make certificates and lists, and those that judge chains.
 //!
 //! ```text
-//! let mut known = Named::new(alloc);
+//! let mut known = Symbols::new(alloc);
 //! let text = answer_cert(alloc, &mut known, line)?;               // what the line prints; from then on its certificate is known
 //! let text = answer_check(alloc, &known, line)?;                   // the verdict on a chain of known certificates
 //! ```
@@ -10,8 +10,8 @@
 //! |---|---|
 //! | [`answer_cert`], [`answer_crl`] | what a line prints and makes known, by `specs/CertLine` and `specs/CrlLine`; or why it is refused, and nothing is known then that was not |
 //! | [`answer_check`] | the text of a verdict, or why the line is refused |
-//! | [`Named::find`], [`Named::find_cert`], [`Named::keep`] | what a name stands for is that of its first entry, and a new one stands last |
-//! | [`words`] | a word is a name, a number, octets, a moment exactly where it is spelled so (`specs/Words`) |
+//! | [`Symbols::find`], [`Symbols::find_cert`], [`Symbols::keep`] | what a name stands for is that of its first entry, and a new one is last |
+//! | [`words`] | a word is a name, a number, octets, a moment exactly where it is encoded so (`specs/Words`) |
 //! | [`oid_in`] | an object identifier in dotted form |
 //! | [`Options::read`] | what is asked of a chain |
 //! | [`laws::one_reading`] | words say one list of extensions |
@@ -22,15 +22,15 @@
 mod cert_line;
 mod cert_octets;
 mod check_line;
+mod crl_fields;
 mod crl_line;
+mod crl_words;
 mod extension_words;
 mod keyword;
 pub mod laws;
-mod list_fields;
-mod list_words;
-mod named;
 mod options;
 mod script;
+mod symbols;
 mod values;
 mod verdict_text;
 pub mod words;
@@ -39,7 +39,7 @@ pub use cert_line::answer_cert;
 pub use cert_octets::CertOctets;
 pub use check_line::answer_check;
 pub use crl_line::answer_crl;
-pub use named::{Kept, Named};
 pub use options::Options;
 pub use script::{COMMENT, LINE_FEED, LineFault, WrongLine};
+pub use symbols::{Item, Symbols};
 pub use values::oid_in;

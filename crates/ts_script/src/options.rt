@@ -83,7 +83,7 @@ impl Options {
         Ok(())
     }
 
-    /// The options up to the keyword before the names, and what stands behind it.
+    /// The options up to the keyword before the names, and what follows it.
     ///
     /// # Errors
     ///

@@ -18,7 +18,7 @@ pub const SPACE: u8 = b' ';
 /// Stands between two relative distinguished names.
 const SLASH: u8 = b'/';
 
-/// The octets up to the first mark, and those behind it where there is one.
+/// The octets up to the first mark, and those after it where there is one.
 pub fn first_piece(octets: &[u8], mark: u8) -> (&[u8], Option<&[u8]>)
     ensures { pieces_of mark octets.now ≡ result.0.now ∷ pieces_behind mark (option_map (λ rest. rest.now) result.1) }
 {
@@ -30,7 +30,7 @@ pub fn first_piece(octets: &[u8], mark: u8) -> (&[u8], Option<&[u8]>)
     (octets, None)
 }
 
-/// The word behind a keyword with which these words begin, and what follows the two.
+/// The word after a keyword with which these words begin, and what follows the two.
 pub fn word_behind<'a>(
     words: Option<&'a [u8]>,
     keyword: &[u8],
@@ -79,8 +79,8 @@ pub fn number_of(word: &[u8]) -> Option<u32>
     ensures { MatchOption result ((n : ℕ) → ¬ (IsNumber word.now n)) (IsNumber word.now) }
 {
     let number: u32 = str::from_utf8(word).ok()?.parse().ok()?;
-    let mut spelling = itoa::Buffer::new();
-    (spelling.format(number).as_bytes() == word).then_some(number)
+    let mut encoding = itoa::Buffer::new();
+    (encoding.format(number).as_bytes() == word).then_some(number)
 }
 
 /// The moment that a word names as a GeneralizedTime.
@@ -96,8 +96,8 @@ pub fn octets_of(alloc: Global, word: &[u8]) -> Result<Vec<u8>, LineFault>
     ensures fault { IfErr result (RefusesWord ((octets : List ℕ) → ¬ (IsHex word.now octets))) }
 {
     let octets = hex::decode(alloc, word)?;
-    let spelling = hex::encode(alloc, octets.as_slice())?;
-    if spelling.as_bytes() != word || octets.is_empty() {
+    let encoding = hex::encode(alloc, octets.as_slice())?;
+    if encoding.as_bytes() != word || octets.is_empty() {
         return Err(LineFault::Form);
     }
     Ok(octets)

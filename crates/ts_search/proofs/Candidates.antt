@@ -18,7 +18,7 @@ in_all P [] x h i = absurd i
 in_all P (y ∷ xs) x h (inl e) = subst P e h.0
 in_all P (y ∷ xs) x h (inr i) = in_all P xs x h.1 i
 
--- each before all behind it
+-- each before all after it
 abbrev AreOrdered : {X : Type 0} → (X → X → Type 0) → List X → Type 0
 AreOrdered R [] = Unit {0}
 AreOrdered R (x ∷ xs) = AllByRecursion (R x) xs × AreOrdered R xs
@@ -89,7 +89,7 @@ not_is : (b : Bool) → b ≡ false → not b ≡ true
 not_is b e = ap not e
 
 module _ (issues : ℕ → ℕ → Bool) (count : ℕ) (rows : List (List ℕ)) (some : 0 < count) (are_rows : AreRows issues count rows) where
-  -- what stands in the row of a place
+  -- what is in the row of a place
   from_row : (i j : ℕ) → i < count → In j (row_at rows i) → (j < count) × (issues j i ≡ true)
   from_row i j h m =
       let P : List ℕ → Type 0 = λ r. In j r in

@@ -30,7 +30,7 @@ heads c d cs ds hc hd (inl e) j = sym e
 heads c d cs ds hc hd (inr i) (inl e) = e
 heads c d cs ds hc hd (inr i) (inr j) = absurd (precedes_not d c (in_all (Precedes d) ds c hd i) (in_all (Precedes c) cs d hc j))
 
--- an element behind is not the first
+-- an element after is not the first
 behind : (c d x : List ℕ) (cs ds : List (List ℕ)) → c ≡ d → AllByRecursion (Precedes c) cs → In x cs → In x (d ∷ ds) → In x ds
 behind c d x cs ds e h i (inl f) =
     let P : List ℕ → Type 0 = λ y. Precedes c y in

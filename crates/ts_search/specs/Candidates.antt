@@ -1,5 +1,5 @@
 -- The chains that a search tries. Each is a list of places from the anchor's side: the certificate searched for, the leaf, has place 0 and
--- stands last; the certificates of the pool have the places 1, 2 and so on.
+-- is last; the certificates of the pool have the places 1, 2 and so on.
 use Rattle.std.specs.Prelude.{◌≡◌, ◌≤◌, ◌<◌, ◌⊎◌, ℕ, Bool, false, ◌==◌, List, [], ◌∷◌, length, Option, Some, None, slice_get, IsTrue}
 use Rattle.std.specs.List.{list_any, AllByRecursion}
 use Rattle.ts_cert.specs.Certificate.{Certificate}
@@ -21,7 +21,7 @@ AreLinked issues [] = Unit {0}
 AreLinked issues (i ∷ []) = Unit {0}
 AreLinked issues (i ∷ j ∷ below) = IsTrue (issues i j) × AreLinked issues (j ∷ below)
 
--- no place stands twice
+-- no place occurs twice
 abbrev pub AreDistinct : List ℕ → Type 0
 AreDistinct [] = Unit {0}
 AreDistinct (i ∷ below) = (list_any (λ j. j == i) below ≡ false) × AreDistinct below
@@ -50,7 +50,7 @@ IsBelow (i ∷ c) (j ∷ d) = IsBelow c d ⊎ ((c ≡ d) × (i < j))
 abbrev pub Precedes : List ℕ → List ℕ → Type 0
 Precedes c d = (length c < length d) ⊎ ((length c ≡ length d) × IsBelow c d)
 
--- each precedes all behind it
+-- each precedes all after it
 abbrev pub AreInOrder : List (List ℕ) → Type 0
 AreInOrder [] = Unit {0}
 AreInOrder (c ∷ cs) = AllByRecursion (Precedes c) cs × AreInOrder cs

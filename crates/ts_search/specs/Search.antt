@@ -38,7 +38,7 @@ pub record IsFirstUnder (asked : TrustAnchor → Asked) (chain : List Certificat
 
 -- ---- candidates in their order
 
--- what is searched: the leaf and the pool behind it, the trust anchors in their order, and what is asked of a chain under an anchor
+-- what is searched: the leaf and the pool after it, the trust anchors in their order, and what is asked of a chain under an anchor
 pub record Search : Type 0 where
   pub certificates : List Certificate
   pub anchors : List TrustAnchor

@@ -21,6 +21,6 @@ search_among certificates anchors inputs crls good = record {
   asked = asked_under inputs crls good;
 }
 
--- the leaf, and the pool behind it
+-- the leaf, and the pool after it
 abbrev pub search_in : Cert → List Cert → List Anchor → Inputs → Crls → Check → Search
 search_in leaf pool anchors inputs crls good = search_among (leaf ∷ pool) anchors inputs crls good

@@ -1,4 +1,4 @@
-//! Laws about the definitions that the clauses of this crate cite. Each stands on a function that does nothing.
+//! Laws about the definitions that the clauses of this crate cite. Each is the contract of a function that does nothing.
 
 ghost use Rattle.std.specs.Prelude.{◌≡◌, ℕ, List, Bool};
 ghost use Rattle.ts_search.specs.Candidates.{AreCandidates};

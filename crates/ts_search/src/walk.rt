@@ -24,7 +24,7 @@ pub const MAX_LENGTH: usize = 10;
 /// The greatest number of candidates that are tried.
 pub const MAX_CANDIDATES: usize = 4096;
 
-/// The leaf, and the pool behind it.
+/// The leaf, and the pool after it.
 fn together<'a>(
     alloc: Global,
     leaf: &Cert<'a>,

@@ -3,7 +3,7 @@ use Rattle.std.proofs.Common.{◌≡◌, ◌∙◌, refl, sym, ap, subst, ℕ, t
 use Rattle.std.specs.List.{flat_map, AllByRecursion}
 use Rattle.std.proofs.lemmas.List.{append-nil}
 use Rattle.std.specs.Io.KnownBytes.{Appends}
-use Rattle.ts_wire.specs.Frames.{Fits, spelling}
+use Rattle.ts_wire.specs.Frames.{Fits, encoding}
 use Rattle.ts_wire.specs.Stream.{Ends, Splits}
 use Rattle.ts_wire.specs.declared.fault.FrameFault.{FrameFault}
 use Rattle.ts_wire.specs.declared.fault.FrameFault.TheVariants.{Kind}
@@ -22,21 +22,21 @@ pub record Beside (frames taken : List Frame) (rest : List ℕ) (fault : Option 
   pub is : frames ≡ taken ++ more
   pub splits : Splits rest more fault
 
-one_front : (f : Frame) (tail : List ℕ) (frames : List Frame) (stream : List ℕ) (fault : Option FrameFault) → Fits f → stream ≡ spelling f ++ tail → Splits stream frames fault → Beside frames (f ∷ []) tail fault
+one_front : (f : Frame) (tail : List ℕ) (frames : List Frame) (stream : List ℕ) (fault : Option FrameFault) → Fits f → stream ≡ encoding f ++ tail → Splits stream frames fault → Beside frames (f ∷ []) tail fault
 one_front f tail [] stream fault fits is s = absurd (frame_or_end fault f tail s.rest fits (sym s.is ∙ is) s.ends)
 one_front f tail (g ∷ gs) stream fault fits is s =
-    let same : spelling f ++ tail ≡ spelling g ++ (flat_map spelling gs ++ s.rest) = sym is ∙ s.is ∙ split g gs s.rest in
+    let same : encoding f ++ tail ≡ encoding g ++ (flat_map encoding gs ++ s.rest) = sym is ∙ s.is ∙ split g gs s.rest in
     record {
       more = gs;
-      is = ap (λ (x : Frame). x ∷ gs) (sym (same_frame f g tail (flat_map spelling gs ++ s.rest) fits s.each.0 same));
-      splits = record { rest = s.rest; is = same_rest f g tail (flat_map spelling gs ++ s.rest) fits s.each.0 same; each = s.each.1; ends = s.ends };
+      is = ap (λ (x : Frame). x ∷ gs) (sym (same_frame f g tail (flat_map encoding gs ++ s.rest) fits s.each.0 same));
+      splits = record { rest = s.rest; is = same_rest f g tail (flat_map encoding gs ++ s.rest) fits s.each.0 same; each = s.each.1; ends = s.ends };
     }
 
-all_front : (taken frames : List Frame) (rest stream : List ℕ) (fault : Option FrameFault) → AllByRecursion Fits taken → stream ≡ flat_map spelling taken ++ rest → Splits stream frames fault → Beside frames taken rest fault
+all_front : (taken frames : List Frame) (rest stream : List ℕ) (fault : Option FrameFault) → AllByRecursion Fits taken → stream ≡ flat_map encoding taken ++ rest → Splits stream frames fault → Beside frames taken rest fault
 all_front [] frames rest stream fault fit is s = record { more = frames; is = refl; splits = subst (λ l. Splits l frames fault) is s }
 all_front (f ∷ fs) frames rest stream fault fit is s =
-    let one = one_front f (flat_map spelling fs ++ rest) frames stream fault fit.0 (is ∙ split f fs rest) s in
-    let others = all_front fs one.more rest (flat_map spelling fs ++ rest) fault fit.1 refl one.splits in
+    let one = one_front f (flat_map encoding fs ++ rest) frames stream fault fit.0 (is ∙ split f fs rest) s in
+    let others = all_front fs one.more rest (flat_map encoding fs ++ rest) fault fit.1 refl one.splits in
     record { more = others.more; is = one.is ∙ ap (λ l. f ∷ l) others.is; splits = others.splits }
 
 requests-append : (taken more : List Frame) → AllByRecursion (λ f. is_request f ≡ true) taken → requests_of (taken ++ more) ≡ taken ++ requests_of more

@@ -25,7 +25,7 @@ pub length-peers : (messages : List (Message Command)) → length (map Peer mess
 length-peers [] = refl
 length-peers (m ∷ ms) = ap suc (length-peers ms)
 
--- what was cut before is cut the same with more behind it
+-- what was cut before is cut the same with more after it
 take_twice : {A : Type 0} (n : ℕ) (xs ys : List A) → take n (take n xs ++ ys) ≡ take n (xs ++ ys)
 take_twice zero xs ys = refl
 take_twice (suc n) [] ys = refl

@@ -1,9 +1,9 @@
--- Requests that are answered one after another, and the stream that they stand in.
+-- Requests that are answered one after another, and the stream that they are in.
 use Rattle.std.proofs.Common.{◌≡◌, ◌∙◌, refl, sym, ap, subst, ℕ, List, [], ◌∷◌, ◌++◌, Option, None, append_assoc}
 use Rattle.std.specs.List.{flat_map, AllByRecursion}
 use Rattle.std.proofs.lemmas.List.{append-nil}
 use Rattle.std.proofs.lemmas.Grind.{flat_map-append}
-use Rattle.ts_wire.specs.Frames.{Fits, spelling}
+use Rattle.ts_wire.specs.Frames.{Fits, encoding}
 use Rattle.ts_wire.specs.declared.fault.FrameFault.{FrameFault}
 use Rattle.ts_wire.specs.declared.frame.Frame.{Frame}
 use Rattle.ts_serve.specs.Stream.{Run, Serving, StopsIf}
@@ -28,11 +28,11 @@ module _ {S : Type 0} (turn : S → Frame → List Frame → S → Type 0) where
   untaken octets fault a b stops same = record { requests = []; rest = octets; is = refl; each = tt; stops = stops; answers = []; run = (refl, same) }
 
   -- one request was taken
-  abbrev pub taken_one : (octets rest : List ℕ) (a b : S) (request : Frame) (answers : List Frame) → octets ≡ spelling request ++ rest → Fits request → turn a request answers b → Serving turn octets None a b
+  abbrev pub taken_one : (octets rest : List ℕ) (a b : S) (request : Frame) (answers : List Frame) → octets ≡ encoding request ++ rest → Fits request → turn a request answers b → Serving turn octets None a b
   taken_one octets rest a b request answers is fits t = record {
     requests = request ∷ [];
     rest = rest;
-    is = is ∙ ap (λ l. l ++ rest) (sym (append-nil (spelling request)));
+    is = is ∙ ap (λ l. l ++ rest) (sym (append-nil (encoding request)));
     each = (fits, tt);
     stops = tt;
     answers = answers;
@@ -44,9 +44,9 @@ module _ {S : Type 0} (turn : S → Frame → List Frame → S → Type 0) where
   serving_join octets held piece fault a b c s left t = record {
     requests = s.requests ++ t.requests;
     rest = t.rest;
-    is = ap (λ l. l ++ piece) (s.is ∙ ap (λ l. flat_map spelling s.requests ++ l) left) ∙ append_assoc (flat_map spelling s.requests) held piece
-        ∙ ap (λ l. flat_map spelling s.requests ++ l) t.is ∙ sym (append_assoc (flat_map spelling s.requests) (flat_map spelling t.requests) t.rest)
-        ∙ ap (λ l. l ++ t.rest) (sym (flat_map-append spelling s.requests t.requests));
+    is = ap (λ l. l ++ piece) (s.is ∙ ap (λ l. flat_map encoding s.requests ++ l) left) ∙ append_assoc (flat_map encoding s.requests) held piece
+        ∙ ap (λ l. flat_map encoding s.requests ++ l) t.is ∙ sym (append_assoc (flat_map encoding s.requests) (flat_map encoding t.requests) t.rest)
+        ∙ ap (λ l. l ++ t.rest) (sym (flat_map-append encoding s.requests t.requests));
     each = all_both s.requests t.requests s.each t.each;
     stops = t.stops;
     answers = s.answers ++ t.answers;

@@ -1,9 +1,9 @@
--- The steps in which a stream is served, one behind another.
+-- The steps in which a stream is served, one after another.
 use Rattle.std.proofs.Common.{◌≡◌, ◌≢◌, ◌∙◌, refl, sym, ap, subst, ℕ, true, false, List, [], ◌++◌, Option, Some, None, Result, Ok, Err, OnOk, IfErr, inl, inr, append_assoc, arith}
 use Rattle.std.proofs.lemmas.List.{append-nil}
 use Rattle.std.proofs.KnownBytes.{Appends-nil, Appends-trans, Consumes-nil, Consumes-trans, Consumes-kept}
 use Rattle.std.specs.Io.KnownBytes.{Appends, Consumes, Keeps}
-use Rattle.ts_wire.specs.Frames.{Fits, spelling}
+use Rattle.ts_wire.specs.Frames.{Fits, encoding}
 use Rattle.ts_wire.specs.Stream.{IsPartial}
 use Rattle.ts_wire.specs.declared.fault.FrameFault.{FrameFault}
 use Rattle.ts_wire.specs.declared.fault.FrameFault.TheVariants.{Kind}
@@ -66,10 +66,10 @@ module _ {S : Type 0} (turn : S → Frame → List Frame → S → Type 0) where
   -- ---- one frame
 
   -- a frame at the front was answered
-  pub frame_served : (octets rest : List ℕ) (a b : S) (frame : Frame) (v w : Option (List ℕ)) → Fits frame → octets ≡ spelling frame ++ rest → Answers turn a frame v (Ok tt) b w → HasServed turn octets a v b rest w
+  pub frame_served : (octets rest : List ℕ) (a b : S) (frame : Frame) (v w : Option (List ℕ)) → Fits frame → octets ≡ encoding frame ++ rest → Answers turn a frame v (Ok tt) b w → HasServed turn octets a v b rest w
   frame_served octets rest a b frame v w fits is said = (taken_one turn octets rest a b frame said.0 is fits said.1, refl, said.2)
 
-  -- a fault stands here, and was answered, or a front of the answer was written
+  -- a fault is here, and was answered, or a front of the answer was written
   pub refused : (octets : List ℕ) (a b : S) (fault : FrameFault) (end : ServeFault) (v w : Option (List ℕ)) → Stops fault octets → b ≡ a → Refuses fault v end w → HasStopped turn octets a v end b w
   refused octets a b fault (faults.Frame answered) v w stops same r = (
     untaken turn octets (Some answered) a b (subst (λ (f : FrameFault). Stops f octets) (sym r.0) stops) same,
@@ -81,7 +81,7 @@ module _ {S : Type 0} (turn : S → Frame → List Frame → S → Type 0) where
   refused octets a b fault faults.Write v w stops same r = record { fault = Some fault; served = untaken turn octets (Some fault) a b stops same; written = r }
   refused octets a b fault faults.Memory v w stops same r = record { fault = Some fault; served = untaken turn octets (Some fault) a b stops same; written = r }
 
-  frame_cut : (octets rest : List ℕ) (a b : S) (frame : Frame) (answers : List Frame) (v w : Option (List ℕ)) → Fits frame → octets ≡ spelling frame ++ rest → turn a frame answers b → AppendsFront v w (text answers) → IsCutOff turn octets a v b w
+  frame_cut : (octets rest : List ℕ) (a b : S) (frame : Frame) (answers : List Frame) (v w : Option (List ℕ)) → Fits frame → octets ≡ encoding frame ++ rest → turn a frame answers b → AppendsFront v w (text answers) → IsCutOff turn octets a v b w
   frame_cut octets rest a b frame answers v w fits is made front = record {
     fault = None;
     served = taken_one turn octets rest a b frame answers is fits made;
@@ -89,7 +89,7 @@ module _ {S : Type 0} (turn : S → Frame → List Frame → S → Type 0) where
   }
 
   -- a frame at the front was answered, but not all of its answer was written; or it is no request
-  pub frame_stopped : (octets rest : List ℕ) (a b : S) (frame : Frame) (fault : ServeFault) (v w : Option (List ℕ)) → Fits frame → octets ≡ spelling frame ++ rest → Answers turn a frame v (Err fault) b w → HasStopped turn octets a v fault b w
+  pub frame_stopped : (octets rest : List ℕ) (a b : S) (frame : Frame) (fault : ServeFault) (v w : Option (List ℕ)) → Fits frame → octets ≡ encoding frame ++ rest → Answers turn a frame v (Err fault) b w → HasStopped turn octets a v fault b w
   frame_stopped octets rest a b frame faults.Write v w fits is (inl said) = frame_cut octets rest a b frame said.answers v w fits is said.made said.written
   frame_stopped octets rest a b frame faults.Memory v w fits is (inl said) = frame_cut octets rest a b frame said.answers v w fits is said.made said.written
   frame_stopped octets rest a b frame faults.Read v w fits is (inl said) = absurd said

@@ -4,7 +4,7 @@ use Rattle.std.proofs.lemmas.List.{append-nil}
 use Rattle.std.specs.List.{flat_map}
 use Rattle.std.proofs.KnownBytes.{Consumes-all, Consumes-trans}
 use Rattle.std.specs.Io.KnownBytes.{Consumes, IsAtEnd}
-use Rattle.ts_wire.specs.Frames.{spelling}
+use Rattle.ts_wire.specs.Frames.{encoding}
 use Rattle.ts_wire.specs.Stream.{IsPartial}
 use Rattle.ts_wire.specs.declared.fault.FrameFault.{FrameFault}
 use Rattle.ts_wire.specs.declared.frame.Frame.{Frame}
@@ -25,7 +25,7 @@ stops_longer (Some fault) octets later (inr other) = inr (
     after = other.1.after ++ later;
     fits = other.1.fits;
     other = other.1.other;
-    is = ap (λ l. l ++ later) other.1.is ∙ append_assoc (spelling other.1.frame) other.1.after later;
+    is = ap (λ l. l ++ later) other.1.is ∙ append_assoc (encoding other.1.frame) other.1.after later;
   },
 )
 
@@ -47,7 +47,7 @@ module _ {S : Type 0} (turn : S → Frame → List Frame → S → Type 0) where
   longer octets later stream fault a b whole s = record {
     requests = s.requests;
     rest = s.rest ++ later;
-    is = sym whole ∙ ap (λ l. l ++ later) s.is ∙ append_assoc (flat_map spelling s.requests) s.rest later;
+    is = sym whole ∙ ap (λ l. l ++ later) s.is ∙ append_assoc (flat_map encoding s.requests) s.rest later;
     each = s.each;
     stops = stops_longer fault s.rest later s.stops;
     answers = s.answers;

@@ -58,7 +58,7 @@ module _ {S : Type 0} (turn : S → Frame → List Frame → S → Type 0) where
   Drains octets old before (Ok done) new rest after = HasServed octets old before new rest after × IsPartial rest
   Drains octets old before (Err fault) new rest after = HasStopped octets old before fault new after
 
-  -- A read, from a reader that had the first left to one that has the second: a piece came and was served behind what was there, or
+  -- A read, from a reader that had the first left to one that has the second: a piece came and was served after what was there, or
   -- the stream is at its end.
   abbrev pub Reads : Option (List ℕ) → Option (List ℕ) → List ℕ → S → Option (List ℕ) → Result Bool ServeFault → S → List ℕ → Option (List ℕ) → Type 0
   Reads left now held old before (Ok true) new rest after = (piece : List ℕ) × Consumes left now piece × HasServed (held ++ piece) old before new rest after × IsPartial rest

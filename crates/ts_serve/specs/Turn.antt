@@ -48,7 +48,7 @@ module _ {D M B : Type 0} (state : D → State) (store : Store Command Outcome (
     pub failed : IsErrOf result DiskFailed → (new.kept.broken ≡ true) × Failed state old new
     pub broken : old.kept.broken ≡ true → IsErrOf result Broken × (new ≡ old)
 
-  -- The node takes the input. Its reply is the answer, and its messages go behind those in the outbox, of which the first 256 stay.
+  -- The node takes the input. Its reply is the answer, and its messages go after those in the outbox, of which the first 256 stay.
   pub record Handled (old : Server D M) (input : Input Command Asked) (replies : List Frame) (new : Server D M) : Type 0 where
     pub result : Result (Output Command Outcome Answered) NodeFault
     pub call : IsCall old.node input result new.node

@@ -3,7 +3,7 @@
 ghost use Rattle.std.specs.Prelude.{◌≡◌, ◌↔◌, All, IfOk, IfSome, IsTrue};
 ghost use Rattle.ts_serve.specs.Carrying.{IsDelivered, IsGiven, is_message};
 ghost use Rattle.std.specs.List.{flat_map, list_all, AllByRecursion};
-ghost use Rattle.ts_wire.specs.Frames.{Fits, spelling};
+ghost use Rattle.ts_wire.specs.Frames.{Fits, encoding};
 
 use crate::outbox::MAX_WAITING;
 use crate::peer::Peer;
@@ -13,9 +13,9 @@ use ts_wire::{Feed, FeedError, Frame, WriteError, write_frame};
 /// The frame Take.
 const TAKE: [u8; 6] = [0, 0, 0, 2, 2, 0x12];
 
-/// The frames that octets are, if they are frames, one behind another, and nothing else.
+/// The frames that octets are, if they are frames, one after another, and nothing else.
 fn frames_of(alloc: Global, octets: &[u8]) -> Result<Option<Vec<Frame>>, AllocError>
-    ensures { IfOk result (λ found. IfSome found (λ frames. (octets.now ≡ flat_map spelling frames.items) × AllByRecursion Fits frames.items)) }
+    ensures { IfOk result (λ found. IfSome found (λ frames. (octets.now ≡ flat_map encoding frames.items) × AllByRecursion Fits frames.items)) }
 {
     let mut feed = Feed::new(alloc);
     feed.push(octets)?;

@@ -17,7 +17,7 @@ pub enum ServeFault {
     ReadLimit,
     /// The stream ended within a frame.
     Cut,
-    /// This stands in a frame's place. It was answered.
+    /// This is in a frame's place. It was answered.
     Frame(FrameFault),
     /// Memory was refused.
     Memory,

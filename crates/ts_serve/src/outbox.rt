@@ -33,7 +33,7 @@ impl Model for Outbox {
     ghost invariant = { λ o. IsOutbox o.frames };
 }
 
-/// Puts a message behind those that wait, if there is room.
+/// Puts a message after those that wait, if there is room.
 fn put_one(frames: &mut Vec<Frame>, message: Message<Command>)
     requires { IsOutbox frames.old }
     ensures put { frames.new.items ≡ take 256 (frames.old.items ++ Peer message ∷ []) }
@@ -45,7 +45,7 @@ fn put_one(frames: &mut Vec<Frame>, message: Message<Command>)
     }
 }
 
-/// Puts messages behind those that wait, while there is room.
+/// Puts messages after those that wait, while there is room.
 fn put_behind(frames: &mut Vec<Frame>, messages: Vec<Message<Command>>)
     requires { IsOutbox frames.old }
     ensures put { frames.new.items ≡ take 256 (frames.old.items ++ map Peer messages.items) }
@@ -65,7 +65,7 @@ impl Outbox {
         Ok(Outbox { frames })
     }
 
-    /// Puts messages behind those that wait. The first 256 stay, and the others are lost.
+    /// Puts messages after those that wait. The first 256 stay, and the others are lost.
     pub fn put(&mut self, messages: Vec<Message<Command>>)
         ensures { self.new ≡ take 256 (self.old ++ messages.items) }
     {

@@ -1,10 +1,10 @@
--- Lists of items, each within an element: what is read is spelled so, and what is spelled so is read.
+-- Lists of items, each within an element: what is read is encoded so, and what is encoded so is read.
 use Rattle.std.proofs.Common.{◌≡◌, ℕ, zero, suc, ◌+◌, ◌≤◌, Bool, true, false, cond, List, [], ◌∷◌, ◌++◌, length, Result, Ok, refl, ap, subst, ◌∙◌, arith}
 use Rattle.std.specs.List.{flat_map, AllByRecursion}
 use Rattle.ts_der.specs.declared.fault.Fault.{Fault}
 use Rattle.ts_der.specs.Octets.{AreOctets}
 use Rattle.ts_der.specs.Answer.{◌>>=◌}
-use Rattle.ts_der.specs.Element.{Place, Tlv, Fits, spell, spelled_at}
+use Rattle.ts_der.specs.Element.{Place, Tlv, Fits, encode, encoded_at}
 use Rattle.ts_der.specs.Reading.{is_end, element_at, many_from, many}
 use Rattle.ts_der.proofs.OctetLists.{AreOctets-back, AreOctets-part}
 use Rattle.ts_der.proofs.Laws.{bind_ok, ok_is, element-found, element-only}
@@ -12,17 +12,17 @@ use Rattle.ts_der.proofs.Many.{is_end-length, many-end, many-step}
 use Rattle.ts_shape.specs.Fields.{within}
 use Rattle.ts_shape.proofs.Walks.{within-consumes}
 
--- how a value is read from an element's content and spelled there
+-- how a value is read from an element's content and encoded there
 pub record Codec {A : Type 0} (tag : ℕ) (value : Tlv → Result A Fault) (content_of : A → List ℕ) (Good : A → Type 0) : Type 0 where
   pub found : (e : Tlv) (x : A) → AreOctets e.content → value e ≡ Ok x → (e.content ≡ content_of x) × Good x
   pub again : (e : Tlv) (x : A) → Good x → e.content ≡ content_of x → value e ≡ Ok x
 
--- a value that has a spelling as an element of this tag
+-- a value that has an encoding as an element of this tag
 abbrev pub Whole : {A : Type 0} → ℕ → (A → List ℕ) → (A → Type 0) → A → Type 0
 Whole tag content_of Good x = Good x × Fits tag (content_of x)
 
 abbrev pub whole_of : {A : Type 0} → ℕ → (A → List ℕ) → A → List ℕ
-whole_of tag content_of x = spell tag (content_of x)
+whole_of tag content_of x = encode tag (content_of x)
 
 pub within-found : {A : Type 0} (tag : ℕ) (value : Tlv → Result A Fault) (content_of : A → List ℕ) (Good : A → Type 0) → Codec tag value content_of Good
     → (here : Place) (x : A) (after : Place) → AreOctets here.rest → within tag value here ≡ Ok (x, after)
@@ -34,13 +34,13 @@ within-found {A} tag value content_of Good codec here x after fits read =
     let same : (v.0, b.0.1) ≡ (x, after) = ok_is {A = A × Place} {E = Fault} (v.0, b.0.1) (x, after) v.2 in
     let s = element-found tag here b.0.0 b.0.1 fits b.1 in
     let stands = s.0 in
-    let whole : here.rest ≡ spell b.0.0.tag b.0.0.content ++ b.0.1.rest = stands.whole ∙ ap (λ (w : List ℕ). w ++ b.0.1.rest) stands.spelled in
+    let whole : here.rest ≡ encode b.0.0.tag b.0.0.content ++ b.0.1.rest = stands.whole ∙ ap (λ (w : List ℕ). w ++ b.0.1.rest) stands.encoded in
     let inner : AreOctets b.0.0.content = AreOctets-part b.0.0.tag b.0.0.content b.0.1.rest (subst AreOctets whole fits) in
     let f = codec.found b.0.0 v.0 inner v.1 in
-    let spelled : here.rest ≡ whole_of tag content_of v.0 ++ b.0.1.rest = whole ∙ (ap (λ (t : ℕ). spell t b.0.0.content ++ b.0.1.rest) s.1 ∙ ap (λ (c : List ℕ). spell tag c ++ b.0.1.rest) f.0) in
+    let encoded : here.rest ≡ whole_of tag content_of v.0 ++ b.0.1.rest = whole ∙ (ap (λ (t : ℕ). encode t b.0.0.content ++ b.0.1.rest) s.1 ∙ ap (λ (c : List ℕ). encode tag c ++ b.0.1.rest) f.0) in
     let good : Fits tag (content_of v.0) = subst (λ (c : List ℕ). Fits tag c) f.0 (subst (λ (t : ℕ). Fits t b.0.0.content) s.1 stands.fits) in
     subst (λ (p : A × Place). Whole tag content_of Good p.0 × (here.rest ≡ whole_of tag content_of p.0 ++ p.1.rest) × AreOctets p.1.rest) same
-    ((f.1, good), spelled, AreOctets-back (whole_of tag content_of v.0) b.0.1.rest (subst AreOctets spelled fits))
+    ((f.1, good), encoded, AreOctets-back (whole_of tag content_of v.0) b.0.1.rest (subst AreOctets encoded fits))
 
 -- what items one after another are
 pub record AreItems {A : Type 0} (tag : ℕ) (content_of : A → List ℕ) (Good : A → Type 0) (octets : List ℕ) (xs : List A) : Type 0 where
@@ -70,22 +70,22 @@ items_from {A} tag value content_of Good codec (suc n) here xs le fits e =
         let b = bind_ok (many_from n (within tag value) a.0.1) (λ ys. Ok (a.0.0 ∷ ys)) xs a.2 in
         subst (λ (zs : List A). AreItems tag content_of Good here.rest zs) (ok_is {E = Fault} (a.0.0 ∷ b.0) xs b.2) (f a.0.0 a.0.1 b.0 a.1 b.1)
 
--- what is read is spelled so
+-- what is read is encoded so
 pub many-found : {A : Type 0} (tag : ℕ) (value : Tlv → Result A Fault) (content_of : A → List ℕ) (Good : A → Type 0) → Codec tag value content_of Good
     → (here : Place) (xs : List A) → AreOctets here.rest → many (within tag value) here ≡ Ok xs → AreItems tag content_of Good here.rest xs
 unfolding many
 many-found tag value content_of Good codec here xs fits e = items_from tag value content_of Good codec (length here.rest) here xs (omega arith) fits e
 
--- what is spelled so is read
+-- what is encoded so is read
 pub many-again : {A : Type 0} (tag : ℕ) (value : Tlv → Result A Fault) (content_of : A → List ℕ) (Good : A → Type 0) → Codec tag value content_of Good
     → (here : Place) (xs : List A) → AreItems tag content_of Good here.rest xs → many (within tag value) here ≡ Ok xs
 unfolding within
 many-again tag value content_of Good codec here [] m = many-end (within tag value) here (ap is_end m.whole)
 many-again tag value content_of Good codec here (x ∷ xs) m =
-    let whole : here.rest ≡ spell tag (content_of x) ++ flat_map (whole_of tag content_of) xs = m.whole in
+    let whole : here.rest ≡ encode tag (content_of x) ++ flat_map (whole_of tag content_of) xs = m.whole in
     let one = element-only here tag (content_of x) (flat_map (whole_of tag content_of) xs) m.each.0.1 whole in
-    let v : value (spelled_at here.at tag (content_of x)) ≡ Ok x = codec.again (spelled_at here.at tag (content_of x)) x m.each.0.0 refl in
-    let after : Place = record { rest = flat_map (whole_of tag content_of) xs; at = here.at + length (spell tag (content_of x)) } in
+    let v : value (encoded_at here.at tag (content_of x)) ≡ Ok x = codec.again (encoded_at here.at tag (content_of x)) x m.each.0.0 refl in
+    let after : Place = record { rest = flat_map (whole_of tag content_of) xs; at = here.at + length (encode tag (content_of x)) } in
     let item : within tag value here ≡ Ok (x, after) = rw (one, v) refl in
     let rest = many-again tag value content_of Good codec after xs (record { each = m.each.1; whole = refl }) in
     many-step (within tag value) (within-consumes tag value) here (ap is_end m.whole) ∙ rw (item, rest) refl

@@ -1,4 +1,4 @@
--- Fields that more than one format has, each as it is read and spelled.
+-- Fields that more than one format has, each as it is read and encoded.
 use Rattle.std.proofs.Common.{◌≡◌, ℕ, Bool, true, false, cond, not, eqb, List, [], ◌∷◌, Some, None, Ok, refl, sym, ap, ◌∙◌}
 use Rattle.std.specs.Prelude.{drop}
 use Rattle.std.proofs.lemmas.Bool.{eqb-true}
@@ -7,7 +7,7 @@ use Rattle.ts_der.specs.declared.fault.DerFault.TheVariants.{IntegerForm, OidFor
 use Rattle.ts_der.specs.declared.fault.Fault.{Fault}
 use Rattle.ts_der.specs.Octets.{AreOctets}
 use Rattle.ts_der.specs.Rules.{first_broken, value_unless}
-use Rattle.ts_der.specs.Element.{Tlv, spell}
+use Rattle.ts_der.specs.Element.{Tlv, encode}
 use Rattle.ts_der.specs.Integer.{is_shortest, integer_rules}
 use Rattle.ts_der.specs.BitString.{whole_octets_rules}
 use Rattle.ts_der.specs.ObjectIdentifier.{is_oid, oid_rules}
@@ -22,20 +22,20 @@ tested : (kind : DerFault) (b : Bool) (at : ℕ) (x y : List ℕ) → located at
 tested kind true at x y e = (ok_is {E = Fault} x y e, refl)
 tested kind false at x y e = absurd cc
 
-oid-found : (e : Tlv) (x : List ℕ) → AreOctets e.content → e.whole ≡ spell 0x06 e.content → value_at oid_rules (λ c. c) e ≡ Ok x → IsOid e.content x
+oid-found : (e : Tlv) (x : List ℕ) → AreOctets e.content → e.whole ≡ encode 0x06 e.content → value_at oid_rules (λ c. c) e ≡ Ok x → IsOid e.content x
 oid-found e x fits w read = let t = tested OidForm (is_oid e.content) e.at e.content x read in (t.0, ap is_oid (sym t.0) ∙ t.1)
 
-oid-again : (e : Tlv) (x : List ℕ) → e.whole ≡ spell 0x06 e.content → IsOid e.content x → value_at oid_rules (λ c. c) e ≡ Ok x
+oid-again : (e : Tlv) (x : List ℕ) → e.whole ≡ encode 0x06 e.content → IsOid e.content x → value_at oid_rules (λ c. c) e ≡ Ok x
 oid-again e x w is = rw (is.0, is.1) refl
 
 pub oid-part : Part oid_at (Within 0x06 IsOid)
 unfolding oid_at
 oid-part = within-part 0x06 (value_at oid_rules (λ c. c)) IsOid (record { found = oid-found; again = oid-again })
 
-integer-found : (e : Tlv) (x : List ℕ) → AreOctets e.content → e.whole ≡ spell 0x02 e.content → value_at integer_rules (λ c. c) e ≡ Ok x → IsInteger e.content x
+integer-found : (e : Tlv) (x : List ℕ) → AreOctets e.content → e.whole ≡ encode 0x02 e.content → value_at integer_rules (λ c. c) e ≡ Ok x → IsInteger e.content x
 integer-found e x fits w read = let t = tested IntegerForm (is_shortest e.content) e.at e.content x read in (t.0, ap is_shortest (sym t.0) ∙ t.1)
 
-integer-again : (e : Tlv) (x : List ℕ) → e.whole ≡ spell 0x02 e.content → IsInteger e.content x → value_at integer_rules (λ c. c) e ≡ Ok x
+integer-again : (e : Tlv) (x : List ℕ) → e.whole ≡ encode 0x02 e.content → IsInteger e.content x → value_at integer_rules (λ c. c) e ≡ Ok x
 integer-again e x w is = rw (is.0, is.1) refl
 
 pub integer-part : Part integer_at (Within 0x02 IsInteger)
@@ -50,7 +50,7 @@ bits-ok (u ∷ octets) at x e = by_test (eqb u 0) refl e
     by_test true t e = ap (λ (v : ℕ). v ∷ octets) (eqb-true u 0 t) ∙ ap (λ (os : List ℕ). 0 ∷ os) (ok_is {E = Fault} octets x e)
     by_test false t e = absurd cc
 
-bits-again : (e : Tlv) (x : List ℕ) → e.whole ≡ spell 0x03 e.content → IsBits e.content x → value_at whole_octets_rules (λ c. drop 1 c) e ≡ Ok x
+bits-again : (e : Tlv) (x : List ℕ) → e.whole ≡ encode 0x03 e.content → IsBits e.content x → value_at whole_octets_rules (λ c. drop 1 c) e ≡ Ok x
 bits-again e x w is = rw is refl
 
 pub bits-part : Part bits_at (Within 0x03 IsBits)

@@ -1,4 +1,4 @@
--- The first item that repeats an earlier one: what counts of the keys seen, and what it has with suspects to do.
+-- The first item that repeats an earlier one: what counts of the keys seen, and what it has with collisions to do.
 use Rattle.std.proofs.Common.{◌≡◌, ◌<◌, ◌≤◌, ◌+◌, ◌-◌, subst, ℕ, zero, suc, length, Bool, true, false, cond, ◌||◌, List, [], ◌∷◌, ◌++◌, take, drop, Option, Some, None, option_map, Result, Ok, Err, bytes_eq, refl, sym, ap, ◌∙◌, arith}
 use Rattle.std.specs.Option.{is_some}
 use Rattle.std.proofs.lemmas.Bool.{false≢true}
@@ -10,7 +10,7 @@ use Rattle.ts_der.specs.Element.{Place, Tlv}
 use Rattle.ts_der.specs.Reading.{is_end}
 use Rattle.ts_shape.specs.Items.{each, first_then, upto_from, items_at}
 use Rattle.ts_shape.specs.Repeats.{is_among, first_repeated}
-use Rattle.ts_shape.specs.Suspects.{AreSuspects}
+use Rattle.ts_shape.specs.Collisions.{AreCollisions}
 use Rattle.ts_shape.proofs.KeyTables.{itself, some-none}
 
 if-some : {A : Type 0} (b : Bool) (x : A) (r q : Option A) → ((q ≡ None → ⊥) → r ≡ q) → (cond b (Some x) q ≡ None → ⊥) → cond b (Some x) r ≡ cond b (Some x) q
@@ -35,7 +35,7 @@ module _ {A : Type 0} (key : A → List ℕ) where
   pub taken : (xs : List A) (x : A) (ys : List A) (n m : ℕ) → xs ≡ x ∷ ys → n ≡ suc m → take n xs ≡ x ∷ take m ys
   taken xs x ys n m e some = rw (some, e) refl
 
-  -- the same of the first of the items
+  -- the same for the first of the items
   pub next-new : (s : List (List ℕ)) (xs : List A) (x : A) (ys : List A) (n m : ℕ) → xs ≡ x ∷ ys → n ≡ suc m → is_among (key x) s ≡ false → first_repeated key s (take n xs) ≡ first_repeated key (key x ∷ s) (take m ys)
   next-new s xs x ys n m e some new = seen-next s (take n xs) x (take m ys) (taken xs x ys n m e some) new
 
@@ -73,9 +73,9 @@ module _ {A : Type 0} (key : A → List ℕ) where
   answered-all f None n xs some e = absurd (false≢true some)
   answered-all f (Some y) n xs some e = sym (answered n xs (f y) (sym e))
 
-  -- ---- suspects
+  -- ---- collisions
 
-  -- the keys seen behind these items
+  -- the keys seen after these items
   abbrev pub seen_after : List (List ℕ) → List A → List (List ℕ)
   seen_after s [] = s
   seen_after s (x ∷ xs) = seen_after (key x ∷ s) xs
@@ -85,34 +85,34 @@ module _ {A : Type 0} (key : A → List ℕ) where
   after-more s (y ∷ front) x = after-more (key y ∷ s) front x
 
   -- no item is one
-  pub no-suspects : (t s : List (List ℕ)) → AreSuspects key t s []
-  unfolding AreSuspects
-  no-suspects t s = tt
+  pub no-collisions : (t s : List (List ℕ)) → AreCollisions key t s []
+  unfolding AreCollisions
+  no-collisions t s = tt
 
   -- one more item, whose key is in the table if it was seen
-  pub suspects-more : (t s : List (List ℕ)) (front : List A) (x : A) → AreSuspects key t s front → (is_among (key x) (seen_after s front) ≡ true → is_among (key x) t ≡ true) → AreSuspects key t s (front ++ x ∷ [])
-  unfolding AreSuspects
-  suspects-more t s [] x a h = (h, tt)
-  suspects-more t s (y ∷ front) x a h = (a.0, suspects-more t (key y ∷ s) front x a.1 h)
+  pub collisions-more : (t s : List (List ℕ)) (front : List A) (x : A) → AreCollisions key t s front → (is_among (key x) (seen_after s front) ≡ true → is_among (key x) t ≡ true) → AreCollisions key t s (front ++ x ∷ [])
+  unfolding AreCollisions
+  collisions-more t s [] x a h = (h, tt)
+  collisions-more t s (y ∷ front) x a h = (a.0, collisions-more t (key y ∷ s) front x a.1 h)
 
   -- in a table that has the same keys and may have more
-  pub suspects-in : (t u s : List (List ℕ)) (xs : List A) → ((k : List ℕ) → is_among k t ≡ true → is_among k u ≡ true) → AreSuspects key t s xs → AreSuspects key u s xs
-  unfolding AreSuspects
-  suspects-in t u s [] h a = tt
-  suspects-in t u s (x ∷ xs) h a = ((λ e. h (key x) (a.0 e)), suspects-in t u (key x ∷ s) xs h a.1)
+  pub collisions-in : (t u s : List (List ℕ)) (xs : List A) → ((k : List ℕ) → is_among k t ≡ true → is_among k u ≡ true) → AreCollisions key t s xs → AreCollisions key u s xs
+  unfolding AreCollisions
+  collisions-in t u s [] h a = tt
+  collisions-in t u s (x ∷ xs) h a = ((λ e. h (key x) (a.0 e)), collisions-in t u (key x ∷ s) xs h a.1)
 
   -- the next of them
-  pub suspects-next : (t s : List (List ℕ)) (xs : List A) (x : A) (ys : List A) (n m : ℕ) → xs ≡ x ∷ ys → n ≡ suc m → AreSuspects key t s (take n xs)
-      → (is_among (key x) s ≡ true → is_among (key x) t ≡ true) × AreSuspects key t (key x ∷ s) (take m ys)
-  unfolding AreSuspects
-  suspects-next t s xs x ys n m e some a = subst (λ (zs : List A). AreSuspects key t s zs) (taken xs x ys n m e some) a
+  pub collisions-next : (t s : List (List ℕ)) (xs : List A) (x : A) (ys : List A) (n m : ℕ) → xs ≡ x ∷ ys → n ≡ suc m → AreCollisions key t s (take n xs)
+      → (is_among (key x) s ≡ true → is_among (key x) t ≡ true) × AreCollisions key t (key x ∷ s) (take m ys)
+  unfolding AreCollisions
+  collisions-next t s xs x ys n m e some a = subst (λ (zs : List A). AreCollisions key t s zs) (taken xs x ys n m e some) a
 
   -- where the table is empty, none repeats another
-  pub none-suspected : (s : List (List ℕ)) (xs : List A) → AreSuspects key [] s xs → first_repeated key s xs ≡ None
-  unfolding AreSuspects first_repeated
-  none-suspected s [] a = refl
-  none-suspected s (x ∷ xs) a =
-      ap (λ b. cond b (Some x) (first_repeated key (key x ∷ s) xs)) (not-seen (is_among (key x) s) false a.0 refl) ∙ none-suspected (key x ∷ s) xs a.1
+  pub none-colliding : (s : List (List ℕ)) (xs : List A) → AreCollisions key [] s xs → first_repeated key s xs ≡ None
+  unfolding AreCollisions first_repeated
+  none-colliding s [] a = refl
+  none-colliding s (x ∷ xs) a =
+      ap (λ b. cond b (Some x) (first_repeated key (key x ∷ s) xs)) (not-seen (is_among (key x) s) false a.0 refl) ∙ none-colliding (key x ∷ s) xs a.1
 
   -- of items that are known to be distinct up to a place, and others
   pub distinct-next : (s : List (List ℕ)) (xs : List A) (x : A) (ys : List A) (known passed : ℕ) → xs ≡ x ∷ ys → first_repeated key s (take (known - passed) xs) ≡ None

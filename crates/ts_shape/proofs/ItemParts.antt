@@ -1,4 +1,4 @@
--- Items one after another: what is read is spelled so, what is spelled so is read, the first rule that is broken, and walks.
+-- Items one after another: what is read is encoded so, what is encoded so is read, the first rule that is broken, and walks.
 use Rattle.std.proofs.Common.{◌≡◌, ◌≢◌, ℕ, zero, suc, ◌+◌, ◌<◌, ◌≤◌, Bool, true, false, cond, eqb, List, [], ◌∷◌, ◌++◌, length, Option, Some, None, Result, Ok, Err, refl, sym, ap, subst, ◌∙◌, arith}
 use Rattle.std.specs.Prelude.{option_map}
 use Rattle.std.proofs.lemmas.Bool.{eqb-true, eqb-false}
@@ -8,7 +8,7 @@ use Rattle.ts_der.specs.declared.fault.DerFault.TheVariants.{Empty, WrongTag}
 use Rattle.ts_der.specs.Octets.{AreOctets}
 use Rattle.ts_der.specs.Answer.{◌>>=◌, refusal}
 use Rattle.ts_der.specs.Rules.{value_unless}
-use Rattle.ts_der.specs.Element.{Place, Tlv, inside, spelled_at}
+use Rattle.ts_der.specs.Element.{Place, Tlv, inside, encoded_at}
 use Rattle.ts_der.specs.Reading.{fault_at, is_end, next_at, element_at, element_of, behind, located, value_at, end_at, many_from, many}
 use Rattle.ts_der.proofs.Elements.{next-found}
 use Rattle.ts_der.proofs.Laws.{bind_ok, ok_is, next-only}
@@ -50,10 +50,10 @@ each-tag {A} tag value here = by_next (next_at here)
     by_next (Ok x) = by_tag x (eqb x.0.tag tag)
     by_next (Err f) = refl
 
--- an item of one tag: what is read is spelled so, and what is spelled so is read
-pub tag-part : {A : Type 0} (tag : ℕ) (value : Tlv → Result A Fault) (Spells : List ℕ → A → Type 0) → Value tag value Spells → Part (each (of_tag tag value)) (Within tag Spells)
-tag-part {A} tag value Spells v =
-    let p = within-part tag value Spells v in
+-- an item of one tag: what is read is encoded so, and what is encoded so is read
+pub tag-part : {A : Type 0} (tag : ℕ) (value : Tlv → Result A Fault) (Encodes : List ℕ → A → Type 0) → Value tag value Encodes → Part (each (of_tag tag value)) (Within tag Encodes)
+tag-part {A} tag value Encodes v =
+    let p = within-part tag value Encodes v in
     record {
       found = λ here x after fits read. p.found here x after fits (sym (each-tag tag value here) ∙ read);
       again = λ here x w rest is e. each-tag tag value here ∙ p.again here x w rest is e;
@@ -78,7 +78,7 @@ choice-found {A} tag e value other P f g x read = by_tag (eqb e.tag tag) refl re
     by_tag true t read = f (eqb-true e.tag tag t) x read
     by_tag false t read = g x read
 
--- an element of any form: what is read is spelled so, and what is spelled so is read
+-- an element of any form: what is read is encoded so, and what is encoded so is read
 pub form-part : {A : Type 0} (value : Tlv → Result A Fault) (Is : ℕ → List ℕ → A → Type 0)
     → ((e : Tlv) (x : A) → AreOctets e.content → value e ≡ Ok x → Is e.tag e.content x) → ((e : Tlv) (x : A) → Is e.tag e.content x → value e ≡ Ok x) → Part (each value) (IsChoice Is)
 unfolding each
@@ -87,24 +87,24 @@ form-part {A} value Is found again = record { found = part-found; again = part-a
     beside : Place → A → Result (A × Place) Fault
     beside p x = Ok (x, p)
 
-    spelled : (here : Place) (e : Tlv) (x : A) (after : Place) → AreOctets here.rest → next_at here ≡ Ok (e, after) → value e ≡ Ok x → (w : List ℕ) × IsChoice Is w x × (here.rest ≡ w ++ after.rest)
-    spelled here e x after fits n v =
+    encoded : (here : Place) (e : Tlv) (x : A) (after : Place) → AreOctets here.rest → next_at here ≡ Ok (e, after) → value e ≡ Ok x → (w : List ℕ) × IsChoice Is w x × (here.rest ≡ w ++ after.rest)
+    encoded here e x after fits n v =
         let s = next-found here e after fits n in
-        let inner : AreOctets e.content = AreOctets-part e.tag e.content after.rest (subst AreOctets (s.whole ∙ ap (λ (w : List ℕ). w ++ after.rest) s.spelled) fits) in
-        (e.whole, record { tag = e.tag; content = e.content; fits = s.fits; spelled = s.spelled; form = found e x inner v }, s.whole)
+        let inner : AreOctets e.content = AreOctets-part e.tag e.content after.rest (subst AreOctets (s.whole ∙ ap (λ (w : List ℕ). w ++ after.rest) s.encoded) fits) in
+        (e.whole, record { tag = e.tag; content = e.content; fits = s.fits; encoded = s.encoded; form = found e x inner v }, s.whole)
 
     part-found : (here : Place) (x : A) (after : Place) → AreOctets here.rest → each value here ≡ Ok (x, after) → (w : List ℕ) × IsChoice Is w x × (here.rest ≡ w ++ after.rest)
     part-found here x after fits read =
         let b = bind_ok (next_at here) (λ e. value e.0 >>= beside e.1) (x, after) read in
         let v = bind_ok (value b.0.0) (beside b.0.1) (x, after) b.2 in
         subst (λ (p : A × Place). (w : List ℕ) × IsChoice Is w p.0 × (here.rest ≡ w ++ p.1.rest)) (ok_is {A = A × Place} {E = Fault} (v.0, b.0.1) (x, after) v.2)
-        (spelled here b.0.0 v.0 b.0.1 fits b.1 v.1)
+        (encoded here b.0.0 v.0 b.0.1 fits b.1 v.1)
 
     part-again : (here : Place) (x : A) (w rest : List ℕ) → IsChoice Is w x → here.rest ≡ w ++ rest → each value here ≡ Ok (x, record { rest = rest; at = here.at + length w })
     part-again here x w rest is e =
-        let one = next-only here is.tag is.content rest is.fits (e ∙ ap (λ (o : List ℕ). o ++ rest) is.spelled) in
-        let read = again (spelled_at here.at is.tag is.content) x is.form in
-        rw (one, read) (ap (λ (o : List ℕ). Ok (x, record { rest = rest; at = here.at + length o })) (sym is.spelled))
+        let one = next-only here is.tag is.content rest is.fits (e ∙ ap (λ (o : List ℕ). o ++ rest) is.encoded) in
+        let read = again (encoded_at here.at is.tag is.content) x is.form in
+        rw (one, read) (ap (λ (o : List ℕ). Ok (x, record { rest = rest; at = here.at + length o })) (sym is.encoded))
 
 -- ---- walks
 
@@ -178,47 +178,47 @@ pub walk-all : {A : Type 0} (value : Tlv → Result A Fault) (here : Place) (xs 
 unfolding items_at many
 walk-all value here xs e = walked value (length here.rest) here xs e
 
--- ---- what is read is spelled so, and what is spelled so is read
+-- ---- what is read is encoded so, and what is encoded so is read
 
-items_from : {A : Type 0} (value : Tlv → Result A Fault) (Spells : List ℕ → A → Type 0) → Part (each value) Spells
-    → (n : ℕ) (here : Place) (xs : List A) → length here.rest ≤ n → AreOctets here.rest → many_from n (each value) here ≡ Ok xs → AreItems Spells here.rest xs
-items_from {A} value Spells part zero here xs le fits e = none here.rest xs (omega arith) (ok_is {E = Fault} [] xs e)
+items_from : {A : Type 0} (value : Tlv → Result A Fault) (Encodes : List ℕ → A → Type 0) → Part (each value) Encodes
+    → (n : ℕ) (here : Place) (xs : List A) → length here.rest ≤ n → AreOctets here.rest → many_from n (each value) here ≡ Ok xs → AreItems Encodes here.rest xs
+items_from {A} value Encodes part zero here xs le fits e = none here.rest xs (omega arith) (ok_is {E = Fault} [] xs e)
   where
-    none : (rest : List ℕ) (xs : List A) → length rest ≤ 0 → [] ≡ xs → AreItems Spells rest xs
-    none [] xs h e = subst (λ (ys : List A). AreItems Spells [] ys) e refl
+    none : (rest : List ℕ) (xs : List A) → length rest ≤ 0 → [] ≡ xs → AreItems Encodes rest xs
+    none [] xs h e = subst (λ (ys : List A). AreItems Encodes [] ys) e refl
     none (o ∷ rest) xs h e = absurd (omega arith)
-items_from {A} value Spells part (suc n) here xs le fits e =
-    by_end (λ x after ys r le fits more. items_from value Spells part n after ys le fits more) (is_end here.rest) refl e
+items_from {A} value Encodes part (suc n) here xs le fits e =
+    by_end (λ x after ys r le fits more. items_from value Encodes part n after ys le fits more) (is_end here.rest) refl e
   where
     none : (rest : List ℕ) → is_end rest ≡ true → rest ≡ []
     none [] e = refl
     none (o ∷ rest) e = absurd cc
 
-    by_end : ((x : A) (after : Place) (ys : List A) → each value here ≡ Ok (x, after) → length after.rest ≤ n → AreOctets after.rest → many_from n (each value) after ≡ Ok ys → AreItems Spells after.rest ys)
-        → (b : Bool) → is_end here.rest ≡ b → cond b (Ok []) (each value here >>= λ x. many_from n (each value) x.1 >>= λ ys. Ok (x.0 ∷ ys)) ≡ Ok xs → AreItems Spells here.rest xs
-    by_end f true t e = subst (λ (ys : List A). AreItems Spells here.rest ys) (ok_is {E = Fault} [] xs e) (none here.rest t)
+    by_end : ((x : A) (after : Place) (ys : List A) → each value here ≡ Ok (x, after) → length after.rest ≤ n → AreOctets after.rest → many_from n (each value) after ≡ Ok ys → AreItems Encodes after.rest ys)
+        → (b : Bool) → is_end here.rest ≡ b → cond b (Ok []) (each value here >>= λ x. many_from n (each value) x.1 >>= λ ys. Ok (x.0 ∷ ys)) ≡ Ok xs → AreItems Encodes here.rest xs
+    by_end f true t e = subst (λ (ys : List A). AreItems Encodes here.rest ys) (ok_is {E = Fault} [] xs e) (none here.rest t)
     by_end f false t e =
         let a = bind_ok (each value here) (λ x. many_from n (each value) x.1 >>= λ ys. Ok (x.0 ∷ ys)) xs e in
         let b = bind_ok (many_from n (each value) a.0.1) (λ ys. Ok (a.0.0 ∷ ys)) xs a.2 in
         let w = part.found here a.0.0 a.0.1 fits a.1 in
         let lt = each-consumes value here a.0.0 a.0.1 a.1 in
         let more = f a.0.0 a.0.1 b.0 a.1 (omega arith) (AreOctets-back w.0 a.0.1.rest (subst AreOctets w.2 fits)) b.1 in
-        subst (λ (zs : List A). AreItems Spells here.rest zs) (ok_is {A = List A} {E = Fault} (a.0.0 ∷ b.0) xs b.2) (w.0, a.0.1.rest, w.1, w.2, more)
+        subst (λ (zs : List A). AreItems Encodes here.rest zs) (ok_is {A = List A} {E = Fault} (a.0.0 ∷ b.0) xs b.2) (w.0, a.0.1.rest, w.1, w.2, more)
 
--- items up to the end: what is read is spelled so
-pub many-found : {A : Type 0} (value : Tlv → Result A Fault) (Spells : List ℕ → A → Type 0) → Part (each value) Spells
-    → (here : Place) (xs : List A) → AreOctets here.rest → many (each value) here ≡ Ok xs → AreItems Spells here.rest xs
+-- items up to the end: what is read is encoded so
+pub many-found : {A : Type 0} (value : Tlv → Result A Fault) (Encodes : List ℕ → A → Type 0) → Part (each value) Encodes
+    → (here : Place) (xs : List A) → AreOctets here.rest → many (each value) here ≡ Ok xs → AreItems Encodes here.rest xs
 unfolding many
-many-found value Spells part here xs fits e = items_from value Spells part (length here.rest) here xs (omega arith) fits e
+many-found value Encodes part here xs fits e = items_from value Encodes part (length here.rest) here xs (omega arith) fits e
 
--- and what is spelled so is read
-pub many-again : {A : Type 0} (value : Tlv → Result A Fault) (Spells : List ℕ → A → Type 0) → Part (each value) Spells
-    → (here : Place) (xs : List A) → AreItems Spells here.rest xs → many (each value) here ≡ Ok xs
-many-again value Spells part here [] m = many-end (each value) here (ap is_end m)
-many-again {A} value Spells part here (x ∷ xs) m =
+-- and what is encoded so is read
+pub many-again : {A : Type 0} (value : Tlv → Result A Fault) (Encodes : List ℕ → A → Type 0) → Part (each value) Encodes
+    → (here : Place) (xs : List A) → AreItems Encodes here.rest xs → many (each value) here ≡ Ok xs
+many-again value Encodes part here [] m = many-end (each value) here (ap is_end m)
+many-again {A} value Encodes part here (x ∷ xs) m =
     let after : Place = record { rest = m.1; at = here.at + length m.0 } in
     let item : each value here ≡ Ok (x, after) = part.again here x m.0 m.1 m.2 m.3 in
-    let rest = many-again value Spells part after xs m.4 in
+    let rest = many-again value Encodes part after xs m.4 in
     let more : is_end here.rest ≡ false = not_empty here.rest (each-consumes value here x after item) in
     many-step (each value) (each-consumes value) here more ∙ rw (item, rest) refl
   where
@@ -226,32 +226,32 @@ many-again {A} value Spells part here (x ∷ xs) m =
     not_empty [] h = absurd (omega arith)
     not_empty (o ∷ rest) h = refl
 
--- one item or more: what is read is spelled so
-pub some-found : {A : Type 0} (value : Tlv → Result A Fault) (Spells : List ℕ → A → Type 0) → Part (each value) Spells
-    → (e : Tlv) (xs : List A) → AreOctets e.content → some_of value e ≡ Ok xs → AreSome Spells e.content xs
+-- one item or more: what is read is encoded so
+pub some-found : {A : Type 0} (value : Tlv → Result A Fault) (Encodes : List ℕ → A → Type 0) → Part (each value) Encodes
+    → (e : Tlv) (xs : List A) → AreOctets e.content → some_of value e ≡ Ok xs → AreSome Encodes e.content xs
 unfolding some_of
-some-found {A} value Spells part e xs fits read =
+some-found {A} value Encodes part e xs fits read =
     let m = bind_ok (many (each value) (inside e)) _ xs read in
     let s = bind_ok (value_at some_rules (λ c. c) e) _ xs m.2 in
     let same : m.0 ≡ xs = ok_is {A = List A} {E = Fault} m.0 xs s.2 in
-    let are = many-found value Spells part (inside e) m.0 fits m.1 in
-    subst (λ (ys : List A). AreSome Spells e.content ys) same (not_none m.0 are (filled e.content s.0 s.1), are)
+    let are = many-found value Encodes part (inside e) m.0 fits m.1 in
+    subst (λ (ys : List A). AreSome Encodes e.content ys) same (not_none m.0 are (filled e.content s.0 s.1), are)
   where
     filled : (c s : List ℕ) → located e.at (value_unless (cond (is_end c) (Some Empty) None) c) ≡ Ok s → is_end c ≡ false
     filled [] s e = absurd cc
     filled (o ∷ c) s e = refl
 
-    not_none : (ys : List A) → AreItems Spells e.content ys → is_end e.content ≡ false → ys ≢ []
+    not_none : (ys : List A) → AreItems Encodes e.content ys → is_end e.content ≡ false → ys ≢ []
     not_none [] are more = absurd (let end : is_end e.content ≡ true = ap is_end are in cc)
     not_none (y ∷ ys) are more = λ none. cc
 
--- and what is spelled so is read
-pub some-again : {A : Type 0} (value : Tlv → Result A Fault) (Spells : List ℕ → A → Type 0) → Part (each value) Spells
-    → (e : Tlv) (xs : List A) → AreSome Spells e.content xs → some_of value e ≡ Ok xs
+-- and what is encoded so is read
+pub some-again : {A : Type 0} (value : Tlv → Result A Fault) (Encodes : List ℕ → A → Type 0) → Part (each value) Encodes
+    → (e : Tlv) (xs : List A) → AreSome Encodes e.content xs → some_of value e ≡ Ok xs
 unfolding some_of
-some-again value Spells part e [] are = absurd (are.0 refl)
-some-again {A} value Spells part e (x ∷ xs) are =
-    let all = many-again value Spells part (inside e) (x ∷ xs) are.1 in
+some-again value Encodes part e [] are = absurd (are.0 refl)
+some-again {A} value Encodes part e (x ∷ xs) are =
+    let all = many-again value Encodes part (inside e) (x ∷ xs) are.1 in
     let after : Place = record { rest = are.1.1; at = e.start + length are.1.0 } in
     let item : each value (inside e) ≡ Ok (x, after) = part.again (inside e) x are.1.0 are.1.1 are.1.2 are.1.3 in
     let some = filled e.content (each-consumes value (inside e) x after item) in
@@ -321,20 +321,20 @@ each-reads row value P j = next-reads row value P j
 
 -- ---- one element within another
 
--- what is read is spelled so
-pub alone-found : {A : Type 0} (value : Tlv → Result A Fault) (Spells : List ℕ → A → Type 0) → Part (each value) Spells → (e : Tlv) (x : A) → AreOctets e.content → alone value e ≡ Ok x → Spells e.content x
+-- what is read is encoded so
+pub alone-found : {A : Type 0} (value : Tlv → Result A Fault) (Encodes : List ℕ → A → Type 0) → Part (each value) Encodes → (e : Tlv) (x : A) → AreOctets e.content → alone value e ≡ Ok x → Encodes e.content x
 unfolding alone
-alone-found {A} value Spells part e x fits read =
+alone-found {A} value Encodes part e x fits read =
     let a = bind_ok (each value (inside e)) _ x read in
     let d = bind_ok (end_at a.0.1) _ x a.2 in
     let f = part.found (inside e) a.0.0 a.0.1 fits a.1 in
     let whole : e.content ≡ f.0 = f.2 ∙ (ap (λ (rest : List ℕ). f.0 ++ rest) (end-ok a.0.1 d.0 d.1) ∙ append-nil f.0) in
-    subst (λ (o : List ℕ). Spells o x) (sym whole) (subst (λ (y : A). Spells f.0 y) (ok_is {E = Fault} a.0.0 x d.2) f.1)
+    subst (λ (o : List ℕ). Encodes o x) (sym whole) (subst (λ (y : A). Encodes f.0 y) (ok_is {E = Fault} a.0.0 x d.2) f.1)
 
--- and what is spelled so is read
-pub alone-again : {A : Type 0} (value : Tlv → Result A Fault) (Spells : List ℕ → A → Type 0) → Part (each value) Spells → (e : Tlv) (x : A) → Spells e.content x → alone value e ≡ Ok x
+-- and what is encoded so is read
+pub alone-again : {A : Type 0} (value : Tlv → Result A Fault) (Encodes : List ℕ → A → Type 0) → Part (each value) Encodes → (e : Tlv) (x : A) → Encodes e.content x → alone value e ≡ Ok x
 unfolding alone
-alone-again value Spells part e x is =
+alone-again value Encodes part e x is =
     let a = part.again (inside e) x e.content [] is (sym (append-nil e.content)) in
     let d = end-again (e.start + length e.content) in
     rw (a, d) refl

@@ -126,7 +126,7 @@ der-bind-two (Err d) value g = refl
 
 -- ---- rows one after another
 
--- what a row reads: an element that keeps its rules, and the place behind it
+-- what a row reads: an element that keeps its rules, and the place after it
 abbrev pub Reads : {A : Type 0} → Row → (Place → Result (A × Place) CertFault) → (Tlv → A → Type 0) → Type 0
 Reads {A} row item P = (here : Place) → Judged (item here) (header_fault here or_else row_fault row (element_of here))
     (λ x. Headed here × (x.1 ≡ behind here) × P (element_of here) x.0)

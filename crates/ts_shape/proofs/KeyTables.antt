@@ -18,7 +18,7 @@ use Rattle.std.proofs.Math.Seq.{take-suc}
 use Rattle.std.proofs.lemmas.Map.Text.{is_eq-slice_cmp}
 use Rattle.std.proofs.lemmas.Slice.Eq.{bytes_eq-Decides}
 use Rattle.ts_shape.specs.Repeats.{is_among, keys_in, AreAscending}
-use Rattle.ts_shape.specs.Suspects.{place_of}
+use Rattle.ts_shape.specs.Collisions.{place_of}
 
 -- two keys are equal where comparing them says so
 compared : (x k : List ℕ) (o : Ordering) → slice_cmp nat_cmp x k ≡ o → bytes_eq k x ≡ is_eq o
@@ -71,7 +71,7 @@ among-moved k old new moved = list_any-IsPermutation (bytes_eq k) (keys_in old) 
 not-again : (b : Bool) (n : ℕ) (o : Option ℕ) → b ≡ false → o ≡ Some n → cond b (Some 0) (option_map suc o) ≡ Some (suc n)
 not-again b n o other e = rw (other, e) refl
 
--- it is that of an equal one behind others that are below
+-- it is that of an equal one after others that are below
 pub placed-here : (k : List ℕ) (table : List (Bor (List ℕ))) (i : ℕ) → i < length table → AllWithin (λ y. slice_cmp nat_cmp y.now k ≡ Less) table 0 i
     → HoldsAt (λ y. slice_cmp nat_cmp y.now k ≡ Equal) table i → place_of k (keys_in table) ≡ Some i
 unfolding place_of
@@ -100,7 +100,7 @@ unfolding place_of
 place-absent k [] e = refl
 place-absent k (x ∷ keys) e = absent (bytes_eq k x) (is_among k keys) (place_of k keys) (place-absent k keys) e
 
--- where a place is that of a head, or one behind it
+-- where a place is that of a head, or one after it
 abbrev IsPlaced : Bool → Option ℕ → ℕ → Type 0
 IsPlaced b o p = ((b ≡ true) × (p ≡ 0)) ⊎ ((n : ℕ) × (b ≡ false) × (o ≡ Some n) × (p ≡ suc n))
 

@@ -1,4 +1,4 @@
--- Fields that may be absent: what is read is spelled so, what is spelled so is read, and the first rule that is broken.
+-- Fields that may be absent: what is read is encoded so, what is encoded so is read, and the first rule that is broken.
 use Rattle.std.proofs.Common.{◌≡◌, ℕ, ◌+◌, Bool, true, false, cond, not, ◌||◌, eqb, List, [], ◌++◌, length, Option, Some, None, Result, Ok, Err, refl, sym, ap, subst, ◌∙◌, arith}
 use Rattle.std.specs.Prelude.{option_map}
 use Rattle.std.proofs.lemmas.Bool.{eqb-false}
@@ -16,8 +16,8 @@ use Rattle.ts_shape.proofs.Parts.{Value, within-part, took}
 use Rattle.ts_shape.proofs.Judging.{Judged, element-judged}
 
 -- octets that begin with an element begin with its tag
-pub begins-within : {A : Type 0} {tag : ℕ} {Spells : List ℕ → A → Type 0} {w : List ℕ} {x : A} → Within tag Spells w x → (rest : List ℕ) → begins_with tag (w ++ rest) ≡ true
-begins-within {A} {tag} is rest = subst (λ (o : List ℕ). begins_with tag (o ++ rest) ≡ true) (sym is.spelled) (same tag)
+pub begins-within : {A : Type 0} {tag : ℕ} {Encodes : List ℕ → A → Type 0} {w : List ℕ} {x : A} → Within tag Encodes w x → (rest : List ℕ) → begins_with tag (w ++ rest) ≡ true
+begins-within {A} {tag} is rest = subst (λ (o : List ℕ). begins_with tag (o ++ rest) ≡ true) (sym is.encoded) (same tag)
   where
     same : (n : ℕ) → eqb n n ≡ true
     same n = by_test (eqb n n) refl
@@ -27,44 +27,44 @@ begins-within {A} {tag} is rest = subst (λ (o : List ℕ). begins_with tag (o +
         by_test false e = absurd (eqb-false n n e refl)
 
 -- and with no other
-pub begins-other : {A : Type 0} {tag : ℕ} {Spells : List ℕ → A → Type 0} {w : List ℕ} {x : A} → Within tag Spells w x → (other : ℕ) → eqb tag other ≡ false → (rest : List ℕ) → begins_with other (w ++ rest) ≡ false
-begins-other {A} {tag} is other e rest = subst (λ (o : List ℕ). begins_with other (o ++ rest) ≡ false) (sym is.spelled) e
+pub begins-other : {A : Type 0} {tag : ℕ} {Encodes : List ℕ → A → Type 0} {w : List ℕ} {x : A} → Within tag Encodes w x → (other : ℕ) → eqb tag other ≡ false → (rest : List ℕ) → begins_with other (w ++ rest) ≡ false
+begins-other {A} {tag} is other e rest = subst (λ (o : List ℕ). begins_with other (o ++ rest) ≡ false) (sym is.encoded) e
 
--- the same of a field that may be absent, before octets that do not begin so either
-pub begins-if-any : {A : Type 0} (tag : ℕ) (Spells : List ℕ → A → Type 0) (w : List ℕ) (x : Option A) → IfAny tag Spells w x → (other : ℕ) → eqb tag other ≡ false
+-- the same for a field that may be absent, before octets that do not begin so either
+pub begins-if-any : {A : Type 0} (tag : ℕ) (Encodes : List ℕ → A → Type 0) (w : List ℕ) (x : Option A) → IfAny tag Encodes w x → (other : ℕ) → eqb tag other ≡ false
     → (rest : List ℕ) → begins_with other rest ≡ false → begins_with other (w ++ rest) ≡ false
-begins-if-any tag Spells w None is other e rest absent = subst (λ (o : List ℕ). begins_with other (o ++ rest) ≡ false) (sym is) absent
-begins-if-any tag Spells w (Some x) is other e rest absent = begins-other is other e rest
+begins-if-any tag Encodes w None is other e rest absent = subst (λ (o : List ℕ). begins_with other (o ++ rest) ≡ false) (sym is) absent
+begins-if-any tag Encodes w (Some x) is other e rest absent = begins-other is other e rest
 
--- what is read is spelled so
-pub optional-found : {A : Type 0} (tag : ℕ) (value : Tlv → Result A Fault) (Spells : List ℕ → A → Type 0) → Value tag value Spells
+-- what is read is encoded so
+pub optional-found : {A : Type 0} (tag : ℕ) (value : Tlv → Result A Fault) (Encodes : List ℕ → A → Type 0) → Value tag value Encodes
     → (here : Place) (x : Option A) (after : Place) → AreOctets here.rest → optional_of tag value here ≡ Ok (x, after)
-    → (w : List ℕ) × IfAny tag Spells w x × (here.rest ≡ w ++ after.rest) × AreOctets after.rest
+    → (w : List ℕ) × IfAny tag Encodes w x × (here.rest ≡ w ++ after.rest) × AreOctets after.rest
 unfolding optional_of within
-optional-found {A} tag value Spells v here x after fits read = by_tag (begins_with tag here.rest) read
+optional-found {A} tag value Encodes v here x after fits read = by_tag (begins_with tag here.rest) read
   where
     by_tag : (b : Bool) → cond {A = Result (Option A × Place) Fault} b (element_at tag here >>= λ e. value e.0 >>= λ y. Ok (Some y, e.1)) (Ok (None, here)) ≡ Ok (x, after)
-        → (w : List ℕ) × IfAny tag Spells w x × (here.rest ≡ w ++ after.rest) × AreOctets after.rest
+        → (w : List ℕ) × IfAny tag Encodes w x × (here.rest ≡ w ++ after.rest) × AreOctets after.rest
     by_tag false e =
-        subst (λ (p : Option A × Place). (w : List ℕ) × IfAny tag Spells w p.0 × (here.rest ≡ w ++ p.1.rest) × AreOctets p.1.rest) (ok_is {A = Option A × Place} {E = Fault} (None, here) (x, after) e)
+        subst (λ (p : Option A × Place). (w : List ℕ) × IfAny tag Encodes w p.0 × (here.rest ≡ w ++ p.1.rest) × AreOctets p.1.rest) (ok_is {A = Option A × Place} {E = Fault} (None, here) (x, after) e)
         ([], refl, refl, fits)
     by_tag true e =
         let b = bind_ok (element_at tag here) (λ e. value e.0 >>= λ y. Ok (Some y, e.1)) (x, after) e in
         let y = bind_ok (value b.0.0) (λ y. Ok (Some y, b.0.1)) (x, after) b.2 in
         let read : within tag value here ≡ Ok (y.0, b.0.1) = whole b.0.0 b.0.1 y.0 b.1 y.1 in
-        let f = took (within-part tag value Spells v) here y.0 b.0.1 fits read in
-        subst (λ (p : Option A × Place). (w : List ℕ) × IfAny tag Spells w p.0 × (here.rest ≡ w ++ p.1.rest) × AreOctets p.1.rest) (ok_is {A = Option A × Place} {E = Fault} (Some y.0, b.0.1) (x, after) y.2)
+        let f = took (within-part tag value Encodes v) here y.0 b.0.1 fits read in
+        subst (λ (p : Option A × Place). (w : List ℕ) × IfAny tag Encodes w p.0 × (here.rest ≡ w ++ p.1.rest) × AreOctets p.1.rest) (ok_is {A = Option A × Place} {E = Fault} (Some y.0, b.0.1) (x, after) y.2)
         (f.0, f.1, f.2, f.3)
       where
         whole : (e : Tlv) (behind : Place) (y : A) → element_at tag here ≡ Ok (e, behind) → value e ≡ Ok y → within tag value here ≡ Ok (y, behind)
         whole e behind y one two = rw (one, two) refl
 
--- what is spelled so, before octets that do not begin with the tag, is read
-pub optional-again : {A : Type 0} (tag : ℕ) (value : Tlv → Result A Fault) (Spells : List ℕ → A → Type 0) → Value tag value Spells
-    → (here : Place) (x : Option A) (w rest : List ℕ) → IfAny tag Spells w x → begins_with tag rest ≡ false → here.rest ≡ w ++ rest
+-- what is encoded so, before octets that do not begin with the tag, is read
+pub optional-again : {A : Type 0} (tag : ℕ) (value : Tlv → Result A Fault) (Encodes : List ℕ → A → Type 0) → Value tag value Encodes
+    → (here : Place) (x : Option A) (w rest : List ℕ) → IfAny tag Encodes w x → begins_with tag rest ≡ false → here.rest ≡ w ++ rest
     → optional_of tag value here ≡ Ok (x, record { rest = rest; at = here.at + length w })
 unfolding optional_of within
-optional-again {A} tag value Spells v here None w rest is absent e =
+optional-again {A} tag value Encodes v here None w rest is absent e =
     let whole : here.rest ≡ rest = e ∙ ap (λ (o : List ℕ). o ++ rest) is in
     let none : begins_with tag here.rest ≡ false = ap (begins_with tag) whole ∙ absent in
     let place : here ≡ record { rest = rest; at = here.at + length w } = there here w whole is in
@@ -75,9 +75,9 @@ optional-again {A} tag value Spells v here None w rest is absent e =
       where
         no_more : (n : ℕ) → n ≡ n + 0
         no_more n = omega arith
-optional-again {A} tag value Spells v here (Some x) w rest is absent e =
+optional-again {A} tag value Encodes v here (Some x) w rest is absent e =
     let stands : begins_with tag here.rest ≡ true = ap (begins_with tag) e ∙ begins-within is rest in
-    let read = (within-part tag value Spells v).again here x w rest is e in
+    let read = (within-part tag value Encodes v).again here x w rest is e in
     rw stands (some (element_at tag here) read)
   where
     after : Place
@@ -97,7 +97,7 @@ optional-again {A} tag value Spells v here (Some x) w rest is absent e =
         inner (Err f) read = absurd cc
     some (Err f) read = absurd cc
 
--- the first rule that is broken: of the field where it stands, then of the others
+-- the first rule that is broken: of the field where it is, then of the others
 pub optional-judged : {A B : Type 0} (tag : ℕ) (shape : Shape) (rules : ContentRules) (others : Shape) (here : Place) (value : Tlv → Result A Fault) (f : Option A × Place → Result B CertFault)
     (P : Tlv → A → Type 0) (Q : B → Type 0)
     → ((e : Tlv) → Judged (der (value e)) (judge shape (inside e) or_else option_map (breaks e.at) (rules e.content)) (P e))

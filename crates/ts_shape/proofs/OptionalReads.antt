@@ -6,7 +6,7 @@ use Rattle.ts_der.specs.Element.{Place, Tlv}
 use Rattle.ts_der.specs.Reading.{begins_with, element_at, optional_at}
 use Rattle.ts_shape.specs.Fields.{optional_of}
 
--- what is read of an element, where it stands
+-- what is read of an element, where it is
 abbrev read_if : {A : Type 0} → (Tlv → Result A Fault) → Option Tlv → Place → Result (Option A × Place) Fault
 read_if value None after = Ok (None, after)
 read_if value (Some e) after = value e >>= λ x. Ok (Some x, after)

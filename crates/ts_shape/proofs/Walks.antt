@@ -106,7 +106,7 @@ first_item {A} tag value here ok more =
 pub nothing_left : {A : Type 0} (tag : ℕ) (value : Tlv → Result A Fault) (here : Place) → is_end here.rest ≡ true → result_unwrap_or (many (within tag value) here) [] ≡ []
 nothing_left {A} tag value here e = ap (λ (r : Result (List A) Fault). result_unwrap_or r []) (many-end (within tag value) here e)
 
--- the element that stands at the front of such a list, what is read within it, and the rest of the list
+-- the element that is at the front of such a list, what is read within it, and the rest of the list
 pub record Front {A : Type 0} (tag : ℕ) (value : Tlv → Result A Fault) (here : Place) (e : Tlv) (after : Place) : Type 0 where
   pub item : A
   pub read : value e ≡ Ok item

@@ -1,33 +1,33 @@
--- Fields of a SEQUENCE that more than one format has: the octets that spell each, and how it is read.
+-- Fields of a SEQUENCE that more than one format has: the octets that encode each, and how it is read.
 use Rattle.std.specs.Prelude.{◌≡◌, ℕ, true, List, [], ◌∷◌, drop, Option, Some, None, Result, Ok, if◌then◌else◌}
 use Rattle.ts_der.specs.declared.fault.Fault.{Fault}
 use Rattle.ts_der.specs.Answer.{◌>>=◌}
-use Rattle.ts_der.specs.Element.{Place, Tlv, Fits, spell}
+use Rattle.ts_der.specs.Element.{Place, Tlv, Fits, encode}
 use Rattle.ts_der.specs.Integer.{is_shortest, integer_rules}
 use Rattle.ts_der.specs.BitString.{whole_octets_rules}
 use Rattle.ts_der.specs.ObjectIdentifier.{is_oid, oid_rules}
 use Rattle.ts_der.specs.Reading.{value_at, begins_with, element_at}
 
--- ---- spelling
+-- ---- encoding
 
--- octets that are one element of this tag, whose content spells a value
-pub record Within {A : Type 0} (tag : ℕ) (Spells : List ℕ → A → Type 0) (octets : List ℕ) (x : A) : Type 0 where
+-- octets that are one element of this tag, whose content encodes a value
+pub record Within {A : Type 0} (tag : ℕ) (Encodes : List ℕ → A → Type 0) (octets : List ℕ) (x : A) : Type 0 where
   pub content : List ℕ
   pub fits : Fits tag content
-  pub spelled : octets ≡ spell tag content
-  pub value : Spells content x
+  pub encoded : octets ≡ encode tag content
+  pub value : Encodes content x
 
 -- octets that are one element of any tag
 pub record IsAny (octets : List ℕ) : Type 0 where
   pub tag : ℕ
   pub content : List ℕ
   pub fits : Fits tag content
-  pub spelled : octets ≡ spell tag content
+  pub encoded : octets ≡ encode tag content
 
 -- octets that are such an element, or none where it is absent
 abbrev pub IfAny : {A : Type 0} → ℕ → (List ℕ → A → Type 0) → List ℕ → Option A → Type 0
-IfAny tag Spells octets None = octets ≡ []
-IfAny tag Spells octets (Some x) = Within tag Spells octets x
+IfAny tag Encodes octets None = octets ≡ []
+IfAny tag Encodes octets (Some x) = Within tag Encodes octets x
 
 -- OBJECT IDENTIFIER, by its content
 abbrev pub IsOid : List ℕ → List ℕ → Type 0

@@ -4,18 +4,18 @@ use Rattle.ts_der.specs.declared.fault.DerFault.TheVariants.{Empty, WrongTag}
 use Rattle.ts_der.specs.declared.fault.Fault.{Fault}
 use Rattle.ts_der.specs.Answer.{◌>>=◌}
 use Rattle.ts_der.specs.Rules.{Rule, rule}
-use Rattle.ts_der.specs.Element.{Place, Tlv, Fits, spell, inside}
+use Rattle.ts_der.specs.Element.{Place, Tlv, Fits, encode, inside}
 use Rattle.ts_der.specs.Reading.{fault_at, is_end, next_at, value_at, end_at, many}
 
 -- a set of one element or more
 abbrev pub some_rules : List Rule
 some_rules = rule Empty (λ c. is_end c) ∷ []
 
--- the element that stands next, and what it is read as
+-- the element that is next, and what it is read as
 unfoldable pub each : {A : Type 0} → (Tlv → Result A Fault) → Place → Result (A × Place) Fault
 each value here = next_at here >>= λ e. value e.0 >>= λ x. Ok (x, e.1)
 
--- what the one element within another is read as, and nothing behind it
+-- what the one element within another is read as, and nothing after it
 unfoldable pub alone : {A : Type 0} → (Tlv → Result A Fault) → Tlv → Result A Fault
 alone value e = do
   x ← each value (inside e)
@@ -39,17 +39,17 @@ pub record IsChoice {A : Type 0} (Is : ℕ → List ℕ → A → Type 0) (octet
   pub tag : ℕ
   pub content : List ℕ
   pub fits : Fits tag content
-  pub spelled : octets ≡ spell tag content
+  pub encoded : octets ≡ encode tag content
   pub form : Is tag content x
 
 -- octets that are items one after another
 abbrev pub AreItems : {A : Type 0} → (List ℕ → A → Type 0) → List ℕ → List A → Type 0
-AreItems Spells octets [] = octets ≡ []
-AreItems Spells octets (x ∷ xs) = (w : List ℕ) × (rest : List ℕ) × Spells w x × (octets ≡ w ++ rest) × AreItems Spells rest xs
+AreItems Encodes octets [] = octets ≡ []
+AreItems Encodes octets (x ∷ xs) = (w : List ℕ) × (rest : List ℕ) × Encodes w x × (octets ≡ w ++ rest) × AreItems Encodes rest xs
 
 -- one item or more
 abbrev pub AreSome : {A : Type 0} → (List ℕ → A → Type 0) → List ℕ → List A → Type 0
-AreSome Spells octets xs = (xs ≢ []) × AreItems Spells octets xs
+AreSome Encodes octets xs = (xs ≢ []) × AreItems Encodes octets xs
 
 -- ---- walking over items
 

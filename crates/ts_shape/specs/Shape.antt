@@ -42,7 +42,7 @@ mutual
 
 -- ---- the first rule that is broken
 
--- whether a tag of a row stands first
+-- whether a tag of a row is first
 abbrev pub stands : Row → List ℕ → Bool
 stands (tagged tag shape rules other) octets = begins_with tag octets || stands other octets
 stands any octets = not (is_end octets)
@@ -64,7 +64,7 @@ None or_else other = other
 abbrev pub header_fault : Place → Option CertFault
 header_fault here = option_map (λ kind. breaks here.at (Der kind)) (first_broken header_rules here.rest)
 
--- the same of elements up to the end, and of what each is, at a place that has no more of them than this
+-- the same for elements up to the end, and of what each is, at a place that has no more of them than this
 abbrev pub each_fault : (Tlv → Option CertFault) → ℕ → Place → Option CertFault
 each_fault fault zero here = None
 each_fault fault (suc n) here =

@@ -14,7 +14,7 @@ pub enum CertRule {
     Der(DerFault),
     /// The signature algorithm within what is signed is not the one beside the signature (RFC 5280 4.1.1.2).
     AlgorithmMismatch,
-    /// An extension that stands twice (RFC 5280 4.2).
+    /// An extension that occurs twice (RFC 5280 4.2).
     DuplicateExtension,
     /// A version other than 1, 2 and 3 (RFC 5280 4.1.2.1).
     Version,
@@ -22,7 +22,7 @@ pub enum CertRule {
     ExtensionsInOldVersion,
     /// A subtree with a minimum other than 0, or with a maximum (RFC 5280 4.2.1.10).
     SubtreeBounds,
-    /// A policy that stands twice among the certificate policies (RFC 5280 4.2.1.4).
+    /// A policy that occurs twice among the certificate policies (RFC 5280 4.2.1.4).
     DuplicatePolicy,
     /// An IP address of neither 4 nor 16 octets, or in a subtree of neither 8 nor 32 (RFC 5280 4.2.1.6, 4.2.1.10).
     AddressLength,

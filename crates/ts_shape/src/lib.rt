@@ -17,10 +17,11 @@
 //! | `SequenceOf::iter`, `within`, `SequenceItems` | the items, in their order |
 //! | `next_item`, `tagged_as` | one item; an element of this tag |
 //! | `first_repeated` | the first item whose key an earlier one has |
-//! | `Ends::is_new` | whether a key ends in an octet in which no earlier one does |
+//! | `LastOctets::is_new` | whether a key ends in an octet in which no earlier one does |
 //! | `CertRule::code`, `Display` | the number and the name of a rule |
 #![tactic(auto)]
 
+mod collisions;
 mod fault;
 mod repeats;
 #[cfg(test)]
@@ -28,10 +29,9 @@ mod repeats_tests;
 mod sequence_of;
 #[cfg(test)]
 mod sequence_tests;
-mod suspects;
 #[cfg(test)]
 mod tests;
 
 pub use fault::{CertFault, CertRule};
-pub use repeats::{Ends, Keyed, first_repeated};
+pub use repeats::{Keyed, LastOctets, first_repeated};
 pub use sequence_of::{FromElement, SequenceItems, SequenceOf, next_item, tagged_as};

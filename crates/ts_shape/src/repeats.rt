@@ -6,8 +6,8 @@ ghost use Rattle.ts_der.specs.View.{now};
 ghost use Rattle.ts_shape.specs.Items.{items_at};
 ghost use Rattle.ts_shape.specs.Repeats.{first_repeated as first_repeated_of, end_of as end_in};
 
+use crate::collisions::first_repeated_of_collisions;
 use crate::sequence_of::{FromElement, SequenceItems};
-use crate::suspects::first_repeated_of_suspects;
 use std::marker::Model;
 use ts_der::{Element, OidRef};
 
@@ -45,18 +45,18 @@ pub fn first_repeated<'a, T: Keyed<'a>>(list: Element<'a>) -> Option<T>
         return None;
     }
     match list.content.len() {
-        ..SHORT => first_repeated_of_suspects::<T, 16, 256>(list),
-        SHORT..=MIDDLE => first_repeated_of_suspects::<T, 256, 8_192>(list),
-        ..=LONG => first_repeated_of_suspects::<T, 4_096, 65_536>(list),
-        _ => first_repeated_of_suspects::<T, 24_576, 262_144>(list),
+        ..SHORT => first_repeated_of_collisions::<T, 16, 256>(list),
+        SHORT..=MIDDLE => first_repeated_of_collisions::<T, 256, 8_192>(list),
+        ..=LONG => first_repeated_of_collisions::<T, 4_096, 65_536>(list),
+        _ => first_repeated_of_collisions::<T, 24_576, 262_144>(list),
     }
 }
 
-/// Whether each key ends in an octet in which no other does, so that none stands twice.
+/// Whether each key ends in an octet in which no other does, so that none occurs twice.
 fn have_ends_of_their_own<'a, T: Keyed<'a>>(list: Element<'a>) -> bool
     ensures { result ≡ true → first_repeated_of T.key_of [] (items_at T.reading (inside (now list.entry))) ≡ None }
 {
-    let mut ends = Ends::new();
+    let mut ends = LastOctets::new();
     for item in SequenceItems::<T>::within(list) {
         if !ends.is_new(item.key()) {
             return false;
@@ -67,11 +67,11 @@ fn have_ends_of_their_own<'a, T: Keyed<'a>>(list: Element<'a>) -> bool
 
 /// The last octets of keys. A key that ends in none of them is none of those keys.
 #[derive(Drop)]
-pub struct Ends {
+pub struct LastOctets {
     seen: [bool; 256],
 }
 
-impl Model for Ends {
+impl Model for LastOctets {
     ghost use Rattle.std.specs.Prelude.{◌≡◌, Bool, List, length};
 
     ghost Value = { List Bool };
@@ -81,15 +81,15 @@ impl Model for Ends {
     ghost invariant = { λ ends. length ends.seen ≡ 256 };
 }
 
-impl Ends {
+impl LastOctets {
     ghost use Rattle.std.specs.Prelude.{◌≡◌, ◌∷◌, ℕ, List, not, replicate, true, false};
     ghost use Rattle.ts_shape.specs.Repeats.{is_among, is_end_met, with_end, HaveEnds};
 
     /// Those of no key.
-    pub fn new() -> Ends
+    pub fn new() -> LastOctets
         ensures { result ≡ replicate 256 false }
     {
-        Ends { seen: [false; 256] }
+        LastOctets { seen: [false; 256] }
     }
 
     /// Whether a key ends in an octet of its own, which is then one of these. An empty key counts as one that ends in 0.

@@ -11,7 +11,7 @@ fn identifiers(octets: &[u8]) -> Result<SequenceOf<'_, OidRef<'_>>, Fault> {
     SequenceOf::read(Reader::new(octets).next()?)
 }
 
-/// Two identifiers, and whether none comes behind them, asked twice.
+/// Two identifiers, and whether none comes after them, asked twice.
 fn two<'a>(octets: &'a [u8]) -> Option<(&'a [u8], &'a [u8], bool, bool)> {
     let mut items = identifiers(octets).ok()?.iter();
     let (first, second) = (items.next()?, items.next()?);

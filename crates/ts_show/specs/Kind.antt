@@ -1,12 +1,12 @@
 -- What octets hold. The order decides where they are more than one thing.
 use Rattle.std.specs.Prelude.{◌≡◌, ℕ, List, ◌∷◌, codes}
 use Rattle.ts_cert.specs.Certificate.{Certificate}
-use Rattle.ts_cert.specs.Spelling.{IsCertificate}
+use Rattle.ts_cert.specs.Encoding.{IsCertificate}
 use Rattle.ts_crl.specs.List.{CertificateList}
-use Rattle.ts_crl.specs.Spelling.{IsCertificateList}
+use Rattle.ts_crl.specs.Encoding.{IsCertificateList}
 use Rattle.ts_store.specs.declared.command.Command.{Command}
-use Rattle.ts_store.specs.Commands.{spelling as command_spelling, Fits as CommandFits}
-use Rattle.ts_question.specs.Question.{Asked, spelling as question_spelling, Fits as QuestionFits}
+use Rattle.ts_store.specs.Commands.{encoding as command_encoding, Fits as CommandFits}
+use Rattle.ts_question.specs.Question.{Asked, encoding as question_encoding, Fits as QuestionFits}
 use Rattle.ts_show.specs.declared.kind.Kind.{Kind}
 use Rattle.ts_show.specs.declared.kind.Kind.TheVariants as kind
 
@@ -24,11 +24,11 @@ AreList octets = (c : CertificateList) × IsCertificateList octets c
 
 -- they are a command of a trust store
 abbrev pub AreCommand : List ℕ → Type 0
-AreCommand octets = (command : Command) × CommandFits command × (octets ≡ command_spelling command)
+AreCommand octets = (command : Command) × CommandFits command × (octets ≡ command_encoding command)
 
 -- they are a question
 abbrev pub AreQuestion : List ℕ → Type 0
-AreQuestion octets = (q : Asked) × QuestionFits q × (octets ≡ question_spelling q)
+AreQuestion octets = (q : Asked) × QuestionFits q × (octets ≡ question_encoding q)
 
 -- they begin with the tag of a SEQUENCE
 abbrev pub BeginSequence : List ℕ → Type 0

@@ -1,4 +1,4 @@
-//! A law about what octets hold. It stands on a function that does nothing.
+//! A law about what octets hold. It is the contract of a function that does nothing.
 
 ghost use Rattle.std.specs.Prelude.{◌≡◌, ℕ, List};
 ghost use Rattle.ts_show.specs.Kind.{IsKind};

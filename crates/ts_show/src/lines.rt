@@ -39,7 +39,7 @@ impl Lines {
         self.alloc
     }
 
-    /// Puts a line behind the others.
+    /// Puts a line after the others.
     pub(crate) fn push(&mut self, line: Line) -> Result<(), AllocError>
         ensures { OnOk result (self.new ≡ self.old ++ line ∷ []) }
     {
@@ -47,7 +47,7 @@ impl Lines {
         Ok(())
     }
 
-    /// Puts other lines behind these.
+    /// Puts other lines after these.
     pub(crate) fn append(&mut self, others: Lines) -> Result<(), AllocError>
         ensures { OnOk result (self.new ≡ self.old ++ others) }
     {

@@ -1,4 +1,4 @@
-//! What is shown of octets. The texts were written by hand; OpenSSL says the same of the certificate and of the list.
+//! What is shown of octets. The texts were written by hand; OpenSSL says the same for the certificate and of the list.
 
 use crate::show;
 use std::alloc::Global;

@@ -1,10 +1,10 @@
--- Blobs one behind another are read in one way.
+-- Blobs one after another are read in one way.
 use Rattle.std.proofs.Common.{◌≡◌, ◌≤◌, ◌<◌, ◌+◌, ◌&&◌, Bool, true, false, ℕ, List, [], ◌∷◌, ◌++◌, length, get_or, take, drop, refl, sym, ◌∙◌, ap, arith, append_assoc, length-append, Option, Some, None}
 use Rattle.std.proofs.lemmas.List.{append-nil, drop_at, take_at}
 use Rattle.std.proofs.lemmas.Grind.{flat_map-append}
 use Rattle.std.specs.List.{flat_map, list_all}
 use Rattle.ts_der.specs.ObjectIdentifier.{is_oid}
-use Rattle.ts_store.specs.Commands.{blob8, purposes_spelling}
+use Rattle.ts_store.specs.Commands.{blob8, purposes_encoding}
 use Rattle.ts_store.specs.Purposes.{is_listed, ArePurposes}
 
 -- what is left of a list whose first ones were read
@@ -80,7 +80,7 @@ due octets rest done oids count so_far more fit is none =
     by [] e l = absurd (omega (arith, more, so_far.so_many, ap length e, length-append done []))
     by (o ∷ left) e l = none o (flat_map blob8 left) (first_true (is_oid o) (list_all is_oid left) (all_behind done (o ∷ left) (ap (list_all is_oid) (sym e) ∙ fit))) l
 
--- two lists of as many blobs, spelled alike, are one
+-- two lists of as many blobs, encoded alike, are one
 pub one_list : (oids others : List (List ℕ)) → length oids ≡ length others → flat_map blob8 oids ≡ flat_map blob8 others → oids ≡ others
 one_list [] [] n is = refl
 one_list [] (o ∷ others) n is = absurd (omega (arith, n))
@@ -90,9 +90,9 @@ one_list (o ∷ oids) (p ∷ others) n is =
     let t = one_list oids others (omega (arith, n)) h.rest in
     λ i. h.first i ∷ t i
 
--- a list that purposes can't have is spelled by none
+-- a list that purposes can't have is encoded by none
 pub not_listed : (octets : List ℕ) (oids : List (List ℕ)) → get_or octets 0 0 ≡ 1 → length oids ≡ get_or octets 1 0 → drop 2 octets ≡ flat_map blob8 oids → is_listed oids ≡ false
-    → (purposes : Option (List (List ℕ))) → ArePurposes purposes → octets ≡ purposes_spelling purposes → ⊥
+    → (purposes : Option (List (List ℕ))) → ArePurposes purposes → octets ≡ purposes_encoding purposes → ⊥
 not_listed octets oids form n is not None fit too = absurd (omega (arith, form, ap (λ l. get_or l 0 0) too))
 not_listed octets oids form n is not (Some others) fit too =
     let e = one_list oids others (n ∙ ap (λ l. get_or l 1 0) too) (sym is ∙ ap (drop 2) too) in

@@ -6,4 +6,4 @@ pub mod Held
 mod Changing
 pub mod Steps
 mod Fields
-pub mod Spelled
+pub mod Encoded

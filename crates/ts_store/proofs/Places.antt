@@ -13,7 +13,7 @@ use Rattle.ts_store.specs.declared.anchor.TrustAnchor.{TrustAnchor}
 use Rattle.ts_store.specs.declared.outcome.Refusal.{Refusal}
 use Rattle.ts_store.specs.declared.outcome.Refusal.TheVariants.{Malformed}
 
--- a place behind others
+-- a place after others
 abbrev pub behind : ℕ → Option ℕ → Option ℕ
 behind i None = None
 behind i (Some k) = Some (i + k)

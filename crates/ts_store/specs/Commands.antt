@@ -1,4 +1,4 @@
--- Commands of a trust store, how they are spelled, and which have a spelling.
+-- Commands of a trust store, how they are encoded, and which have an encoding.
 use Rattle.std.specs.Prelude.{◌≡◌, ◌≤◌, ℕ, List, [], ◌∷◌, ◌++◌, length, Option, Some, None}
 use Rattle.std.specs.List.{flat_map}
 use Rattle.std.specs.Int.{to_be_bytes, w32}
@@ -15,9 +15,9 @@ abbrev pub blob32 : List ℕ → List ℕ
 blob32 octets = to_be_bytes w32 (length octets) ++ octets
 
 -- 00 for any; else 01, an octet of their number, and the contents octets of each
-abbrev pub purposes_spelling : Option (List (List ℕ)) → List ℕ
-purposes_spelling None = 0 ∷ []
-purposes_spelling (Some oids) = 1 ∷ length oids ∷ flat_map blob8 oids
+abbrev pub purposes_encoding : Option (List (List ℕ)) → List ℕ
+purposes_encoding None = 0 ∷ []
+purposes_encoding (Some oids) = 1 ∷ length oids ∷ flat_map blob8 oids
 
 -- the octet of the kind, and the fields
 abbrev pub fields : Command → List ℕ
@@ -25,7 +25,7 @@ fields (AddAnchor id certificate) = 1 ∷ blob32 certificate
 fields (WithdrawAnchor id anchor) = 2 ∷ anchor
 fields (LoadCrl id crl) = 3 ∷ blob32 crl
 fields (DropCrl id crl) = 4 ∷ crl
-fields (SetPurposes id anchor purposes) = 5 ∷ (anchor ++ purposes_spelling purposes)
+fields (SetPurposes id anchor purposes) = 5 ∷ (anchor ++ purposes_encoding purposes)
 fields (Noop id) = 6 ∷ []
 
 -- the id that the client chose
@@ -38,8 +38,8 @@ id_of (SetPurposes id anchor purposes) = id
 id_of (Noop id) = id
 
 -- the id, and what it is about
-abbrev pub spelling : Command → List ℕ
-spelling command = id_of command ++ fields command
+abbrev pub encoding : Command → List ℕ
+encoding command = id_of command ++ fields command
 
 -- the fields are within their limits
 abbrev pub FieldsFit : Command → Type 0

@@ -1,8 +1,8 @@
--- The octets of a command in a record: its one spelling. A value that is no command of a store, as one whose id has not 16 octets, has none.
+-- The octets of a command in a record: its one encoding. A value that is no command of a store, as one whose id has not 16 octets, has none.
 use Rattle.std.specs.Prelude.{ℕ, Bool, true, ◌&&◌, ◌==◌, nat_le, List, [], length, Option, Some, None, if◌then◌else◌}
 use Rattle.std.specs.List.{list_all}
 use Rattle.ts_der.specs.ObjectIdentifier.{is_oid}
-use Rattle.ts_store.specs.Commands.{id_of, spelling}
+use Rattle.ts_store.specs.Commands.{id_of, encoding}
 use Rattle.ts_store.specs.Purposes.{is_listed}
 use Rattle.ts_store.specs.declared.command.Command.{Command}
 use Rattle.ts_store.specs.declared.command.Command.TheVariants.{AddAnchor, WithdrawAnchor, LoadCrl, DropCrl, SetPurposes, Noop}
@@ -25,4 +25,4 @@ abbrev pub is_command : Command → Bool
 is_command command = (length (id_of command) == 16) && are_fields command
 
 unfoldable pub octets_of : Command → List ℕ
-octets_of command = if is_command command then spelling command else []
+octets_of command = if is_command command then encoding command else []

@@ -1,10 +1,10 @@
-//! A command is copied, and kept in a record by its one spelling.
+//! A command is copied, and kept in a record by its one encoding.
 
 ghost use Rattle.std.specs.Prelude.{◌≡◌, ◌≤◌, ◌++◌, length, IfOk, IfSome, IfNone, OnOk};
 ghost use Rattle.ts_store.specs.Octets.{octets_of};
 
 use crate::command::Command;
-use crate::writing::push_spelling;
+use crate::writing::push_encoding;
 use std::alloc::{AllocError, Global};
 use ts_record::Codec;
 
@@ -22,13 +22,13 @@ impl Codec for Command {
     }
 
     fn write(&self, out: &mut Vec<u8>) -> Result<(), AllocError> {
-        self.has_spelling();
-        push_spelling(out, self)
+        self.has_encoding();
+        push_encoding(out, self)
     }
 
     fn read(alloc: Global, source: &[u8]) -> Result<Option<Self>, AllocError> {
         Command::read(alloc, source)
     }
 
-    fn one_spelling() {}
+    fn one_encoding() {}
 }

@@ -1,13 +1,13 @@
 //! Commands.
 
 ghost use Rattle.std.specs.Prelude.{◌≡◌, ◌<◌, ◌≤◌, List, ℕ, Some, length, IfOk, IfSome, MatchResult};
-ghost use Rattle.ts_store.specs.Commands.{id_of, spelling, Fits};
+ghost use Rattle.ts_store.specs.Commands.{id_of, encoding, Fits};
 ghost use Rattle.ts_store.specs.declared.command.Command.TheVariants.{AddAnchor, LoadCrl};
 
 use crate::purposes::Purposes;
 use crate::reading::read_command;
 use crate::values::{CertificateOctets, CrlOctets, TooLong};
-use crate::writing::{has_spelling, push_spelling};
+use crate::writing::{has_encoding, push_encoding};
 use std::alloc::{AllocError, Global};
 
 /// A command of a trust store. Its client chose its id.
@@ -126,33 +126,33 @@ impl Command {
     ///
     /// Memory that is refused.
     pub fn read(alloc: Global, octets: &[u8]) -> Result<Option<Command>, AllocError>
-        // What is read is spelled so.
-        ensures found { IfOk result (λ read. IfSome read (λ command. Fits command × (octets.now ≡ spelling command))) }
-        // What is spelled so is read.
-        ensures only { (command : Command) → Fits command → octets.now ≡ spelling command → IfOk result (λ read. read ≡ Some command) }
+        // What is read is encoded so.
+        ensures found { IfOk result (λ read. IfSome read (λ command. Fits command × (octets.now ≡ encoding command))) }
+        // What is encoded so is read.
+        ensures only { (command : Command) → Fits command → octets.now ≡ encoding command → IfOk result (λ read. read ≡ Some command) }
     {
         read_command(alloc, octets)
     }
 
-    /// Every command has a spelling: its fields are within their limits. Nothing is done.
-    pub fn has_spelling(&self)
+    /// Every command has an encoding: its fields are within their limits. Nothing is done.
+    pub fn has_encoding(&self)
         ensures { Fits self.now }
     {
-        has_spelling(self);
+        has_encoding(self);
     }
 
-    /// The octets of the command, which are its one spelling.
+    /// The octets of the command, which are its one encoding.
     ///
     /// # Errors
     ///
     /// Memory that is refused.
     pub fn octets(&self, alloc: Global) -> Result<Vec<u8>, AllocError>
-        ensures spelled { IfOk result (λ octets. octets.items ≡ spelling self.now) }
+        ensures encoded { IfOk result (λ octets. octets.items ≡ encoding self.now) }
         ensures fits { Fits self.now }
     {
-        self.has_spelling();
+        self.has_encoding();
         let mut octets = Vec::new(alloc);
-        push_spelling(&mut octets, self)?;
+        push_encoding(&mut octets, self)?;
         Ok(octets)
     }
 }

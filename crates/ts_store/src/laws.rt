@@ -1,22 +1,22 @@
-//! Laws about the spelling of commands, and about the fold of them that the store is. Each stands on a function that does
+//! Laws about the encoding of commands, and about the fold of them that the store is. Each is on a function that does
 //! nothing.
 
 ghost use Rattle.std.specs.Prelude.{◌≡◌, ◌⊎◌, List, ℕ, suc, ◌++◌, Some, None};
 ghost use Rattle.ts_store.specs.Store.{State, step, after};
 ghost use Rattle.ts_store.specs.declared.outcome.Outcome.TheVariants.{Applied};
-ghost use Rattle.ts_store.specs.Commands.{id_of, spelling, Fits};
+ghost use Rattle.ts_store.specs.Commands.{id_of, encoding, Fits};
 ghost use Rattle.ts_store.specs.Ids.{first_of};
 ghost use Rattle.ts_store.specs.declared.command.Command.{Command};
 ghost use Rattle.ts_store.specs.declared.ids.First.{First};
 
-/// No two commands have one spelling, and no two lists of octets are one command's.
-pub fn one_spelling()
-    ensures command { (command other : Command) → Fits command → Fits other → spelling command ≡ spelling other → command ≡ other }
-    ensures octets { (octets others : List ℕ) (command : Command) → octets ≡ spelling command → others ≡ spelling command → octets ≡ others }
+/// No two commands have one encoding, and no two lists of octets are one command's.
+pub fn one_encoding()
+    ensures command { (command other : Command) → Fits command → Fits other → encoding command ≡ encoding other → command ≡ other }
+    ensures octets { (octets others : List ℕ) (command : Command) → octets ≡ encoding command → others ≡ encoding command → octets ≡ others }
 {}
 
 /// A command that is not applied leaves the tables as they are; each command takes one position; a command with a new id
-/// holds it with its position and outcome, and keeps it whatever commands follow; commands one behind another are those of
+/// holds it with its position and outcome, and keeps it whatever commands follow; commands one after another are those of
 /// both lists.
 pub fn one_step()
     ensures unchanged { (position : ℕ) (command : Command) (state : State) → ((step position command state).outcome ≡ Applied) ⊎ ((step position command state).state.tables ≡ state.tables) }

@@ -2,28 +2,28 @@
 //!
 //! ```text
 //! let command = Command::add_anchor(id, certificate)?;        // TooLong above the limits
-//! let octets = command.octets(alloc)?;                         // its one spelling
+//! let octets = command.octets(alloc)?;                         // its one encoding
 //! let again = Command::read(alloc, &octets)?;                  // Some, exactly where the octets are one whole command
 //!
 //! let mut store = Store::new(alloc);
 //! let outcome = store.apply(1, &command)?;                     // Applied, Repeated(position) or Refused(why)
 //! ```
 //!
-//! A command is 16 octets of id, an octet of the kind and its fields, numbers being big endian: 01 a certificate behind
+//! A command is 16 octets of id, an octet of the kind and its fields, numbers being big endian: 01 a certificate after
 //! four octets of its length; 02 the 32 octets of an anchor's id; 03 a list of revoked certificates like a certificate; 04
 //! the 32 octets of a list's id; 05 an anchor's id and its purposes (`00` for any; else `01`, an octet of their number, and
-//! the contents octets of each behind an octet of their length, strictly ascending); 06 nothing.
+//! the contents octets of each after an octet of their length, strictly ascending); 06 nothing.
 //!
 //! | Call | Clauses |
 //! |---|---|
 //! | [`Command::add_anchor`], [`Command::load_crl`], [`CertificateOctets::new`], [`CrlOctets::new`] | `TooLong` exactly above the limit |
 //! | [`Purposes::new`] | `None` exactly where the list is longer than 16 or not strictly ascending |
-//! | [`Command::read`] | `found`, `only`: what is read is spelled so, and what is spelled so is read |
-//! | [`Command::octets`] | `spelled`: the spelling; `fits`: each command has one |
-//! | `impl ts_synod::Command`, `impl ts_record::Codec` for [`Command`] | a command is one of the protocol, and is kept in a record by its one spelling (`specs/Octets`) |
-//! | [`laws::one_spelling`] | no two commands have one spelling, and no two lists of octets are one command's |
+//! | [`Command::read`] | `found`, `only`: what is read is encoded so, and what is encoded so is read |
+//! | [`Command::octets`] | `encoded`: the encoding; `fits`: each command has one |
+//! | `impl ts_synod::Command`, `impl ts_record::Codec` for [`Command`] | a command is one of the protocol, and is kept in a record by its one encoding (`specs/Octets`) |
+//! | [`laws::one_encoding`] | no two commands have one encoding, and no two lists of octets are one command's |
 //! | [`Anchors::add`], [`Anchors::withdraw`], [`Anchors::set_purposes`] | the table after the command, or its refusal, by the definition (`specs/Anchors`); at an `Err` nothing changes |
-//! | [`Crls::put`], [`Crls::remove`], [`Tables::change`] | the same of a table of lists, and of all tables (`specs/Lists`, `specs/Tables`) |
+//! | [`Crls::put`], [`Crls::remove`], [`Tables::change`] | the same for a table of lists, and of all tables (`specs/Lists`, `specs/Tables`) |
 //! | [`Store::new`], [`Store::apply`] | the definition's empty store, and its step with the step's outcome (`specs/Store`); at an `Err` nothing changes |
 //! | [`Store::first`], [`Store::taken`], [`Store::tables`], [`Store::anchors`], [`Store::crls`], [`Store::deltas`] | what the store's value says |
 //! | [`laws::one_step`] | of the store's definition: a command that is not applied leaves the tables; each takes one position; a new id is held with its position and outcome, and keeps them; the fold over two lists |

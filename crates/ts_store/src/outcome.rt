@@ -30,7 +30,7 @@ pub enum Refusal {
 pub enum Outcome {
     /// It was applied.
     Applied,
-    /// The first command of its id stands at this position.
+    /// The first command of its id is at this position.
     Repeated(u32),
     /// It changed nothing.
     Refused(Refusal),

@@ -3,9 +3,9 @@
 ghost use Rattle.std.specs.Prelude.{◌≡◌, ◌≢◌, ◌≤◌, ◌<◌, ◌+◌, ◌^◌, ◌++◌, ℕ, List, length, drop, true, false, MatchOption, IfSome, IfOk, Option};
 ghost use Rattle.std.specs.List.{flat_map, list_all};
 ghost use Rattle.std.specs.Int.{to_be_bytes, w32};
-ghost use Rattle.ts_der.specs.Element.{spell};
+ghost use Rattle.ts_der.specs.Element.{encode};
 ghost use Rattle.ts_der.specs.ObjectIdentifier.{is_oid};
-ghost use Rattle.ts_store.specs.Commands.{blob8, blob32, purposes_spelling};
+ghost use Rattle.ts_store.specs.Commands.{blob8, blob32, purposes_encoding};
 ghost use Rattle.ts_store.specs.Purposes.{ArePurposes};
 ghost use Rattle.ts_store.specs.Reading.{FieldsOrNot, CommandOrNot};
 
@@ -23,7 +23,7 @@ const OBJECT_IDENTIFIER: u8 = 0x06;
 /// The element of an object identifier that has these contents octets.
 fn element_of(alloc: Global, content: &[u8]) -> Result<Vec<u8>, AllocError>
     requires { length content.now < 2 ^ 32 }
-    ensures { IfOk result (λ octets. octets.items ≡ spell 6 content.now) }
+    ensures { IfOk result (λ octets. octets.items ≡ encode 6 content.now) }
 {
     let mut writer = Writer::new(alloc);
     writer.tlv(OBJECT_IDENTIFIER, content)?;
@@ -46,7 +46,7 @@ fn oid_of(alloc: Global, content: &[u8]) -> Result<Option<Oid>, AllocError>
     }
 }
 
-/// The octets of a blob that begins here, behind an octet of length.
+/// The octets of a blob that begins here, after an octet of length.
 fn short_blob(rest: &[u8]) -> Option<&[u8]>
     ensures { MatchOption result ((content after : List ℕ) → rest.now ≡ blob8 content ++ after → ⊥)
         (λ content. (length content.now < 256) × (1 + length content.now ≤ length rest.now) × (rest.now ≡ blob8 content.now ++ drop (1 + length content.now) rest.now)) }
@@ -89,8 +89,8 @@ fn oids_of(alloc: Global, count: u8, octets: &[u8]) -> Result<Option<Vec<Oid>>, 
 /// The purposes that the octets are.
 fn purposes_of(alloc: Global, octets: &[u8]) -> Result<Option<Purposes>, AllocError>
     ensures { IfOk result (λ found. MatchOption found
-        ((purposes : Option (List (List ℕ))) → ArePurposes purposes → octets.now ≡ purposes_spelling purposes → ⊥)
-        (λ purposes. ArePurposes purposes × (octets.now ≡ purposes_spelling purposes))) }
+        ((purposes : Option (List (List ℕ))) → ArePurposes purposes → octets.now ≡ purposes_encoding purposes → ⊥)
+        (λ purposes. ArePurposes purposes × (octets.now ≡ purposes_encoding purposes))) }
 {
     match octets {
         [0] => Ok(Some(Purposes::any())),
@@ -105,7 +105,7 @@ fn purposes_of(alloc: Global, octets: &[u8]) -> Result<Option<Purposes>, AllocEr
     }
 }
 
-/// The octets of a blob that is all of these, behind four octets of length.
+/// The octets of a blob that is all of these, after four octets of length.
 fn blob_of(octets: &[u8]) -> Option<&[u8]>
     ensures { MatchOption result ((content : List ℕ) → length content < 2 ^ 32 → octets.now ≡ blob32 content → ⊥)
         (λ content. octets.now ≡ blob32 content.now) }

@@ -3,14 +3,14 @@
 ghost use Rattle.std.specs.Prelude.{◌≡◌, ◌≤◌, ◌<◌, ◌^◌, ◌++◌, ◌∷◌, ℕ, List, Option, true, length, take, option_map, OnOk};
 ghost use Rattle.std.specs.List.{flat_map, list_all};
 ghost use Rattle.ts_der.specs.ObjectIdentifier.{is_oid};
-ghost use Rattle.ts_store.specs.Commands.{blob8, blob32, purposes_spelling, fields, spelling, FieldsFit, Fits};
+ghost use Rattle.ts_store.specs.Commands.{blob8, blob32, purposes_encoding, fields, encoding, FieldsFit, Fits};
 
 use crate::command::Command;
 use crate::purposes::Purposes;
 use std::alloc::AllocError;
 use ts_der::Oid;
 
-/// Writes octets behind four octets of their length.
+/// Writes octets after four octets of their length.
 fn push_blob(out: &mut Vec<u8>, octets: &[u8]) -> Result<(), AllocError>
     requires { length octets.now < 2 ^ 32 }
     ensures { OnOk result (out.new.items ≡ out.old.items ++ blob32 octets.now) }
@@ -20,7 +20,7 @@ fn push_blob(out: &mut Vec<u8>, octets: &[u8]) -> Result<(), AllocError>
     Ok(())
 }
 
-/// Writes an object identifier behind an octet of its length.
+/// Writes an object identifier after an octet of its length.
 fn push_oid(out: &mut Vec<u8>, oid: &Oid) -> Result<(), AllocError>
     ensures { OnOk result (out.new.items ≡ out.old.items ++ blob8 oid.now) }
 {
@@ -30,7 +30,7 @@ fn push_oid(out: &mut Vec<u8>, oid: &Oid) -> Result<(), AllocError>
     Ok(())
 }
 
-/// Writes object identifiers, one behind another.
+/// Writes object identifiers, one after another.
 fn push_oids(out: &mut Vec<u8>, oids: &[Oid]) -> Result<(), AllocError>
     ensures { OnOk result (out.new.items ≡ out.old.items ++ flat_map blob8 oids.now) }
 {
@@ -42,7 +42,7 @@ fn push_oids(out: &mut Vec<u8>, oids: &[Oid]) -> Result<(), AllocError>
 
 /// Writes purposes.
 fn push_purposes(out: &mut Vec<u8>, purposes: &Purposes) -> Result<(), AllocError>
-    ensures { OnOk result (out.new.items ≡ out.old.items ++ purposes_spelling purposes.now) }
+    ensures { OnOk result (out.new.items ≡ out.old.items ++ purposes_encoding purposes.now) }
 {
     match purposes.oids() {
         None => out.push(0)?,
@@ -91,8 +91,8 @@ fn push_fields(out: &mut Vec<u8>, command: &Command) -> Result<(), AllocError>
 }
 
 /// Writes a command.
-pub(crate) fn push_spelling(out: &mut Vec<u8>, command: &Command) -> Result<(), AllocError>
-    ensures { OnOk result (out.new.items ≡ out.old.items ++ spelling command.now) }
+pub(crate) fn push_encoding(out: &mut Vec<u8>, command: &Command) -> Result<(), AllocError>
+    ensures { OnOk result (out.new.items ≡ out.old.items ++ encoding command.now) }
 {
     out.extend_from_slice(&command.id())?;
     push_fields(out, command)?;
@@ -109,8 +109,8 @@ fn is_digest(digest: [u8; 32])
     ensures { length digest ≡ 32 }
 {}
 
-/// The fields of each command have a spelling.
-fn fields_have_spelling(command: &Command)
+/// The fields of each command have an encoding.
+fn fields_have_encoding(command: &Command)
     ensures { FieldsFit command.now }
 {
     match command {
@@ -134,10 +134,10 @@ fn fields_have_spelling(command: &Command)
     }
 }
 
-/// Each command has a spelling.
-pub(crate) fn has_spelling(command: &Command)
+/// Each command has an encoding.
+pub(crate) fn has_encoding(command: &Command)
     ensures { Fits command.now }
 {
     is_id(command.id());
-    fields_have_spelling(command);
+    fields_have_encoding(command);
 }

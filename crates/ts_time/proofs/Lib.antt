@@ -2,4 +2,4 @@ pub mod CalendarLemmas
 pub mod CivilLemmas
 pub mod ReadingLemmas
 pub mod TextLemmas
-pub mod UsualTimes
+pub mod FastTimes

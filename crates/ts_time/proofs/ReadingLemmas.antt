@@ -53,7 +53,7 @@ number_of_two-only n small =
 -- the octets are these numbers in two digits each, and a Z
 record AreNumbersOf (octets numbers : List ℕ) : Type 0 where
   pub small : AreBelow100 numbers
-  pub spelled : octets ≡ written numbers
+  pub encoded : octets ≡ written numbers
 
 numbers_in-found : (octets numbers : List ℕ) → numbers_in octets ≡ Some numbers → AreNumbersOf octets numbers
 unfolding numbers_in
@@ -62,7 +62,7 @@ numbers_in-found (z ∷ []) numbers h = elim (cases_Bool (eqb z 90)) [
   | inl end ↦
       let found = rw end at h in
       let is : [] ≡ numbers = cc in
-      rw (eqb-true z 90 end, ← is) (record { small = tt; spelled = refl })
+      rw (eqb-true z 90 end, ← is) (record { small = tt; encoded = refl })
   | inr other ↦ absurd (let found = rw other at h in cc)
 ]
 numbers_in-found (tens ∷ ones ∷ octets) numbers h =
@@ -76,7 +76,7 @@ numbers_in-found (tens ∷ ones ∷ octets) numbers h =
         let is : n ∷ ns ≡ numbers = cc in
         let f = first n refl in
         let r = rest ns refl in
-        rw (← is) (record { small = (f.small, r.small); spelled = rw (f.tens_is, f.ones_is, ← r.spelled) refl })
+        rw (← is) (record { small = (f.small, r.small); encoded = rw (f.tens_is, f.ones_is, ← r.encoded) refl })
 
 -- numbers are read of the octets that they are written as
 numbers_in-only : (numbers : List ℕ) → AreBelow100 numbers → numbers_in (written numbers) ≡ Some numbers
@@ -125,11 +125,11 @@ Exists-only t h =
 
 -- ---- the moments of times
 
--- the numbers of a time behind its year
+-- the numbers of a time after its year
 abbrev behind_year : CivilTime → List ℕ
 behind_year t = t.month ∷ t.day ∷ t.hour ∷ t.minute ∷ t.second ∷ []
 
--- a time that exists, in this year, and its numbers behind the year
+-- a time that exists, in this year, and its numbers after the year
 record IsTimeOf (year : ℕ) (numbers : List ℕ) (m : ℤ) : Type 0 where
   pub time : CivilTime
   pub year_is : time.year ≡ year
@@ -183,7 +183,7 @@ utc_moment-found text (yy ∷ numbers) m r h =
       time = t.time;
       year = t.year_is;
       exists = t.exists;
-      spelled = r.spelled ∙ ap (λ ns. written (yy ∷ ns)) t.numbers_are;
+      encoded = r.encoded ∙ ap (λ ns. written (yy ∷ ns)) t.numbers_are;
       named = t.named;
     }
 
@@ -199,7 +199,7 @@ pub utc_in-only : (text : List ℕ) (m : ℤ) → IsUtc text m → utc_in text �
 unfolding utc_in utc_moment
 utc_in-only text m h =
     let numbers = h.yy ∷ behind_year h.time in
-    let read : numbers_in text ≡ Some numbers = ap numbers_in h.spelled ∙ numbers_in-only numbers (h.two, behind_year-small h.time h.exists) in
+    let read : numbers_in text ≡ Some numbers = ap numbers_in h.encoded ∙ numbers_in-only numbers (h.two, behind_year-small h.time h.exists) in
     rw (read, ← h.year, h.named) (moment_in-only h.time h.exists)
 
 -- ---- GeneralizedTime
@@ -219,7 +219,7 @@ general_moment-found text (century ∷ year ∷ numbers) m r h =
     record {
       time = t.time;
       exists = t.exists;
-      spelled = r.spelled
+      encoded = r.encoded
           ∙ ap (λ ns. written (century ∷ year ∷ ns)) t.numbers_are
           ∙ written_year century year t.time r.small.0 r.small.1.0 t.year_is;
       named = t.named;
@@ -238,17 +238,17 @@ unfolding general_in general_moment
 general_in-only text m h =
     let high = h.exists.date.year_in in
     let numbers = h.time.year / 100 ∷ h.time.year % 100 ∷ behind_year h.time in
-    let read : numbers_in text ≡ Some numbers = ap numbers_in h.spelled ∙ numbers_in-only numbers (omega arith, (omega arith, behind_year-small h.time h.exists)) in
+    let read : numbers_in text ≡ Some numbers = ap numbers_in h.encoded ∙ numbers_in-only numbers (omega arith, (omega arith, behind_year-small h.time h.exists)) in
     let year : 100 * (h.time.year / 100) + h.time.year % 100 ≡ h.time.year = omega arith in
     rw (read, year, h.named) (moment_in-only h.time h.exists)
 
 -- ---- no text of either form has more than 15 octets
 
 pub utc-short : (text : List ℕ) (m : ℤ) → IsUtc text m → length text ≤ 15
-utc-short text m h = rw h.spelled (omega arith)
+utc-short text m h = rw h.encoded (omega arith)
 
 pub general-short : (text : List ℕ) (m : ℤ) → IsGeneral text m → length text ≤ 15
-general-short text m h = rw h.spelled (omega arith)
+general-short text m h = rw h.encoded (omega arith)
 
 -- ---- what the readers answer
 

@@ -16,7 +16,7 @@ text_in_year-same t u h = rw (h.month, h.day, h.hour, h.minute, h.second) refl
 pub IsGeneral-text : (text : List ℕ) (m : ℤ) (t : CivilTime) → IsGeneral text m → Exists t → moment_of t ≡ m → text ≡ general_text t
 IsGeneral-text text m t h exists e =
     let same = moment_of_injective h.time t h.exists exists (sym h.named ∙ sym e) in
-    h.spelled ∙ rw (same.year, same.month, same.day, same.hour, same.minute, same.second) refl
+    h.encoded ∙ rw (same.year, same.month, same.day, same.hour, same.minute, same.second) refl
 
 pub IsGeneral-in_years : (text : List ℕ) (m : ℤ) → IsGeneral text m → IsInYears 0 9999 m
 IsGeneral-in_years text m h =
@@ -41,10 +41,10 @@ pub IsUtc-text : (text : List ℕ) (m : ℤ) (t : CivilTime) → IsUtc text m �
 IsUtc-text text m t h exists e =
     let same = moment_of_injective h.time t h.exists exists (sym h.named ∙ sym e) in
     let yy : h.yy ≡ t.year % 100 = sym (year_of_two-mod h.yy h.two) ∙ ap (λ y. y % 100) (sym h.year ∙ same.year) in
-    h.spelled ∙ rw (yy, same.month, same.day, same.hour, same.minute, same.second) refl
+    h.encoded ∙ rw (yy, same.month, same.day, same.hour, same.minute, same.second) refl
 
 pub IsGeneral-one_text : (a b : List ℕ) (m : ℤ) → IsGeneral a m → IsGeneral b m → a ≡ b
-IsGeneral-one_text a b m h k = IsGeneral-text a m k.time h k.exists (sym k.named) ∙ sym k.spelled
+IsGeneral-one_text a b m h k = IsGeneral-text a m k.time h k.exists (sym k.named) ∙ sym k.encoded
 
 pub IsUtc-one_text : (a b : List ℕ) (m : ℤ) → IsUtc a m → IsUtc b m → a ≡ b
 IsUtc-one_text a b m h k =
@@ -53,7 +53,7 @@ IsUtc-one_text a b m h k =
 two_digits_injective : (a b : ℕ) → 48 + a / 10 ≡ 48 + b / 10 → 48 + a % 10 ≡ 48 + b % 10 → a ≡ b
 two_digits_injective a b tens ones = omega arith
 
--- what each text says behind the year, if the years are the same
+-- what each text says after the year, if the years are the same
 text_in_year-year : (t u : CivilTime) → t.year ≡ u.year → text_in_year t ≡ text_in_year u → IsSameTime t u
 text_in_year-year t u year e =
     record {
@@ -67,7 +67,7 @@ text_in_year-year t u year e =
 
 pub IsGeneral-one_moment : (text : List ℕ) (m n : ℤ) → IsGeneral text m → IsGeneral text n → m ≡ n
 IsGeneral-one_moment text m n h k =
-    let e : general_text h.time ≡ general_text k.time = sym h.spelled ∙ k.spelled in
+    let e : general_text h.time ≡ general_text k.time = sym h.encoded ∙ k.encoded in
     let century = two_digits_injective (h.time.year / 100) (k.time.year / 100) (cc) (cc) in
     let year = two_digits_injective (h.time.year % 100) (k.time.year % 100) (cc) (cc) in
     let rest : text_in_year h.time ≡ text_in_year k.time = cc in
@@ -75,7 +75,7 @@ IsGeneral-one_moment text m n h k =
 
 pub IsUtc-one_moment : (text : List ℕ) (m n : ℤ) → IsUtc text m → IsUtc text n → m ≡ n
 IsUtc-one_moment text m n h k =
-    let e : two_digits h.yy ++ text_in_year h.time ≡ two_digits k.yy ++ text_in_year k.time = sym h.spelled ∙ k.spelled in
+    let e : two_digits h.yy ++ text_in_year h.time ≡ two_digits k.yy ++ text_in_year k.time = sym h.encoded ∙ k.encoded in
     let yy = two_digits_injective h.yy k.yy (cc) (cc) in
     let rest : text_in_year h.time ≡ text_in_year k.time = cc in
     h.named ∙ moment_of-same h.time k.time (text_in_year-year h.time k.time (h.year ∙ ap year_of_two yy ∙ sym k.year) rest) ∙ sym k.named

@@ -34,7 +34,7 @@ does_exist t = is_date t.year t.month t.day && nat_le t.hour 23 && nat_le t.minu
 abbrev pub moment_if : CivilTime → Option ℤ
 moment_if t = if does_exist t then Some (moment_of t) else None
 
--- the moment that a year and the numbers behind it name: a month, a day, an hour, a minute and a second
+-- the moment that a year and the numbers after it name: a month, a day, an hour, a minute and a second
 unfoldable pub moment_in : ℕ → List ℕ → Option ℤ
 moment_in year (month ∷ day ∷ hour ∷ minute ∷ second ∷ []) =
     moment_if (record { year = year; month = month; day = day; hour = hour; minute = minute; second = second })

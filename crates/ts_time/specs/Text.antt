@@ -8,7 +8,7 @@ use Rattle.ts_time.specs.Civil.{Exists, moment_of}
 abbrev pub two_digits : ℕ → List ℕ
 two_digits n = (48 + n / 10) ∷ (48 + n % 10) ∷ []
 
--- MMDDHHMMSSZ: what both forms write behind the year
+-- MMDDHHMMSSZ: what both forms write after the year
 abbrev pub text_in_year : CivilTime → List ℕ
 text_in_year t =
     two_digits t.month ++ two_digits t.day ++ two_digits t.hour ++ two_digits t.minute
@@ -22,11 +22,11 @@ pub record HasTwoDigits (t : CivilTime) : Type 0 where
   pub minute : t.minute < 100
   pub second : t.second < 100
 
--- the octets are those of the time behind this year
+-- the octets are those of the time after this year
 pub record IsInYear (year : ℕ) (text : List ℕ) (t : CivilTime) : Type 0 where
   pub year_is : t.year ≡ year
   pub digits : HasTwoDigits t
-  pub spelled : text ≡ text_in_year t
+  pub encoded : text ≡ text_in_year t
 
 -- YYYYMMDDHHMMSSZ, of a time in the years 0000 to 9999
 abbrev pub general_text : CivilTime → List ℕ
@@ -36,7 +36,7 @@ general_text t = two_digits (t.year / 100) ++ two_digits (t.year % 100) ++ text_
 pub record IsGeneral (text : List ℕ) (moment : ℤ) : Type 0 where
   pub time : CivilTime
   pub exists : Exists time
-  pub spelled : text ≡ general_text time
+  pub encoded : text ≡ general_text time
   pub named : moment ≡ moment_of time
 
 -- the year that the digits YY mean: 19YY where YY is 50 or more, and 20YY where it is less
@@ -50,5 +50,5 @@ pub record IsUtc (text : List ℕ) (moment : ℤ) : Type 0 where
   pub time : CivilTime
   pub year : time.year ≡ year_of_two yy
   pub exists : Exists time
-  pub spelled : text ≡ two_digits yy ++ text_in_year time
+  pub encoded : text ≡ two_digits yy ++ text_in_year time
   pub named : moment ≡ moment_of time

@@ -8,7 +8,7 @@ use crate::calendar::{date_of_number, number_of_date};
 /// The seconds of a day.
 const DAY: i64 = 86_400;
 
-/// What a calendar and a clock show in UTC. Any numbers may stand here: `moment` tells whether there is such a time.
+/// What a calendar and a clock show in UTC. Any numbers may be here: `moment` tells whether there is such a time.
 #[derive(Clone, Copy)]
 pub(crate) struct CivilTime {
     pub year: u16,

@@ -1,4 +1,4 @@
-//! MMDDHHMMSSZ: what UTCTime and GeneralizedTime write behind the year.
+//! MMDDHHMMSSZ: what UTCTime and GeneralizedTime write after the year.
 
 ghost use Rattle.std.specs.Prelude.{◌≡◌, Some, IfSome};
 ghost use Rattle.ts_time.specs.declared.civil.CivilTime.{CivilTime};
@@ -27,7 +27,7 @@ pub(crate) fn read_in_year(year: u16, content: &[u8]) -> Option<CivilTime>
     })
 }
 
-/// What the octets of a time are behind its year.
+/// What the octets of a time are after its year.
 pub(crate) fn print_in_year(time: CivilTime) -> [u8; 11]
     requires { HasTwoDigits time }
     ensures { result ≡ text_in_year time }

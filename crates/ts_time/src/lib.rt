@@ -5,17 +5,17 @@
 mod calendar;
 mod civil;
 mod digits;
+mod fast;
 mod general;
 mod in_year;
 mod laws;
 mod moment;
 #[cfg(test)]
 mod tests;
-mod usual;
 mod utc;
 
+pub use fast::begins_with_utc;
 pub use general::{print_general, read_general};
 pub use laws::{general_is_one_to_one, utc_is_one_to_one};
 pub use moment::Moment;
-pub use usual::begins_with_utc;
 pub use utc::{print_utc, read_utc};

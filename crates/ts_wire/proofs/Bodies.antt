@@ -4,7 +4,7 @@ use Rattle.std.specs.Int.{w32, to_be_bytes}
 use Rattle.std.proofs.lemmas.Bool.{eqb-true, eqb-false}
 use Rattle.std.proofs.lemmas.List.{append-nil, nil_from_length, drop-drop}
 use Rattle.ts_question.proofs.PartLaws.{IsBytes, Takes}
-use Rattle.ts_wire.specs.Frames.{kind_of, is_kind, fields, spelling, FieldsFit, Fits}
+use Rattle.ts_wire.specs.Frames.{kind_of, is_kind, fields, encoding, FieldsFit, Fits}
 use Rattle.ts_wire.specs.FrameReading.{fields_at, ended, frame_in}
 use Rattle.ts_wire.specs.Stream.{IsLength, IsPartial, Framed, IsCut, GoesOn, IsFault}
 use Rattle.ts_wire.specs.Taking.{FrameGives, IsWrong, Sized}
@@ -92,8 +92,8 @@ is_body [] f bytes long e = absurd (omega (arith, long))
 is_body (version ∷ []) f bytes long e = absurd (omega (arith, long))
 is_body (version ∷ kind ∷ rest) f bytes long e = is_body_by version kind rest f (frame_in (version ∷ kind ∷ rest)) (λ i. bytes (suc (suc i))) (read_of version kind rest) e
 
--- where a body is a frame, the octets begin with its spelling
-pub begins : (octets body after : List ℕ) (f : Frame) → octets ≡ to_be_bytes w32 (length body) ++ (body ++ after) → length body ≤ 8388608 → IsBody body f → Fits f × (octets ≡ spelling f ++ after)
+-- where a body is a frame, the octets begin with its encoding
+pub begins : (octets body after : List ℕ) (f : Frame) → octets ≡ to_be_bytes w32 (length body) ++ (body ++ after) → length body ≤ 8388608 → IsBody body f → Fits f × (octets ≡ encoding f ++ after)
 begins octets body after f is short b =
     let n : length body ≡ 2 + length (fields f) = omega (arith, ap length b.is) in
     (record { ranges = b.ranges; short = omega (arith, short, n) }, is ∙ ap (λ k. to_be_bytes w32 k ++ (body ++ after)) n ∙ ap (λ l. to_be_bytes w32 (2 + length (fields f)) ++ (l ++ after)) b.is)
@@ -149,12 +149,12 @@ body_bytes octets n bytes =
     let split : IsBytes (take n (drop 4 octets) ++ drop n (drop 4 octets)) = subst IsBytes (sym (take-append-drop n (drop 4 octets))) back in
     front_bytes (take n (drop 4 octets)) (drop n (drop 4 octets)) split
 
-pub first_frame : (octets : List ℕ) (n : ℕ) (f : Frame) → IsBytes octets → Sized octets n → FrameGives (Ok f) (frame_in (take n (drop 4 octets))) → Fits f × (4 + n ≤ length octets) × (octets ≡ spelling f ++ drop (4 + n) octets)
+pub first_frame : (octets : List ℕ) (n : ℕ) (f : Frame) → IsBytes octets → Sized octets n → FrameGives (Ok f) (frame_in (take n (drop 4 octets))) → Fits f × (4 + n ≤ length octets) × (octets ≡ encoding f ++ drop (4 + n) octets)
 first_frame octets n f bytes s e =
     let k = sized_length octets n s in
     let b = is_body (take n (drop 4 octets)) f (body_bytes octets n bytes) (omega (arith, k, s.length_is.0)) e in
     let t = begins octets (take n (drop 4 octets)) (drop n (drop 4 octets)) f (sized_is octets n s) (omega (arith, k, s.length_is.1)) b in
-    (t.0, s.enough, t.1 ∙ ap (λ l. spelling f ++ l) (drop_twice octets n))
+    (t.0, s.enough, t.1 ∙ ap (λ l. encoding f ++ l) (drop_twice octets n))
   where
     drop_twice : (octets : List ℕ) (n : ℕ) → drop n (drop 4 octets) ≡ drop (4 + n) octets
     drop_twice octets n = simp drop-drop

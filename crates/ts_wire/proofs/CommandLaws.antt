@@ -6,7 +6,7 @@ use Rattle.std.specs.Int.{w32, to_be_bytes}
 use Rattle.std.proofs.lemmas.Bool.{eqb-true, ltb-true, lt-ltb, leb-true, le-leb}
 use Rattle.ts_der.specs.ObjectIdentifier.{is_oid}
 use Rattle.ts_store.specs.Purposes.{is_ascending, is_listed, ArePurposes}
-use Rattle.ts_store.specs.Commands.{blob8, blob32, purposes_spelling, fields, id_of, spelling, FieldsFit, Fits}
+use Rattle.ts_store.specs.Commands.{blob8, blob32, purposes_encoding, fields, id_of, encoding, FieldsFit, Fits}
 use Rattle.ts_store.specs.declared.command.Command.{Command}
 use Rattle.ts_store.specs.declared.command.Command.TheVariants.{AddAnchor, WithdrawAnchor, LoadCrl, DropCrl, SetPurposes, Noop}
 use Rattle.ts_question.specs.Reading.{◌>>=◌, provided, octet_at, number_at, octets_at, blob32_at, many_at, whole, lookup}
@@ -44,21 +44,21 @@ any_of octets = answer None octets
 abbrev of_form : ℕ × List ℕ → Option (Option (List (List ℕ)) × List ℕ)
 of_form form = cond (eqb form.0 0) (any_of form.1) (cond (eqb form.0 1) (octet_at form.1 >>= of_count) None)
 
-purposes_take : (octets : List ℕ) (p : Option (List (List ℕ))) (rest : List ℕ) → IsBytes octets → purposes_at octets ≡ Some (p, rest) → Takes octets (purposes_spelling p) rest × ArePurposes p
+purposes_take : (octets : List ℕ) (p : Option (List (List ℕ))) (rest : List ℕ) → IsBytes octets → purposes_at octets ≡ Some (p, rest) → Takes octets (purposes_encoding p) rest × ArePurposes p
 unfolding purposes_at
 purposes_take octets p rest bytes is =
     step octet_part octets of_form (p, rest) bytes is
     (λ form o1 e0 b1 f0 h0. choose form 0 (any_of o1) (cond (eqb form 1) (octet_at o1 >>= of_count) None) (p, rest) h0
-    (λ zero_is h. made purposes_spelling ArePurposes octets o1 None p rest h (e0 ∙ ap (λ n. n ∷ o1) zero_is) b1 tt)
+    (λ zero_is h. made purposes_encoding ArePurposes octets o1 None p rest h (e0 ∙ ap (λ n. n ∷ o1) zero_is) b1 tt)
     (λ h. choose form 1 (octet_at o1 >>= of_count) None (p, rest) h
     (λ one_is k. step octet_part o1 of_count (p, rest) b1 k
     (λ n o2 e1 b2 f1 h1. step (many_part oid_part n) o2 of_oids (p, rest) b2 h1
     (λ xs o3 e2 b3 f2 h2. provided_is (is_listed xs) (listed (keep xs o3)) (p, rest) h2
-    (λ good same. subst (λ (x : Option (List (List ℕ)) × List ℕ). Takes octets (purposes_spelling x.0) x.1 × ArePurposes x.0) same
+    (λ good same. subst (λ (x : Option (List (List ℕ)) × List ℕ). Takes octets (purposes_encoding x.0) x.1 × ArePurposes x.0) same
     (record { is = e0 ∙ ap (λ m. m ∷ o1) one_is ∙ ap (λ l. 1 ∷ l) (e1 ∙ ap (λ l. n ∷ l) e2 ∙ ap (λ m. m ∷ (flat_map blob8 xs ++ o3)) (sym f2.1)); more = b3 }, (good, are_oids xs f2.0))))))
     (λ k. absurd (cc k))))
 
-purposes_again : (p : Option (List (List ℕ))) (rest : List ℕ) → ArePurposes p → purposes_at (purposes_spelling p ++ rest) ≡ Some (p, rest)
+purposes_again : (p : Option (List (List ℕ))) (rest : List ℕ) → ArePurposes p → purposes_at (purposes_encoding p ++ rest) ≡ Some (p, rest)
 unfolding purposes_at
 purposes_again None rest fit = refl
 purposes_again (Some xs) rest fit =
@@ -75,13 +75,13 @@ kind (DropCrl id crl) = 4
 kind (SetPurposes id anchor purposes) = 5
 kind (Noop id) = 6
 
--- the fields behind the kind
+-- the fields after the kind
 abbrev content : Command → List ℕ
 content (AddAnchor id certificate) = blob32 certificate
 content (WithdrawAnchor id anchor) = anchor
 content (LoadCrl id crl) = blob32 crl
 content (DropCrl id crl) = crl
-content (SetPurposes id anchor purposes) = anchor ++ purposes_spelling purposes
+content (SetPurposes id anchor purposes) = anchor ++ purposes_encoding purposes
 content (Noop id) = []
 
 fields_are : (c : Command) → fields c ≡ kind c ∷ content c
@@ -128,7 +128,7 @@ drop_take id octets c rest bytes is =
     step (octets_part 32) octets (of_content (DropCrl id)) (c, rest) bytes is
     (λ x after first more fit e. made content (Commanded id 4) octets after (DropCrl id x) c rest e first more (record { fits = fit; same = refl; tag = refl }))
 
-purposes_part : Part purposes_spelling ArePurposes purposes_at
+purposes_part : Part purposes_encoding ArePurposes purposes_at
 purposes_part = record { takes = purposes_take; again = purposes_again }
 
 abbrev of_purposes : List ℕ → List ℕ → Option (List (List ℕ)) × List ℕ → Option (Command × List ℕ)
@@ -143,7 +143,7 @@ set_take id octets c rest bytes is =
     step (octets_part 32) octets (of_anchor id) (c, rest) bytes is
     (λ anchor o1 e0 b1 f0 h0. step purposes_part o1 (of_purposes id anchor) (c, rest) b1 h0
     (λ p o2 e1 b2 f1 h1. made content (Commanded id 5) octets o2 (SetPurposes id anchor p) c rest h1
-    (e0 ∙ ap (λ l. anchor ++ l) e1 ∙ sym (append_assoc anchor (purposes_spelling p) o2)) b2 (record { fits = (f0, f1); same = refl; tag = refl })))
+    (e0 ∙ ap (λ l. anchor ++ l) e1 ∙ sym (append_assoc anchor (purposes_encoding p) o2)) b2 (record { fits = (f0, f1); same = refl; tag = refl })))
 
 noop_take : (id : List ℕ) → Reads id 6 (noop_at id)
 noop_take id octets c rest bytes is = made content (Commanded id 6) octets octets (Noop id) c rest is refl bytes (record { fits = tt; same = refl; tag = refl })
@@ -159,7 +159,7 @@ of_kind id n = lookup n.0 (command_readers id) >>= λ read. read n.1
 abbrev of_id : List ℕ × List ℕ → Option (Command × List ℕ)
 of_id id = octet_at id.1 >>= of_kind id.0
 
-command_take : (octets : List ℕ) (c : Command) (rest : List ℕ) → IsBytes octets → command_at octets ≡ Some (c, rest) → Takes octets (spelling c) rest × Fits c
+command_take : (octets : List ℕ) (c : Command) (rest : List ℕ) → IsBytes octets → command_at octets ≡ Some (c, rest) → Takes octets (encoding c) rest × Fits c
 unfolding command_at
 command_take octets c rest bytes is =
     step (octets_part 16) octets of_id (c, rest) bytes is
@@ -179,33 +179,33 @@ rows_again (WithdrawAnchor id x) rest fit = ap (λ r. r >>= of_content (Withdraw
 rows_again (LoadCrl id x) rest fit = ap (λ r. r >>= of_content (LoadCrl id)) (crl_part.again x rest (omega (arith, fit), le-leb (length x) 4194304 fit))
 rows_again (DropCrl id x) rest fit = ap (λ r. r >>= of_content (DropCrl id)) ((octets_part 32).again x rest fit)
 rows_again (SetPurposes id anchor p) rest fit =
-    ap (set_purposes_at id) (append_assoc anchor (purposes_spelling p) rest)
-    ∙ ap (λ r. r >>= of_anchor id) ((octets_part 32).again anchor (purposes_spelling p ++ rest) fit.0)
+    ap (set_purposes_at id) (append_assoc anchor (purposes_encoding p) rest)
+    ∙ ap (λ r. r >>= of_anchor id) ((octets_part 32).again anchor (purposes_encoding p ++ rest) fit.0)
     ∙ ap (λ r. r >>= of_purposes id anchor) (purposes_again p rest fit.1)
 rows_again (Noop id) rest fit = refl
 
-command_again : (c : Command) (rest : List ℕ) → Fits c → command_at (spelling c ++ rest) ≡ Some (c, rest)
+command_again : (c : Command) (rest : List ℕ) → Fits c → command_at (encoding c ++ rest) ≡ Some (c, rest)
 unfolding command_at
 command_again c rest fit =
     ap command_at (append_assoc (id_of c) (fields c) rest ∙ ap (λ l. id_of c ++ (l ++ rest)) (fields_are c))
     ∙ ap (λ r. r >>= of_id) ((octets_part 16).again (id_of c) (kind c ∷ (content c ++ rest)) fit.id)
     ∙ rows_again c rest fit.fields
 
-pub command_part : Part spelling Fits command_at
+pub command_part : Part encoding Fits command_at
 command_part = record { takes = command_take; again = command_again }
 
--- ---- what a call that answers a command that is spelled so, and each that is, answers
+-- ---- what a call that answers a command that is encoded so, and each that is, answers
 
-pub is_parsed : {A : Type 0} (spell : A → List ℕ) (Fit : A → Type 0) (read : List ℕ → Option (A × List ℕ)) → Part spell Fit read → (octets : List ℕ) → IsBytes octets → (found : Option A)
-    → IfSome found (λ x. Fit x × (octets ≡ spell x)) → ((x : A) → Fit x → octets ≡ spell x → found ≡ Some x) → found ≡ whole (read octets)
-is_parsed spell Fit read part octets bytes (Some x) some only = sym (ap (λ l. whole (read l)) some.1 ∙ whole_again part x some.0)
-is_parsed {A} spell Fit read part octets bytes None some only = by (whole (read octets)) refl
+pub is_parsed : {A : Type 0} (encode : A → List ℕ) (Fit : A → Type 0) (read : List ℕ → Option (A × List ℕ)) → Part encode Fit read → (octets : List ℕ) → IsBytes octets → (found : Option A)
+    → IfSome found (λ x. Fit x × (octets ≡ encode x)) → ((x : A) → Fit x → octets ≡ encode x → found ≡ Some x) → found ≡ whole (read octets)
+is_parsed encode Fit read part octets bytes (Some x) some only = sym (ap (λ l. whole (read l)) some.1 ∙ whole_again part x some.0)
+is_parsed {A} encode Fit read part octets bytes None some only = by (whole (read octets)) refl
   where
     by : (r : Option A) → whole (read octets) ≡ r → None ≡ r
     by None e = refl
     by (Some x) e = let t = whole_takes part octets x bytes e in only x t.0 t.1
 
-pub IfOk_both : {A E : Type 0} (spell : A → List ℕ) (Fit : A → Type 0) (read : List ℕ → Option (A × List ℕ)) → Part spell Fit read → (octets : List ℕ) → IsBytes octets → (result : Result (Option A) E)
-    → IfOk result (λ found. IfSome found (λ x. Fit x × (octets ≡ spell x))) → ((x : A) → Fit x → octets ≡ spell x → IfOk result (λ found. found ≡ Some x)) → IfOk result (λ found. found ≡ whole (read octets))
-IfOk_both spell Fit read part octets bytes (Ok found) some only = is_parsed spell Fit read part octets bytes found some only
-IfOk_both spell Fit read part octets bytes (Err e) some only = tt
+pub IfOk_both : {A E : Type 0} (encode : A → List ℕ) (Fit : A → Type 0) (read : List ℕ → Option (A × List ℕ)) → Part encode Fit read → (octets : List ℕ) → IsBytes octets → (result : Result (Option A) E)
+    → IfOk result (λ found. IfSome found (λ x. Fit x × (octets ≡ encode x))) → ((x : A) → Fit x → octets ≡ encode x → IfOk result (λ found. found ≡ Some x)) → IfOk result (λ found. found ≡ whole (read octets))
+IfOk_both encode Fit read part octets bytes (Ok found) some only = is_parsed encode Fit read part octets bytes found some only
+IfOk_both encode Fit read part octets bytes (Err e) some only = tt

@@ -6,7 +6,7 @@ use Rattle.std.specs.Global.{Vec}
 use Rattle.std.proofs.lemmas.List.{append-nil, drop_more, take_all}
 use Rattle.std.proofs.lemmas.List.Concat.{flat_map-cons}
 use Rattle.std.proofs.lemmas.Grind.{flat_map-append}
-use Rattle.ts_wire.specs.Frames.{spelling, Fits}
+use Rattle.ts_wire.specs.Frames.{encoding, Fits}
 use Rattle.ts_wire.specs.Stream.{IsPartial, IsFault, Ends, Splits}
 use Rattle.ts_wire.specs.Taking.{Drains}
 use Rattle.ts_wire.specs.declared.fault.FrameFault.{FrameFault}
@@ -18,7 +18,7 @@ pub record Taken (old : List ℕ) (before : List Frame) (new : List ℕ) (after 
   pub taken : List Frame
   pub each : AllByRecursion Fits taken
   pub more : after ≡ before ++ taken
-  pub is : old ≡ flat_map spelling taken ++ new
+  pub is : old ≡ flat_map encoding taken ++ new
 
 pub starts : (octets : List ℕ) (frames : List Frame) → Taken octets frames octets frames
 starts octets frames = record { taken = []; each = tt; more = sym (append-nil frames); is = refl }
@@ -31,17 +31,17 @@ all_both : (frames more : List Frame) → AllByRecursion Fits frames → AllByRe
 all_both [] more all both = both
 all_both (f ∷ fs) more all both = (all.0, all_both fs more all.1 both)
 
-pub one_more : (old mid new : List ℕ) (before frames after : List Frame) (frame : Frame) → Taken old before mid frames → Fits frame → mid ≡ spelling frame ++ new → after ≡ frames ++ frame ∷ [] → Taken old before new after
+pub one_more : (old mid new : List ℕ) (before frames after : List Frame) (frame : Frame) → Taken old before mid frames → Fits frame → mid ≡ encoding frame ++ new → after ≡ frames ++ frame ∷ [] → Taken old before new after
 one_more old mid new before frames after frame t fit is later = record {
   taken = t.taken ++ frame ∷ [];
   each = all_push t.taken frame t.each fit;
   more = later ∙ ap (λ l. l ++ frame ∷ []) t.more ∙ append_assoc before t.taken (frame ∷ []);
-  is = t.is ∙ ap (λ l. flat_map spelling t.taken ++ l) is ∙ sym (append_assoc (flat_map spelling t.taken) (spelling frame) new)
-      ∙ ap (λ l. (flat_map spelling t.taken ++ l) ++ new) (sym (append-nil (spelling frame))) ∙ ap (λ l. l ++ new) (sym (flat_map-append spelling t.taken (frame ∷ [])));
+  is = t.is ∙ ap (λ l. flat_map encoding t.taken ++ l) is ∙ sym (append_assoc (flat_map encoding t.taken) (encoding frame) new)
+      ∙ ap (λ l. (flat_map encoding t.taken ++ l) ++ new) (sym (append-nil (encoding frame))) ∙ ap (λ l. l ++ new) (sym (flat_map-append encoding t.taken (frame ∷ [])));
 }
 
-pub smaller : (mid new : List ℕ) (frame : Frame) → mid ≡ spelling frame ++ new → length new < length mid
-smaller mid new frame is = omega (arith, ap length is, length-append (spelling frame) new)
+pub smaller : (mid new : List ℕ) (frame : Frame) → mid ≡ encoding frame ++ new → length new < length mid
+smaller mid new frame is = omega (arith, ap length is, length-append (encoding frame) new)
 
 pub ended : (old new : List ℕ) (before after : List Frame) (fault : Option FrameFault) → Taken old before new after → Ends fault new → Drains old before new after fault
 ended old new before after fault t e = record { taken = t.taken; each = t.each; more = t.more; is = t.is; ends = e }
@@ -50,20 +50,20 @@ ended old new before after fault t e = record { taken = t.taken; each = t.each; 
 
 -- the pieces so far are these frames, and less than a whole one
 pub record SoFar (stream : List ℕ) (frames : List Frame) (rest : List ℕ) : Type 0 where
-  pub is : stream ≡ flat_map spelling frames ++ rest
+  pub is : stream ≡ flat_map encoding frames ++ rest
   pub each : AllByRecursion Fits frames
   pub partial : IsPartial rest
 
 -- and with one piece more, up to a fault
 pub record AtEnd (stream : List ℕ) (frames : List Frame) (rest : List ℕ) (fault : Option FrameFault) : Type 0 where
-  pub is : stream ≡ flat_map spelling frames ++ rest
+  pub is : stream ≡ flat_map encoding frames ++ rest
   pub each : AllByRecursion Fits frames
   pub ends : Ends fault rest
 
 pub one_piece : (stream piece feed rest : List ℕ) (frames after : List Frame) (fault : Option FrameFault) (held : List ℕ) → SoFar stream frames held → feed ≡ held ++ piece → Drains feed frames rest after fault → AtEnd (stream ++ piece) after rest fault
 one_piece stream piece feed rest frames after fault held s fed d = record {
-  is = ap (λ l. l ++ piece) s.is ∙ append_assoc (flat_map spelling frames) held piece ∙ ap (λ l. flat_map spelling frames ++ l) (sym fed ∙ d.is)
-      ∙ sym (append_assoc (flat_map spelling frames) (flat_map spelling d.taken) rest) ∙ ap (λ l. l ++ rest) (sym (flat_map-append spelling frames d.taken)) ∙ ap (λ l. flat_map spelling l ++ rest) (sym d.more);
+  is = ap (λ l. l ++ piece) s.is ∙ append_assoc (flat_map encoding frames) held piece ∙ ap (λ l. flat_map encoding frames ++ l) (sym fed ∙ d.is)
+      ∙ sym (append_assoc (flat_map encoding frames) (flat_map encoding d.taken) rest) ∙ ap (λ l. l ++ rest) (sym (flat_map-append encoding frames d.taken)) ∙ ap (λ l. flat_map encoding l ++ rest) (sym d.more);
   each = subst (AllByRecursion Fits) (sym d.more) (all_both frames d.taken s.each d.each);
   ends = d.ends;
 }
@@ -76,7 +76,7 @@ pub stops : (stream later : List ℕ) (frames : List Frame) (rest : List ℕ) (f
 stops stream later frames rest None e some = absurd (cc some)
 stops stream later frames rest (Some x) e some = record {
   rest = rest ++ later;
-  is = ap (λ l. l ++ later) e.is ∙ append_assoc (flat_map spelling frames) rest later;
+  is = ap (λ l. l ++ later) e.is ∙ append_assoc (flat_map encoding frames) rest later;
   each = e.each;
   ends = stays x rest later e.ends;
 }
@@ -95,7 +95,7 @@ all_of pieces i piece within is =
     ∙ ap (λ (q : Vec ℕ). flat_map (λ (p : Vec ℕ). p.items) (take i pieces) ++ (q.items ++ flat_map (λ (p : Vec ℕ). p.items) (drop (i + 1) pieces))) (sym is)
     ∙ sym (append_assoc (flat_map (λ (p : Vec ℕ). p.items) (take i pieces)) piece.items (flat_map (λ (p : Vec ℕ). p.items) (drop (i + 1) pieces)))
 
--- the octets of pieces before a piece, of it, and of those behind
+-- the octets of pieces before a piece, of it, and of those after
 pub rest_of : (pieces : List (Vec ℕ)) (i : ℕ) (piece : Vec ℕ) → i < length pieces → piece ≡ get_or pieces i piece → (frames : List Frame) (fault : Option FrameFault)
     → Splits ((flat_map (λ p. p.items) (take i pieces) ++ piece.items) ++ flat_map (λ p. p.items) (drop (i + 1) pieces)) frames fault → Splits (flat_map (λ p. p.items) pieces) frames fault
 rest_of pieces i piece within is frames fault s = subst (λ l. Splits l frames fault) (sym (all_of pieces i piece within is)) s

@@ -7,7 +7,7 @@ use Rattle.std.proofs.lemmas.Bool.{eqb-true, ltb-true, lt-ltb, leb-true, le-leb}
 use Rattle.ts_synod.specs.declared.message.Body.{Body}
 use Rattle.ts_synod.specs.declared.message.Body.TheVariants.{Prepare, Promise, Busy, Accept, Accepted, Ask, Give}
 use Rattle.ts_synod.specs.declared.message.Vote.{Vote}
-use Rattle.ts_store.specs.Commands.{spelling as command_octets, Fits as CommandFits}
+use Rattle.ts_store.specs.Commands.{encoding as command_octets, Fits as CommandFits}
 use Rattle.ts_store.specs.declared.command.Command.{Command}
 use Rattle.ts_store.specs.declared.outcome.Outcome.{Outcome as Came}
 use Rattle.ts_store.specs.declared.outcome.Outcome.TheVariants.{Applied, Repeated, Refused}
@@ -15,7 +15,7 @@ use Rattle.ts_store.specs.declared.outcome.Refusal.{Refusal}
 use Rattle.ts_store.specs.declared.outcome.Refusal.TheVariants.{AnchorThere, NoAnchor, Malformed, OlderCrl, CriticalCrlExtension, StoreFull, DeltaCrl, NoCrl, RelativeName, Indirect}
 use Rattle.ts_question.specs.Parts.{blob32}
 use Rattle.ts_question.specs.Reading.{◌>>=◌, provided, octet_at, number_at, octets_at, blob32_at, whole, lookup}
-use Rattle.ts_question.specs.Question.{Asked, spelling as question_octets, Fits as QuestionFits}
+use Rattle.ts_question.specs.Question.{Asked, encoding as question_octets, Fits as QuestionFits}
 use Rattle.ts_question.specs.QuestionReading.{question_at, position_at as prefix_at}
 use Rattle.ts_question.specs.Reply.{Answered}
 use Rattle.ts_question.specs.ReplyReading.{answer_at}
@@ -25,8 +25,8 @@ use Rattle.ts_question.proofs.Fields.{question_part, position_part}
 use Rattle.ts_question.proofs.Replies.{choose, look, answer_part}
 use Rattle.ts_wire.proofs.CommandLaws.{command_part}
 use Rattle.ts_wire.specs.Commands.{command_at, parsed}
-use Rattle.ts_wire.specs.Outcomes.{is_node, is_position, is_ballot, refusal_code, outcome_spelling, OutcomeFits, node_fault_code, frame_fault_code}
-use Rattle.ts_wire.specs.Frames.{body_kind, kind_of, taken_spelling, body_spelling, fields, TakenFits, BodyFits, FieldsFit}
+use Rattle.ts_wire.specs.Outcomes.{is_node, is_position, is_ballot, refusal_code, outcome_encoding, OutcomeFits, node_fault_code, frame_fault_code}
+use Rattle.ts_wire.specs.Frames.{body_kind, kind_of, taken_encoding, body_encoding, fields, TakenFits, BodyFits, FieldsFit}
 use Rattle.ts_wire.specs.FrameReading.{node_at, place_at, ballot_at, route_at, blob_command_at, blob_question_at, vote_at, no_vote, taken_at, peer, prepare_at, promise_at, busy_at, accept_at, accepted_at, ask_at, give_at, submit_at, asked_at, inquiry_at, done_at, started_at, refusals, repeated_at, refused_at, applied_at, outcome_at, settled_at, replied_at, node_faults, node_fault_at, frame_faults, frame_fault_at, known_at, bare, readers, fields_at}
 use Rattle.ts_wire.specs.declared.route.Route.{Route}
 use Rattle.ts_wire.specs.declared.fault.NodeFault.{NodeFault as NodeFaultOf}
@@ -112,31 +112,31 @@ content_bytes octets content rest is bytes = front_bytes content rest (λ j. sub
 abbrev kept : {A : Type 0} → List ℕ → A → Option (A × List ℕ)
 kept rest x = answer x rest
 
-blob_of : {A : Type 0} (spell : A → List ℕ) (Fit : A → Type 0) (read : List ℕ → Option (A × List ℕ)) (part : Part spell Fit read)
-    → Part (λ x. blob32 (spell x)) (λ x. Fit x × (length (spell x) < 2 ^ 32)) (λ octets. blob32_at octets >>= λ b. whole (read b.0) >>= kept b.1)
-blob_of {A} spell Fit read part = record { takes = takes; again = again }
+blob_of : {A : Type 0} (encode : A → List ℕ) (Fit : A → Type 0) (read : List ℕ → Option (A × List ℕ)) (part : Part encode Fit read)
+    → Part (λ x. blob32 (encode x)) (λ x. Fit x × (length (encode x) < 2 ^ 32)) (λ octets. blob32_at octets >>= λ b. whole (read b.0) >>= kept b.1)
+blob_of {A} encode Fit read part = record { takes = takes; again = again }
   where
-    takes : (octets : List ℕ) (x : A) (rest : List ℕ) → IsBytes octets → (blob32_at octets >>= λ b. whole (read b.0) >>= kept b.1) ≡ Some (x, rest) → Takes octets (blob32 (spell x)) rest × (Fit x × (length (spell x) < 2 ^ 32))
+    takes : (octets : List ℕ) (x : A) (rest : List ℕ) → IsBytes octets → (blob32_at octets >>= λ b. whole (read b.0) >>= kept b.1) ≡ Some (x, rest) → Takes octets (blob32 (encode x)) rest × (Fit x × (length (encode x) < 2 ^ 32))
     takes octets x rest bytes is =
         step blob32_part octets (λ b. whole (read b.0) >>= kept b.1) (x, rest) bytes is
         (λ content o1 e0 b1 f0 h0. by octets x rest bytes content o1 e0 b1 f0 (whole (read content)) refl h0)
       where
         by : (octets : List ℕ) (x : A) (rest : List ℕ) → IsBytes octets → (content o1 : List ℕ) → octets ≡ blob32 content ++ o1 → IsBytes o1 → length content < 2 ^ 32 → (r : Option A) → whole (read content) ≡ r → (r >>= kept o1) ≡ Some (x, rest)
-            → Takes octets (blob32 (spell x)) rest × (Fit x × (length (spell x) < 2 ^ 32))
+            → Takes octets (blob32 (encode x)) rest × (Fit x × (length (encode x) < 2 ^ 32))
         by octets x rest bytes content o1 e0 b1 f0 None e h = absurd (cc h)
         by octets x rest bytes content o1 e0 b1 f0 (Some y) e h =
             let t = whole_takes part content y (content_bytes octets content o1 e0 bytes) e in
-            made (λ x. blob32 (spell x)) (λ x. Fit x × (length (spell x) < 2 ^ 32)) octets o1 y x rest h (e0 ∙ ap (λ l. blob32 l ++ o1) t.1) b1 (t.0, subst (λ l. length l < 2 ^ 32) t.1 f0)
+            made (λ x. blob32 (encode x)) (λ x. Fit x × (length (encode x) < 2 ^ 32)) octets o1 y x rest h (e0 ∙ ap (λ l. blob32 l ++ o1) t.1) b1 (t.0, subst (λ l. length l < 2 ^ 32) t.1 f0)
 
-    again : (x : A) (rest : List ℕ) → Fit x × (length (spell x) < 2 ^ 32) → (blob32_at (blob32 (spell x) ++ rest) >>= λ b. whole (read b.0) >>= kept b.1) ≡ Some (x, rest)
+    again : (x : A) (rest : List ℕ) → Fit x × (length (encode x) < 2 ^ 32) → (blob32_at (blob32 (encode x) ++ rest) >>= λ b. whole (read b.0) >>= kept b.1) ≡ Some (x, rest)
     again x rest fit =
-        ap (λ r. r >>= λ b. whole (read b.0) >>= kept b.1) (blob32_part.again (spell x) rest fit.1)
+        ap (λ r. r >>= λ b. whole (read b.0) >>= kept b.1) (blob32_part.again (encode x) rest fit.1)
         ∙ ap (λ r. r >>= kept rest) (whole_again part x fit.0)
 
-abbrev CommandSpelled : Command → Type 0
-CommandSpelled c = CommandFits c × (length (command_octets c) < 2 ^ 32)
+abbrev CommandEncoded : Command → Type 0
+CommandEncoded c = CommandFits c × (length (command_octets c) < 2 ^ 32)
 
-blob_command_part : Part (λ c. blob32 (command_octets c)) CommandSpelled blob_command_at
+blob_command_part : Part (λ c. blob32 (command_octets c)) CommandEncoded blob_command_at
 unfolding blob_command_at parsed
 blob_command_part = blob_of command_octets CommandFits command_at command_part
 
@@ -149,9 +149,9 @@ blob_question_part = blob_of question_octets QuestionFits question_at question_p
 abbrev vote_of : ℕ → Command → Option (Vote Command)
 vote_of ballot command = Some (record { ballot = ballot; command = command })
 
-abbrev TakenSpelled : Option (Vote Command) → Type 0
-TakenSpelled None = Unit {0}
-TakenSpelled (Some vote) = (is_ballot vote.ballot ≡ true) × CommandSpelled vote.command
+abbrev TakenEncoded : Option (Vote Command) → Type 0
+TakenEncoded None = Unit {0}
+TakenEncoded (Some vote) = (is_ballot vote.ballot ≡ true) × CommandEncoded vote.command
 
 abbrev to_vote : ℕ → Command × List ℕ → Option (Option (Vote Command) × List ℕ)
 to_vote b c = answer (vote_of b c.0) c.1
@@ -162,23 +162,23 @@ to_ballot b = blob_command_at b.1 >>= to_vote b.0
 abbrev to_flag : ℕ × List ℕ → Option (Option (Vote Command) × List ℕ)
 to_flag flag = cond (eqb flag.0 0) (no_vote flag.1) (cond (eqb flag.0 1) (vote_at flag.1) None)
 
-taken_part : Part taken_spelling TakenSpelled taken_at
+taken_part : Part taken_encoding TakenEncoded taken_at
 unfolding taken_at vote_at
 taken_part = record { takes = takes; again = again }
   where
-    takes : (octets : List ℕ) (t : Option (Vote Command)) (rest : List ℕ) → IsBytes octets → (octet_at octets >>= to_flag) ≡ Some (t, rest) → Takes octets (taken_spelling t) rest × TakenSpelled t
+    takes : (octets : List ℕ) (t : Option (Vote Command)) (rest : List ℕ) → IsBytes octets → (octet_at octets >>= to_flag) ≡ Some (t, rest) → Takes octets (taken_encoding t) rest × TakenEncoded t
     takes octets t rest bytes is =
         step octet_part octets to_flag (t, rest) bytes is
         (λ flag o1 e0 b1 f0 h0. choose flag 0 (no_vote o1) (cond (eqb flag 1) (ballot_at o1 >>= to_ballot) None) (t, rest) h0
-        (λ zero_is h. made taken_spelling TakenSpelled octets o1 None t rest h (e0 ∙ ap (λ n. n ∷ o1) zero_is) b1 tt)
+        (λ zero_is h. made taken_encoding TakenEncoded octets o1 None t rest h (e0 ∙ ap (λ n. n ∷ o1) zero_is) b1 tt)
         (λ h. choose flag 1 (ballot_at o1 >>= to_ballot) None (t, rest) h
         (λ one_is k. step ballot_part o1 to_ballot (t, rest) b1 k
         (λ b o2 e1 b2 f1 h1. step blob_command_part o2 (to_vote b) (t, rest) b2 h1
-        (λ c o3 e2 b3 f2 h2. made taken_spelling TakenSpelled octets o3 (vote_of b c) t rest h2
+        (λ c o3 e2 b3 f2 h2. made taken_encoding TakenEncoded octets o3 (vote_of b c) t rest h2
         (e0 ∙ ap (λ n. n ∷ o1) one_is ∙ ap (λ l. 1 ∷ l) (e1 ∙ ap (λ l. to_be_bytes w64 b ++ l) e2)) b3 (f1.1, f2))))
         (λ k. absurd (cc k))))
 
-    again : (t : Option (Vote Command)) (rest : List ℕ) → TakenSpelled t → (octet_at (taken_spelling t ++ rest) >>= to_flag) ≡ Some (t, rest)
+    again : (t : Option (Vote Command)) (rest : List ℕ) → TakenEncoded t → (octet_at (taken_encoding t ++ rest) >>= to_flag) ≡ Some (t, rest)
     again None rest fit = refl
     again (Some v) rest fit =
         ap (λ r. r >>= to_ballot) (ballot_part.again v.ballot (blob32 (command_octets v.command) ++ rest) (ballot_fits v.ballot fit.0))
@@ -216,25 +216,25 @@ to_code code = lookup code.0 refusals >>= to_refused code.1
 abbrev to_form : ℕ × List ℕ → Option (Came × List ℕ)
 to_form form = cond (eqb form.0 0) (applied_at form.1) (cond (eqb form.0 1) (repeated_at form.1) (cond (eqb form.0 2) (refused_at form.1) None))
 
-outcome_part : Part outcome_spelling OutcomeFits outcome_at
+outcome_part : Part outcome_encoding OutcomeFits outcome_at
 unfolding outcome_at repeated_at refused_at
 outcome_part = record { takes = takes; again = again }
   where
-    takes : (octets : List ℕ) (x : Came) (rest : List ℕ) → IsBytes octets → (octet_at octets >>= to_form) ≡ Some (x, rest) → Takes octets (outcome_spelling x) rest × OutcomeFits x
+    takes : (octets : List ℕ) (x : Came) (rest : List ℕ) → IsBytes octets → (octet_at octets >>= to_form) ≡ Some (x, rest) → Takes octets (outcome_encoding x) rest × OutcomeFits x
     takes octets x rest bytes is =
         step octet_part octets to_form (x, rest) bytes is
         (λ form o1 e0 b1 f0 h0. choose form 0 (applied_at o1) (cond (eqb form 1) (place_at o1 >>= to_repeated) (cond (eqb form 2) (octet_at o1 >>= to_code) None)) (x, rest) h0
-        (λ zero_is h. made outcome_spelling OutcomeFits octets o1 Applied x rest h (e0 ∙ ap (λ n. n ∷ o1) zero_is) b1 tt)
+        (λ zero_is h. made outcome_encoding OutcomeFits octets o1 Applied x rest h (e0 ∙ ap (λ n. n ∷ o1) zero_is) b1 tt)
         (λ h. choose form 1 (place_at o1 >>= to_repeated) (cond (eqb form 2) (octet_at o1 >>= to_code) None) (x, rest) h
         (λ one_is k. step place_part o1 to_repeated (x, rest) b1 k
-        (λ p o2 e1 b2 f1 h1. made outcome_spelling OutcomeFits octets o2 (Repeated p) x rest h1 (e0 ∙ ap (λ n. n ∷ o1) one_is ∙ ap (λ l. 1 ∷ l) e1) b2 f1.1))
+        (λ p o2 e1 b2 f1 h1. made outcome_encoding OutcomeFits octets o2 (Repeated p) x rest h1 (e0 ∙ ap (λ n. n ∷ o1) one_is ∙ ap (λ l. 1 ∷ l) e1) b2 f1.1))
         (λ k. choose form 2 (octet_at o1 >>= to_code) None (x, rest) k
         (λ two_is j. step octet_part o1 to_code (x, rest) b1 j
         (λ code o2 e1 b2 f1 h1. look code refusals IsRefusal (to_refused o2) (x, rest) are_refusals h1
-        (λ r same h2. made outcome_spelling OutcomeFits octets o2 (Refused r) x rest h2 (e0 ∙ ap (λ n. n ∷ o1) two_is ∙ ap (λ l. 2 ∷ l) (e1 ∙ ap (λ n. n ∷ o2) (sym same))) b2 tt)))
+        (λ r same h2. made outcome_encoding OutcomeFits octets o2 (Refused r) x rest h2 (e0 ∙ ap (λ n. n ∷ o1) two_is ∙ ap (λ l. 2 ∷ l) (e1 ∙ ap (λ n. n ∷ o2) (sym same))) b2 tt)))
         (λ j. absurd (cc j)))))
 
-    again : (x : Came) (rest : List ℕ) → OutcomeFits x → (octet_at (outcome_spelling x ++ rest) >>= to_form) ≡ Some (x, rest)
+    again : (x : Came) (rest : List ℕ) → OutcomeFits x → (octet_at (outcome_encoding x ++ rest) >>= to_form) ≡ Some (x, rest)
     again Applied rest fit = refl
     again (Repeated p) rest fit = ap (λ r. r >>= to_repeated) (place_part.again p rest (place_fits p fit))
     again (Refused r) rest fit = ap (λ x. x >>= to_refused rest) (refusal_again r)
@@ -272,7 +272,7 @@ at_promise r b = taken_at b.1 >>= to_promise r b.0
 abbrev of_promise : Route × List ℕ → Option (Frame × List ℕ)
 of_promise r = ballot_at r.1 >>= at_promise r.0
 
-taken_fits : (t : Option (Vote Command)) → TakenSpelled t → TakenFits t
+taken_fits : (t : Option (Vote Command)) → TakenEncoded t → TakenFits t
 taken_fits None fit = tt
 taken_fits (Some v) fit = (fit.0, fit.1.0)
 
@@ -363,11 +363,11 @@ give_take octets f rest bytes is =
     (e0 ∙ ap (λ l. route_octets r ++ l) e1) b2 (record { ranges = (f0.from, f0.to, (f0.position, f1.0)); kind = refl })))
 
 -- a frame of one field
-one_field : {A : Type 0} (n : ℕ) (make : A → Frame) {spell : A → List ℕ} {Fit : A → Type 0} {read : List ℕ → Option (A × List ℕ)} (part : Part spell Fit read)
-    → ((x : A) → fields (make x) ≡ spell x) → ((x : A) → Fit x → Kinded n (make x)) → Reads n (λ octets. read octets >>= λ x. answer (make x.0) x.1)
-one_field n make part spelled fits octets f rest bytes is =
+one_field : {A : Type 0} (n : ℕ) (make : A → Frame) {encode : A → List ℕ} {Fit : A → Type 0} {read : List ℕ → Option (A × List ℕ)} (part : Part encode Fit read)
+    → ((x : A) → fields (make x) ≡ encode x) → ((x : A) → Fit x → Kinded n (make x)) → Reads n (λ octets. read octets >>= λ x. answer (make x.0) x.1)
+one_field n make part encoded fits octets f rest bytes is =
     step part octets (λ x. answer (make x.0) x.1) (f, rest) bytes is
-    (λ x o1 e0 b1 f0 h0. made fields (Kinded n) octets o1 (make x) f rest h0 (e0 ∙ ap (λ l. l ++ o1) (sym (spelled x))) b1 (fits x f0))
+    (λ x o1 e0 b1 f0 h0. made fields (Kinded n) octets o1 (make x) f rest h0 (e0 ∙ ap (λ l. l ++ o1) (sym (encoded x))) b1 (fits x f0))
 
 submit_take : Reads 16 submit_at
 unfolding submit_at
@@ -510,22 +510,22 @@ pub fields_take : (n : ℕ) → Reads n (fields_at n)
 unfolding fields_at
 fields_take n octets f rest bytes is = look n readers Reads (λ read. read octets) (f, rest) rows_read is (λ read row e. row octets f rest bytes e)
 
--- ---- what is spelled so is read
+-- ---- what is encoded so is read
 
-taken_spelled : (t : Option (Vote Command)) (n : ℕ) → TakenFits t → n + length (taken_spelling t) ≤ 8388606 → TakenSpelled t
-taken_spelled None n fit short = tt
-taken_spelled (Some v) n fit short = (fit.0, (fit.1, omega (arith, short)))
+taken_encoded : (t : Option (Vote Command)) (n : ℕ) → TakenFits t → n + length (taken_encoding t) ≤ 8388606 → TakenEncoded t
+taken_encoded None n fit short = tt
+taken_encoded (Some v) n fit short = (fit.0, (fit.1, omega (arith, short)))
 
-peer_again : (from to : ℕ) (body : Body Command) (rest : List ℕ) → is_node from ≡ true → is_node to ≡ true → BodyFits body → 2 + length (body_spelling body) ≤ 8388606
-    → fields_at (body_kind body) (from ∷ to ∷ (body_spelling body ++ rest)) ≡ Some (Peer (record { from = from; to = to; body = body }), rest)
+peer_again : (from to : ℕ) (body : Body Command) (rest : List ℕ) → is_node from ≡ true → is_node to ≡ true → BodyFits body → 2 + length (body_encoding body) ≤ 8388606
+    → fields_at (body_kind body) (from ∷ to ∷ (body_encoding body ++ rest)) ≡ Some (Peer (record { from = from; to = to; body = body }), rest)
 unfolding fields_at prepare_at promise_at busy_at accept_at accepted_at ask_at give_at
 peer_again from to (Prepare p b) rest f t fit short =
     ap (λ r. r >>= of_prepare) (route_part.again (route_of from to p) (to_be_bytes w64 b ++ rest) (record { from = f; to = t; position = fit.0 }))
     ∙ ap (λ r. r >>= to_prepare (route_of from to p)) (ballot_part.again b rest (ballot_fits b fit.1))
 peer_again from to (Promise p b x) rest f t fit short =
-    ap (λ r. r >>= of_promise) (route_part.again (route_of from to p) (to_be_bytes w64 b ++ (taken_spelling x ++ rest)) (record { from = f; to = t; position = fit.0 }))
-    ∙ ap (λ r. r >>= at_promise (route_of from to p)) (ballot_part.again b (taken_spelling x ++ rest) (ballot_fits b fit.1))
-    ∙ ap (λ r. r >>= to_promise (route_of from to p) b) (taken_part.again x rest (taken_spelled x 14 fit.2 (omega (arith, short))))
+    ap (λ r. r >>= of_promise) (route_part.again (route_of from to p) (to_be_bytes w64 b ++ (taken_encoding x ++ rest)) (record { from = f; to = t; position = fit.0 }))
+    ∙ ap (λ r. r >>= at_promise (route_of from to p)) (ballot_part.again b (taken_encoding x ++ rest) (ballot_fits b fit.1))
+    ∙ ap (λ r. r >>= to_promise (route_of from to p) b) (taken_part.again x rest (taken_encoded x 14 fit.2 (omega (arith, short))))
 peer_again from to (Busy p b q) rest f t fit short =
     ap (λ r. r >>= of_busy) (route_part.again (route_of from to p) (to_be_bytes w64 b ++ (to_be_bytes w64 q ++ rest)) (record { from = f; to = t; position = fit.0 }))
     ∙ ap (λ r. r >>= at_busy (route_of from to p)) (ballot_part.again b (to_be_bytes w64 q ++ rest) (ballot_fits b fit.1))
@@ -574,7 +574,7 @@ fields_again (Started p b) rest fit short =
     ap (λ r. r >>= of_started) (place_part.again p (to_be_bytes w64 b ++ rest) (place_fits p fit.0))
     ∙ ap (λ r. r >>= to_started p) (ballot_part.again b rest (ballot_fits b fit.1))
 fields_again (Settled p x) rest fit short =
-    ap (λ r. r >>= of_settled) (place_part.again p (outcome_spelling x ++ rest) (place_fits p fit.0))
+    ap (λ r. r >>= of_settled) (place_part.again p (outcome_encoding x ++ rest) (place_fits p fit.0))
     ∙ ap (λ r. r >>= to_settled p) (outcome_part.again x rest fit.1)
 fields_again (Answer a) rest fit short = ap (λ r. r >>= λ x. answer (Answer x.0) x.1) (answer_part.again a rest fit)
 fields_again Unknown rest fit short = refl

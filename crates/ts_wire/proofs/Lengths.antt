@@ -7,28 +7,28 @@ use Rattle.std.proofs.lemmas.Bool.{leb-true}
 use Rattle.std.proofs.lemmas.List.Concat.{flat_map-cons}
 use Rattle.ts_der.specs.ObjectIdentifier.{is_oid}
 use Rattle.ts_store.specs.Purposes.{is_ascending, ArePurposes}
-use Rattle.ts_store.specs.Commands.{blob8, purposes_spelling, fields, id_of, spelling, FieldsFit, Fits}
+use Rattle.ts_store.specs.Commands.{blob8, purposes_encoding, fields, id_of, encoding, FieldsFit, Fits}
 use Rattle.ts_store.specs.declared.command.Command.{Command}
 use Rattle.ts_store.specs.declared.command.Command.TheVariants.{AddAnchor, WithdrawAnchor, LoadCrl, DropCrl, SetPurposes, Noop}
 use Rattle.ts_question.specs.declared.question.Target.{Target}
 use Rattle.ts_question.specs.declared.question.Target.TheVariants.{Chain, Search}
 use Rattle.ts_question.specs.declared.terms.Terms.{Terms}
 use Rattle.ts_question.specs.Parts.{blob16, blob32, optional}
-use Rattle.ts_question.specs.Question.{Asked, are_subtrees, are_terms, are_certificates, is_target, policies_spelling, subtrees_spelling, certificates_spelling, terms_spelling, target_spelling, TermsFit, TargetFits}
-use Rattle.ts_question.specs.Question.{spelling as question_octets, Fits as QuestionFits}
+use Rattle.ts_question.specs.Question.{Asked, are_subtrees, are_terms, are_certificates, is_target, policies_encoding, subtrees_encoding, certificates_encoding, terms_encoding, target_encoding, TermsFit, TargetFits}
+use Rattle.ts_question.specs.Question.{encoding as question_octets, Fits as QuestionFits}
 use Rattle.ts_question.proofs.Lengths.{first_true, second_true, is_short}
 use Rattle.ts_question.proofs.Fields.{all_from, Within, within_parts}
 
 -- parts of at most so many octets each
-parts_short : {A : Type 0} (spell : A → List ℕ) (most : ℕ) (xs : List A) → AllByRecursion (λ x. length (spell x) ≤ most) xs → length (flat_map spell xs) ≤ most * length xs
-parts_short spell most [] short = omega arith
-parts_short spell most (x ∷ xs) short =
-    omega (arith, short.0, parts_short spell most xs short.1, length-append (spell x) (flat_map spell xs), ap length (flat_map-cons spell x xs))
+parts_short : {A : Type 0} (encode : A → List ℕ) (most : ℕ) (xs : List A) → AllByRecursion (λ x. length (encode x) ≤ most) xs → length (flat_map encode xs) ≤ most * length xs
+parts_short encode most [] short = omega arith
+parts_short encode most (x ∷ xs) short =
+    omega (arith, short.0, parts_short encode most xs short.1, length-append (encode x) (flat_map encode xs), ap length (flat_map-cons encode x xs))
 
 oids_short : (xs : List (List ℕ)) → list_all is_oid xs ≡ true → length (flat_map blob8 xs) ≤ 130 * length xs
 oids_short xs good = parts_short blob8 130 xs (all_from is_oid (λ c. length (blob8 c) ≤ 130) (λ c h. let k = is_short c h in omega (arith, k)) xs good)
 
-purposes_short : (p : Option (List (List ℕ))) → ArePurposes p → length (purposes_spelling p) ≤ 2100
+purposes_short : (p : Option (List (List ℕ))) → ArePurposes p → length (purposes_encoding p) ≤ 2100
 purposes_short None fit = omega arith
 purposes_short (Some xs) fit =
     let n : length xs ≤ 16 = leb-true (length xs) 16 (first_true (nat_le (length xs) 16) (is_ascending xs) fit.0) in
@@ -39,23 +39,23 @@ fields_short (AddAnchor id x) fit = omega (arith, fit)
 fields_short (WithdrawAnchor id x) fit = omega (arith, fit)
 fields_short (LoadCrl id x) fit = omega (arith, fit)
 fields_short (DropCrl id x) fit = omega (arith, fit)
-fields_short (SetPurposes id a p) fit = omega (arith, fit.0, purposes_short p fit.1, length-append a (purposes_spelling p))
+fields_short (SetPurposes id a p) fit = omega (arith, fit.0, purposes_short p fit.1, length-append a (purposes_encoding p))
 fields_short (Noop id) fit = omega arith
 
-pub command_short : (c : Command) → Fits c → length (spelling c) < 2 ^ 32
+pub command_short : (c : Command) → Fits c → length (encoding c) < 2 ^ 32
 command_short c fit = omega (arith, fit.id, fields_short c fit.fields, length-append (id_of c) (fields c))
 
-optional_short : {A : Type 0} (spell : A → List ℕ) (most : ℕ) (x : Option A) → IfSome x (λ y. length (spell y) ≤ most) → length (optional spell x) ≤ most
-optional_short spell most None short = omega arith
-optional_short spell most (Some y) short = short
+optional_short : {A : Type 0} (encode : A → List ℕ) (most : ℕ) (x : Option A) → IfSome x (λ y. length (encode y) ≤ most) → length (optional encode x) ≤ most
+optional_short encode most None short = omega arith
+optional_short encode most (Some y) short = short
 
-subtrees_short : (xs : List (List ℕ)) → are_subtrees xs ≡ true → length (subtrees_spelling xs) ≤ 4194500
+subtrees_short : (xs : List (List ℕ)) → are_subtrees xs ≡ true → length (subtrees_encoding xs) ≤ 4194500
 subtrees_short xs good =
     let n : length xs ≤ 64 = leb-true (length xs) 64 (first_true (nat_le (length xs) 64) (list_all (λ s. nat_le (length s) 65535) xs) good) in
     let each = all_from (λ s. nat_le (length s) 65535) (λ c. length (blob16 c) ≤ 65537) (λ c h. let k : length c ≤ 65535 = leb-true (length c) 65535 h in omega (arith, k)) xs (second_true (nat_le (length xs) 64) (list_all (λ s. nat_le (length s) 65535) xs) good) in
     omega (arith, n, parts_short blob16 65537 xs each)
 
-certificates_short : (most : ℕ) (xs : List (List ℕ)) → most ≤ 33 → are_certificates most xs ≡ true → length (certificates_spelling xs) ≤ 2163000
+certificates_short : (most : ℕ) (xs : List (List ℕ)) → most ≤ 33 → are_certificates most xs ≡ true → length (certificates_encoding xs) ≤ 2163000
 certificates_short most xs few good =
     let so_many = first_true (nat_le 1 (length xs) && nat_le (length xs) most) (list_all (λ c. nat_le (length c) 65536) xs) good in
     let n : length xs ≤ most = leb-true (length xs) most (second_true (nat_le 1 (length xs)) (nat_le (length xs) most) so_many) in
@@ -70,7 +70,7 @@ k_short : (k : Option ℕ) → IfSome k (λ n. length (to_be_bytes w32 n) ≤ 4)
 k_short None = tt
 k_short (Some n) = omega arith
 
-terms_short : (t : Terms) → TermsFit t → are_terms t ≡ true → length (terms_spelling t) ≤ 8400000
+terms_short : (t : Terms) → TermsFit t → are_terms t ≡ true → length (terms_encoding t) ≤ 8400000
 terms_short t fit good =
     let w = within_parts t good in
     let n : length t.user_policies ≤ 32 = leb-true (length t.user_policies) 32 w.policies in
@@ -79,18 +79,18 @@ terms_short t fit good =
     let p = oids_short t.user_policies fit.policies in
     let a = subtrees_short t.permitted_subtrees w.permitted in
     let b = subtrees_short t.excluded_subtrees w.excluded in
-    let e0 = length-append (optional (to_be_bytes w32) t.k) (optional blob8 t.purpose ++ (policies_spelling t.user_policies ++ (subtrees_spelling t.permitted_subtrees ++ subtrees_spelling t.excluded_subtrees))) in
-    let e1 = length-append (optional blob8 t.purpose) (policies_spelling t.user_policies ++ (subtrees_spelling t.permitted_subtrees ++ subtrees_spelling t.excluded_subtrees)) in
-    let e2 = length-append (policies_spelling t.user_policies) (subtrees_spelling t.permitted_subtrees ++ subtrees_spelling t.excluded_subtrees) in
-    let e3 = length-append (subtrees_spelling t.permitted_subtrees) (subtrees_spelling t.excluded_subtrees) in
+    let e0 = length-append (optional (to_be_bytes w32) t.k) (optional blob8 t.purpose ++ (policies_encoding t.user_policies ++ (subtrees_encoding t.permitted_subtrees ++ subtrees_encoding t.excluded_subtrees))) in
+    let e1 = length-append (optional blob8 t.purpose) (policies_encoding t.user_policies ++ (subtrees_encoding t.permitted_subtrees ++ subtrees_encoding t.excluded_subtrees)) in
+    let e2 = length-append (policies_encoding t.user_policies) (subtrees_encoding t.permitted_subtrees ++ subtrees_encoding t.excluded_subtrees) in
+    let e3 = length-append (subtrees_encoding t.permitted_subtrees) (subtrees_encoding t.excluded_subtrees) in
     omega (arith, n, k, u, p, a, b, e0, e1, e2, e3)
 
-target_short : (t : Target) → TargetFits t → is_target t ≡ true → length (target_spelling t) ≤ 2163100
-target_short (Chain anchor xs) fit good = omega (arith, fit, certificates_short 16 xs (omega arith) good, length-append anchor (certificates_spelling xs))
+target_short : (t : Target) → TargetFits t → is_target t ≡ true → length (target_encoding t) ≤ 2163100
+target_short (Chain anchor xs) fit good = omega (arith, fit, certificates_short 16 xs (omega arith) good, length-append anchor (certificates_encoding xs))
 target_short (Search xs) fit good = omega (arith, certificates_short 33 xs (omega arith) good)
 
 pub question_short : (q : Asked) → QuestionFits q → length (question_octets q) < 2 ^ 32
 question_short q fit =
     let t = terms_short q.terms fit.terms (first_true (are_terms q.terms) (is_target q.target) fit.within) in
     let x = target_short q.target fit.target (second_true (are_terms q.terms) (is_target q.target) fit.within) in
-    omega (arith, t, x, length-append (terms_spelling q.terms) (target_spelling q.target))
+    omega (arith, t, x, length-append (terms_encoding q.terms) (target_encoding q.target))

@@ -12,7 +12,7 @@ use Rattle.ts_synod.specs.declared.message.Body.{Body}
 use Rattle.ts_synod.specs.declared.message.Body.TheVariants.{Prepare, Promise, Busy, Accept, Accepted, Ask, Give}
 use Rattle.ts_store.specs.declared.command.Command.{Command}
 use Rattle.ts_question.proofs.PartLaws.{IsBytes}
-use Rattle.ts_wire.specs.Frames.{body_kind, kind_of, is_kind, fields, spelling, FieldsFit, Fits}
+use Rattle.ts_wire.specs.Frames.{body_kind, kind_of, is_kind, fields, encoding, FieldsFit, Fits}
 use Rattle.ts_wire.specs.FrameReading.{fields_at, ended, frame_in}
 use Rattle.ts_wire.specs.Stream.{IsLength, IsPartial, Framed, IsCut, GoesOn, IsFault, Ends, Splits}
 use Rattle.ts_wire.specs.declared.fault.FrameFault.{FrameFault}
@@ -22,7 +22,7 @@ use Rattle.ts_wire.specs.declared.frame.Frame.TheVariants.{Peer, Submit, Questio
 use Rattle.ts_wire.proofs.FrameLaws.{fields_take, fields_again}
 use Rattle.ts_wire.proofs.Bodies.{back_bytes, front_bytes}
 
--- what stands at the front of a stream
+-- what is at the front of a stream
 pub data Next : Type 0 where
   frame : Frame → List ℕ → Next
   partial : Next
@@ -48,7 +48,7 @@ next_at n body small =
     ∙ ap (λ m. sized m (drop 4 (to_be_bytes w32 n ++ body))) (from_be_bytes-to_be_bytes_4 n small)
     ∙ ap (sized n) d
 
--- a body of its length, and octets behind it
+-- a body of its length, and octets after it
 whole_at : (octets body after : List ℕ) → octets ≡ to_be_bytes w32 (length body) ++ (body ++ after) → IsLength (length body) → next octets ≡ judged after (frame_in body)
 whole_at octets body after is length_is =
     let n = length body in
@@ -97,10 +97,10 @@ frame_again f fit =
     let e : fields_at (kind_of f) (fields f) ≡ Some (f, []) = ap (fields_at (kind_of f)) (sym (append-nil (fields f))) ∙ fields_again f [] fit.ranges (omega (arith, fit.short)) in
     ap (λ b. cond b (ended (fields_at (kind_of f) (fields f))) (Err Kind)) (kind_is f) ∙ ap ended e
 
-pub next_frame : (f : Frame) (after : List ℕ) → Fits f → next (spelling f ++ after) ≡ frame f after
+pub next_frame : (f : Frame) (after : List ℕ) → Fits f → next (encoding f ++ after) ≡ frame f after
 next_frame f after fit =
     let n : length (2 ∷ kind_of f ∷ fields f) ≡ 2 + length (fields f) = omega arith in
-    whole_at (spelling f ++ after) (2 ∷ kind_of f ∷ fields f) after (ap (λ k. to_be_bytes w32 k ++ ((2 ∷ kind_of f ∷ fields f) ++ after)) (sym n)) (omega (arith, n), omega (arith, n, fit.short))
+    whole_at (encoding f ++ after) (2 ∷ kind_of f ∷ fields f) after (ap (λ k. to_be_bytes w32 k ++ ((2 ∷ kind_of f ∷ fields f) ++ after)) (sym n)) (omega (arith, n), omega (arith, n, fit.short))
     ∙ ap (judged after) (frame_again f fit)
 
 -- ---- less than a frame
@@ -133,7 +133,7 @@ wrong_length n body (inr high) =
     ap (λ b. cond (b || ltb 8388608 n) (wrong Length) (cond (ltb (length body) n) partial (judged (drop n body) (frame_in (take n body))))) low
     ∙ ap (λ b. cond b (wrong Length) (cond (ltb (length body) n) partial (judged (drop n body) (frame_in (take n body))))) h
 
--- each fault but Field is what stands at the front
+-- each fault but Field is what is at the front
 next_fault : (x : FrameFault) (octets : List ℕ) → IsFault x octets → (next octets ≡ wrong x) ⊎ (x ≡ Field)
 unfolding frame_in
 next_fault Length octets f = inl (ap next f.4 ∙ next_at f.0 f.1 f.2 ∙ wrong_length f.0 f.1 f.3)
@@ -168,7 +168,7 @@ looked octets f =
           ∙ ap (λ b. judged f.2.after (cond b (ended (fields_at f.0 f.1)) (Err Kind))) f.3;
     }
 
--- octets begin with one body behind its length
+-- octets begin with one body after its length
 pub record SameBody (version other kind another : ℕ) (rest more : List ℕ) : Type 0 where
   pub version_is : version ≡ other
   pub kind_is : kind ≡ another
@@ -191,17 +191,17 @@ same_body octets version other kind another rest more f g =
       rest_is = sym (take_at rest f.after (length rest) refl) ∙ ap (take (length rest)) t ∙ take_at more g.after (length rest) same;
     }
 
-frame_framed : (f : Frame) (after : List ℕ) → Fits f → Framed (spelling f ++ after) 2 (kind_of f) (fields f)
+frame_framed : (f : Frame) (after : List ℕ) → Fits f → Framed (encoding f ++ after) 2 (kind_of f) (fields f)
 frame_framed f after fit = record { after = after; short = fit.short; is = refl }
 
--- no frame stands where Field does
-not_cut : (f : Frame) (after octets : List ℕ) → Fits f → octets ≡ spelling f ++ after → IsFault Field octets → ⊥
+-- no frame is where Field does
+not_cut : (f : Frame) (after octets : List ℕ) → Fits f → octets ≡ encoding f ++ after → IsFault Field octets → ⊥
 not_cut f after octets fit is x =
     let here : Framed octets 2 (kind_of f) (fields f) = subst (λ l. Framed l 2 (kind_of f) (fields f)) (sym is) (frame_framed f after fit) in
     let b = same_body octets 2 2 (kind_of f) x.0 (fields f) x.1 here x.2 in
     x.4 f [] fit.ranges b.kind_is (sym b.rest_is ∙ sym (append-nil (fields f)))
 
--- nor do octets behind a frame's fields
+-- nor do octets after a frame's fields
 not_trailing : (octets : List ℕ) → IsFault Field octets → IsFault Trailing octets → ⊥
 not_trailing octets x y =
     let b = same_body octets 2 2 x.0 y.0 x.1 y.1 x.2 y.2 in
@@ -219,10 +219,10 @@ rest_or d (frame f rest) = rest
 rest_or d partial = d
 rest_or d (wrong x) = d
 
-pub same_frame : (f g : Frame) (a b : List ℕ) → Fits f → Fits g → spelling f ++ a ≡ spelling g ++ b → f ≡ g
+pub same_frame : (f g : Frame) (a b : List ℕ) → Fits f → Fits g → encoding f ++ a ≡ encoding g ++ b → f ≡ g
 same_frame f g a b p q e = ap (frame_or f) (sym (next_frame f a p) ∙ ap next e ∙ next_frame g b q)
 
-pub same_rest : (f g : Frame) (a b : List ℕ) → Fits f → Fits g → spelling f ++ a ≡ spelling g ++ b → a ≡ b
+pub same_rest : (f g : Frame) (a b : List ℕ) → Fits f → Fits g → encoding f ++ a ≡ encoding g ++ b → a ≡ b
 same_rest f g a b p q e = ap (rest_or a) (sym (next_frame f a p) ∙ ap next e ∙ next_frame g b q)
 
 abbrev end_of : Option FrameFault → Next
@@ -233,8 +233,8 @@ no_frame : (x : Option FrameFault) (f : Frame) (a : List ℕ) → end_of x ≡ f
 no_frame None f a e = absurd (cc e)
 no_frame (Some x) f a e = absurd (cc e)
 
--- no frame stands where a stream ends
-pub frame_or_end : (x : Option FrameFault) (f : Frame) (after octets : List ℕ) → Fits f → octets ≡ spelling f ++ after → Ends x octets → ⊥
+-- no frame is where a stream ends
+pub frame_or_end : (x : Option FrameFault) (f : Frame) (after octets : List ℕ) → Fits f → octets ≡ encoding f ++ after → Ends x octets → ⊥
 frame_or_end None f after octets fit is e = no_frame None f after (sym (next_partial octets e) ∙ ap next is ∙ next_frame f after fit)
 frame_or_end (Some x) f after octets fit is e = by (next_fault x octets e)
   where
@@ -311,22 +311,22 @@ same_end octets None (Some y) e f = absurd (part_or_fault octets y e f)
 same_end octets (Some x) None e f = absurd (part_or_fault octets x f e)
 same_end octets (Some x) (Some y) e f = ap (λ (z : FrameFault). Some z) (same_fault octets x y e f)
 
-pub split : (f : Frame) (fs : List Frame) (rest : List ℕ) → flat_map spelling (f ∷ fs) ++ rest ≡ spelling f ++ (flat_map spelling fs ++ rest)
-split f fs rest = ap (λ l. l ++ rest) (flat_map-cons spelling f fs) ∙ append_assoc (spelling f) (flat_map spelling fs) rest
+pub split : (f : Frame) (fs : List Frame) (rest : List ℕ) → flat_map encoding (f ∷ fs) ++ rest ≡ encoding f ++ (flat_map encoding fs ++ rest)
+split f fs rest = ap (λ l. l ++ rest) (flat_map-cons encoding f fs) ∙ append_assoc (encoding f) (flat_map encoding fs) rest
 
 -- two readings of one list of octets
 pub record SameReading (frames others : List Frame) (fault other : Option FrameFault) : Type 0 where
   pub same_frames : frames ≡ others
   pub same_fault : fault ≡ other
 
-pub same_reading : (frames others : List Frame) (fault other : Option FrameFault) (rest more : List ℕ) → flat_map spelling frames ++ rest ≡ flat_map spelling others ++ more
+pub same_reading : (frames others : List Frame) (fault other : Option FrameFault) (rest more : List ℕ) → flat_map encoding frames ++ rest ≡ flat_map encoding others ++ more
     → AllByRecursion Fits frames → AllByRecursion Fits others → Ends fault rest → Ends other more → SameReading frames others fault other
 same_reading [] [] fault other rest more e p q x y =
     record { same_frames = refl; same_fault = same_end rest fault other x (subst (Ends other) (sym e) y) }
-same_reading [] (g ∷ gs) fault other rest more e p q x y = absurd (frame_or_end fault g (flat_map spelling gs ++ more) rest q.0 (e ∙ split g gs more) x)
-same_reading (f ∷ fs) [] fault other rest more e p q x y = absurd (frame_or_end other f (flat_map spelling fs ++ rest) more p.0 (sym e ∙ split f fs rest) y)
+same_reading [] (g ∷ gs) fault other rest more e p q x y = absurd (frame_or_end fault g (flat_map encoding gs ++ more) rest q.0 (e ∙ split g gs more) x)
+same_reading (f ∷ fs) [] fault other rest more e p q x y = absurd (frame_or_end other f (flat_map encoding fs ++ rest) more p.0 (sym e ∙ split f fs rest) y)
 same_reading (f ∷ fs) (g ∷ gs) fault other rest more e p q x y =
-    let both : spelling f ++ (flat_map spelling fs ++ rest) ≡ spelling g ++ (flat_map spelling gs ++ more) = sym (split f fs rest) ∙ e ∙ split g gs more in
+    let both : encoding f ++ (flat_map encoding fs ++ rest) ≡ encoding g ++ (flat_map encoding gs ++ more) = sym (split f fs rest) ∙ e ∙ split g gs more in
     let t = same_reading fs gs fault other rest more (same_rest f g _ _ p.0 q.0 both) p.1 q.1 x y in
     let h = same_frame f g _ _ p.0 q.0 both in
     record { same_frames = λ i. h i ∷ t.same_frames i; same_fault = t.same_fault }

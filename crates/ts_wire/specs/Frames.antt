@@ -1,15 +1,15 @@
--- Frames, how each is spelled, and which have a spelling.
+-- Frames, how each is encoded, and which have an encoding.
 use Rattle.std.specs.Prelude.{◌≡◌, ◌≤◌, ◌+◌, ◌||◌, ◌&&◌, ℕ, Bool, true, nat_le, nat_lt, List, [], ◌∷◌, ◌++◌, length, Option, Some, None}
 use Rattle.std.specs.Int.{to_be_bytes, w32, w64}
 use Rattle.ts_synod.specs.declared.message.Body.{Body}
 use Rattle.ts_synod.specs.declared.message.Body.TheVariants.{Prepare, Promise, Busy, Accept, Accepted, Ask, Give}
 use Rattle.ts_synod.specs.declared.message.Vote.{Vote}
 use Rattle.ts_store.specs.declared.command.Command.{Command}
-use Rattle.ts_store.specs.Commands.{spelling as command_octets, Fits as CommandFits}
+use Rattle.ts_store.specs.Commands.{encoding as command_octets, Fits as CommandFits}
 use Rattle.ts_question.specs.Parts.{blob32}
-use Rattle.ts_question.specs.Question.{spelling as question_octets, Fits as QuestionFits}
-use Rattle.ts_question.specs.Reply.{spelling as answer_octets, Fits as AnswerFits}
-use Rattle.ts_wire.specs.Outcomes.{is_node, is_position, is_ballot, outcome_spelling, OutcomeFits, node_fault_code, frame_fault_code}
+use Rattle.ts_question.specs.Question.{encoding as question_octets, Fits as QuestionFits}
+use Rattle.ts_question.specs.Reply.{encoding as answer_octets, Fits as AnswerFits}
+use Rattle.ts_wire.specs.Outcomes.{is_node, is_position, is_ballot, outcome_encoding, OutcomeFits, node_fault_code, frame_fault_code}
 use Rattle.ts_wire.specs.declared.frame.Frame.{Frame}
 use Rattle.ts_wire.specs.declared.frame.Frame.TheVariants.{Peer, Submit, Question, Take, Outcome, CatchUp, Status, Compact, Done, Started, Settled, Answer, Unknown, NodeFault, FrameFault, Prefix}
 
@@ -46,21 +46,21 @@ abbrev pub is_kind : ℕ → Bool
 is_kind kind = (nat_le 1 kind && nat_le kind 7) || (nat_le 16 kind && nat_le kind 22) || (nat_le 32 kind && nat_le kind 39)
 
 -- 00, or 01, the ballot and the command
-abbrev pub taken_spelling : Option (Vote Command) → List ℕ
-taken_spelling None = 0 ∷ []
-taken_spelling (Some vote) = 1 ∷ (to_be_bytes w64 vote.ballot ++ blob32 (command_octets vote.command))
+abbrev pub taken_encoding : Option (Vote Command) → List ℕ
+taken_encoding None = 0 ∷ []
+taken_encoding (Some vote) = 1 ∷ (to_be_bytes w64 vote.ballot ++ blob32 (command_octets vote.command))
 
-abbrev pub body_spelling : Body Command → List ℕ
-body_spelling (Prepare position ballot) = to_be_bytes w32 position ++ to_be_bytes w64 ballot
-body_spelling (Promise position ballot taken) = to_be_bytes w32 position ++ (to_be_bytes w64 ballot ++ taken_spelling taken)
-body_spelling (Busy position ballot promised) = to_be_bytes w32 position ++ (to_be_bytes w64 ballot ++ to_be_bytes w64 promised)
-body_spelling (Accept position ballot command) = to_be_bytes w32 position ++ (to_be_bytes w64 ballot ++ blob32 (command_octets command))
-body_spelling (Accepted position ballot command) = to_be_bytes w32 position ++ (to_be_bytes w64 ballot ++ blob32 (command_octets command))
-body_spelling (Ask position) = to_be_bytes w32 position
-body_spelling (Give position command) = to_be_bytes w32 position ++ blob32 (command_octets command)
+abbrev pub body_encoding : Body Command → List ℕ
+body_encoding (Prepare position ballot) = to_be_bytes w32 position ++ to_be_bytes w64 ballot
+body_encoding (Promise position ballot taken) = to_be_bytes w32 position ++ (to_be_bytes w64 ballot ++ taken_encoding taken)
+body_encoding (Busy position ballot promised) = to_be_bytes w32 position ++ (to_be_bytes w64 ballot ++ to_be_bytes w64 promised)
+body_encoding (Accept position ballot command) = to_be_bytes w32 position ++ (to_be_bytes w64 ballot ++ blob32 (command_octets command))
+body_encoding (Accepted position ballot command) = to_be_bytes w32 position ++ (to_be_bytes w64 ballot ++ blob32 (command_octets command))
+body_encoding (Ask position) = to_be_bytes w32 position
+body_encoding (Give position command) = to_be_bytes w32 position ++ blob32 (command_octets command)
 
 abbrev pub fields : Frame → List ℕ
-fields (Peer message) = message.from ∷ message.to ∷ body_spelling message.body
+fields (Peer message) = message.from ∷ message.to ∷ body_encoding message.body
 fields (Submit command) = blob32 (command_octets command)
 fields (Question question) = blob32 (question_octets question)
 fields Take = []
@@ -70,7 +70,7 @@ fields Status = []
 fields Compact = []
 fields (Done count) = to_be_bytes w32 count
 fields (Started position ballot) = to_be_bytes w32 position ++ to_be_bytes w64 ballot
-fields (Settled position outcome) = to_be_bytes w32 position ++ outcome_spelling outcome
+fields (Settled position outcome) = to_be_bytes w32 position ++ outcome_encoding outcome
 fields (Answer answer) = answer_octets answer
 fields Unknown = []
 fields (NodeFault fault) = node_fault_code fault ∷ []
@@ -78,10 +78,10 @@ fields (FrameFault fault) = frame_fault_code fault ∷ []
 fields (Prefix prefix) = to_be_bytes w32 prefix
 
 -- four octets of the length of what follows; the version, 02; the kind; the fields
-abbrev pub spelling : Frame → List ℕ
-spelling frame = to_be_bytes w32 (2 + length (fields frame)) ++ (2 ∷ kind_of frame ∷ fields frame)
+abbrev pub encoding : Frame → List ℕ
+encoding frame = to_be_bytes w32 (2 + length (fields frame)) ++ (2 ∷ kind_of frame ∷ fields frame)
 
--- ---- which have a spelling
+-- ---- which have an encoding
 
 abbrev pub TakenFits : Option (Vote Command) → Type 0
 TakenFits None = Unit {0}

@@ -35,10 +35,10 @@ refusal_code RelativeName = 9
 refusal_code Indirect = 10
 
 -- 00 applied, 01 and the position of the first, or 02 and why it was refused
-abbrev pub outcome_spelling : Outcome → List ℕ
-outcome_spelling Applied = 0 ∷ []
-outcome_spelling (Repeated position) = 1 ∷ to_be_bytes w32 position
-outcome_spelling (Refused refusal) = 2 ∷ refusal_code refusal ∷ []
+abbrev pub outcome_encoding : Outcome → List ℕ
+outcome_encoding Applied = 0 ∷ []
+outcome_encoding (Repeated position) = 1 ∷ to_be_bytes w32 position
+outcome_encoding (Refused refusal) = 2 ∷ refusal_code refusal ∷ []
 
 abbrev pub OutcomeFits : Outcome → Type 0
 OutcomeFits (Repeated position) = is_position position ≡ true

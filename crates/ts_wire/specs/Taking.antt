@@ -2,7 +2,7 @@
 use Rattle.std.specs.Prelude.{◌≡◌, ◌≤◌, ◌+◌, ◌++◌, ℕ, List, length, drop, Option, Some, None, Result, Ok, Err}
 use Rattle.std.specs.List.{flat_map, AllByRecursion}
 use Rattle.std.specs.Int.{to_be_bytes, w32}
-use Rattle.ts_wire.specs.Frames.{spelling, Fits}
+use Rattle.ts_wire.specs.Frames.{encoding, Fits}
 use Rattle.ts_wire.specs.Stream.{IsLength, IsPartial, IsFault, Ends}
 use Rattle.ts_wire.specs.declared.fault.FrameFault.{FrameFault}
 use Rattle.ts_wire.specs.declared.fault.FrameFault.TheVariants.{Length, Version, Kind, Field, Trailing}
@@ -16,7 +16,7 @@ FrameGives (Ok frame) reading = reading ≡ Ok frame
 FrameGives (Err Memory) reading = Unit {0}
 FrameGives (Err (Wrong fault)) reading = reading ≡ Err fault
 
--- a fault stands here, unless memory was refused
+-- a fault is here, unless memory was refused
 abbrev pub IsWrong : FeedError → List ℕ → Type 0
 IsWrong Memory octets = Unit {0}
 IsWrong (Wrong fault) octets = IsFault fault octets
@@ -37,5 +37,5 @@ pub record Drains (old : List ℕ) (before : List Frame) (new : List ℕ) (after
   pub taken : List Frame
   pub each : AllByRecursion Fits taken
   pub more : after ≡ before ++ taken
-  pub is : old ≡ flat_map spelling taken ++ new
+  pub is : old ≡ flat_map encoding taken ++ new
   pub ends : Ends fault new

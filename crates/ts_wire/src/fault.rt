@@ -1,4 +1,4 @@
-//! Faults, as they stand in frames, and why a frame is not read or written.
+//! Faults, as they are in frames, and why a frame is not read or written.
 
 ghost use Rattle.std.specs.Prelude.{◌≡◌};
 ghost use Rattle.ts_wire.specs.Outcomes.{node_fault_code, frame_fault_code};

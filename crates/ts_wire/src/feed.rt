@@ -2,7 +2,7 @@
 
 ghost use Rattle.std.specs.Prelude.{◌≡◌, ◌≤◌, ◌<◌, ◌^◌, ◌++◌, ◌||◌, [], None, ℕ, List, length, drop, nat_eq, OnOk, OnErr, IfOk, IfSome, IfNone, MatchResult, MatchOption, ⊤};
 ghost use Rattle.std.specs.Int.{to_be_bytes, w32};
-ghost use Rattle.ts_wire.specs.Frames.{is_kind, spelling, Fits};
+ghost use Rattle.ts_wire.specs.Frames.{is_kind, encoding, Fits};
 ghost use Rattle.ts_wire.specs.FrameReading.{frame_in};
 ghost use Rattle.ts_wire.specs.Stream.{IsPartial, IsFault};
 ghost use Rattle.ts_wire.specs.Taking.{FrameGives, IsWrong, SizeOr};
@@ -22,7 +22,7 @@ fn is_kind(kind: u8) -> bool
     (1 <= kind && kind <= 7) || (16 <= kind && kind <= 22) || (32 <= kind && kind <= 39)
 }
 
-/// The frame that stands behind its length.
+/// The frame that follows its length.
 #[tactic(auto, unfolding(crate::specs::FrameReading::frame_in))]
 fn frame_of(alloc: Global, body: &[u8]) -> Result<Frame, FeedError>
     ensures { FrameGives result (frame_in body.now) }
@@ -81,7 +81,7 @@ fn size_of(octets: &[u8]) -> Result<Option<usize>, FrameFault>
 /// The frame that begins here, and the length of its octets.
 fn first(alloc: Global, octets: &[u8]) -> Result<Option<(Frame, usize)>, FeedError>
     ensures { MatchResult result
-        (λ found. MatchOption found (IsPartial octets.now) (λ x. Fits x.0 × (x.1 ≤ length octets.now) × (octets.now ≡ spelling x.0 ++ drop x.1 octets.now)))
+        (λ found. MatchOption found (IsPartial octets.now) (λ x. Fits x.0 × (x.1 ≤ length octets.now) × (octets.now ≡ encoding x.0 ++ drop x.1 octets.now)))
         (λ e. IsWrong e octets.now) }
 {
     let size = match size_of(octets) {
@@ -170,10 +170,10 @@ impl Feed {
     ///
     /// # Errors
     ///
-    /// Memory that is refused; `Frame` with the fault that stands in a frame's place. Nothing changes then: a fault is answered again,
-    /// whatever comes behind it.
+    /// Memory that is refused; `Frame` with the fault that is in a frame's place. Nothing changes then: a fault is answered again,
+    /// whatever comes after it.
     pub fn take(&mut self) -> Result<Option<Frame>, FeedError>
-        ensures frame { IfOk result (λ found. IfSome found (λ frame. Fits frame × (self.old ≡ spelling frame ++ self.new))) }
+        ensures frame { IfOk result (λ found. IfSome found (λ frame. Fits frame × (self.old ≡ encoding frame ++ self.new))) }
         ensures partial { IfOk result (λ found. IfNone found (IsPartial self.old × (self.new ≡ self.old))) }
         ensures wrong { MatchResult result (λ _. ⊤) (λ e. IsWrong e self.old × (self.new ≡ self.old)) }
     {

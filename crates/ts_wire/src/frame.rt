@@ -28,7 +28,7 @@ pub enum Frame {
     Done { count: u32 },
     /// A round began for the command.
     Started { position: u32, ballot: Ballot },
-    /// The command stands at this position.
+    /// The command is at this position.
     Settled { position: u32, outcome: Outcome },
     /// The answer to a question.
     Answer { answer: Answer },

@@ -1,15 +1,15 @@
-//! Laws about streams of frames. Each stands on a function that does nothing.
+//! Laws about streams of frames. Each is the contract of a function that does nothing.
 
 ghost use Rattle.std.specs.Prelude.{◌≡◌, ◌++◌, ℕ, List, Option};
-ghost use Rattle.ts_wire.specs.Frames.{spelling, Fits};
+ghost use Rattle.ts_wire.specs.Frames.{encoding, Fits};
 ghost use Rattle.ts_wire.specs.Stream.{IsFault, Splits};
 ghost use Rattle.ts_wire.specs.declared.fault.FrameFault.{FrameFault};
 ghost use Rattle.ts_wire.specs.declared.frame.Frame.{Frame};
 
-/// No frame's spelling is the beginning of another's.
+/// No frame's encoding is the beginning of another's.
 pub fn no_front()
-    ensures frame { (f g : Frame) (a b : List ℕ) → Fits f → Fits g → spelling f ++ a ≡ spelling g ++ b → f ≡ g }
-    ensures rest { (f g : Frame) (a b : List ℕ) → Fits f → Fits g → spelling f ++ a ≡ spelling g ++ b → a ≡ b }
+    ensures frame { (f g : Frame) (a b : List ℕ) → Fits f → Fits g → encoding f ++ a ≡ encoding g ++ b → f ≡ g }
+    ensures rest { (f g : Frame) (a b : List ℕ) → Fits f → Fits g → encoding f ++ a ≡ encoding g ++ b → a ≡ b }
 {}
 
 /// A stream is one list of frames, up to one fault or none.
@@ -20,7 +20,7 @@ pub fn one_reading()
         → Splits stream frames fault → Splits stream others other → fault ≡ other }
 {}
 
-/// A fault stays, whatever comes behind it.
+/// A fault stays, whatever comes after it.
 pub fn fault_stays()
     ensures { (fault : FrameFault) (octets more : List ℕ) → IsFault fault octets → IsFault fault (octets ++ more) }
 {}

@@ -1,10 +1,10 @@
-//! Frames: what a stream between nodes, servers and clients carries, each with one spelling.
+//! Frames: what a stream between nodes, servers and clients carries, each with one encoding.
 //!
 //! ```text
 //! write_frame(alloc, &mut out, &Frame::Status)?;   // 00 00 00 02 02 15
 //! let mut feed = Feed::new(alloc);
 //! feed.push(piece)?;
-//! while let Some(frame) = feed.take()? { .. }       // Frame(fault) where a fault stands in a frame's place
+//! while let Some(frame) = feed.take()? { .. }       // Frame(fault) where a fault is in a frame's place
 //! ```
 //!
 //! A frame is four octets of the length of what follows (2 to 8,388,608), the version, 02, an octet of the kind, and fields
@@ -13,13 +13,13 @@
 //!
 //! | Call | Clauses |
 //! |---|---|
-//! | [`write_frame`] | `spelled`: the one spelling; `length`, `short`: `Length` only above the limit, and success only within it; `unchanged`: an error writes nothing |
+//! | [`write_frame`] | `encoded`: the one encoding; `length`, `short`: `Length` only above the limit, and success only within it; `unchanged`: an error writes nothing |
 //! | [`Feed::push`] | the octets that came, of which no frame was taken yet; at an error they stay |
-//! | [`Feed::take`] | `frame`: they began with the spelling of this frame, and the others stay; `partial`: they are less than a whole frame; `wrong`: this fault stands at their front (`specs/Stream`), and they stay |
+//! | [`Feed::take`] | `frame`: they began with the encoding of this frame, and the others stay; `partial`: they are less than a whole frame; `wrong`: this fault is at their front (`specs/Stream`), and they stay |
 //! | [`decode`] | a whole stream in whatever pieces it comes. `splits`: it is these frames, up to this fault or to less than a whole frame; `only`: no others are |
-//! | [`laws::no_front`] | no frame's spelling is the beginning of another's |
+//! | [`laws::no_front`] | no frame's encoding is the beginning of another's |
 //! | [`laws::one_reading`] | a stream is one list of frames, up to one fault or none |
-//! | [`laws::fault_stays`] | a fault stays, whatever comes behind it, so that `take` answers it again |
+//! | [`laws::fault_stays`] | a fault stays, whatever comes after it, so that `take` answers it again |
 //!
 //! Memory that is refused is answered as `Memory` or `AllocError`, and the call can be made again.
 #![tactic(auto)]

@@ -2,7 +2,7 @@
 
 ghost use Rattle.std.specs.Prelude.{◌≡◌, ◌≤◌, ◌<◌, ◌++◌, ℕ, List, Option, length, map, slice_index, IfOk};
 ghost use Rattle.std.specs.List.{flat_map, AllByRecursion};
-ghost use Rattle.ts_wire.specs.Frames.{spelling, Fits};
+ghost use Rattle.ts_wire.specs.Frames.{encoding, Fits};
 ghost use Rattle.ts_wire.specs.Stream.{Ends, Splits};
 ghost use Rattle.ts_wire.specs.Taking.{Drains};
 ghost use Rattle.ts_wire.specs.declared.fault.FrameFault.{FrameFault};
@@ -14,7 +14,7 @@ use crate::frame::Frame;
 use crate::wire_error::FeedError;
 use std::alloc::{AllocError, Global};
 
-/// Takes the frames that are whole, up to a fault, and puts them behind others.
+/// Takes the frames that are whole, up to a fault, and puts them after others.
 fn drain(feed: &mut Feed, frames: &mut Vec<Frame>) -> Result<Option<FrameFault>, AllocError>
     ensures { IfOk result (λ fault. Drains feed.old frames.old.items feed.new frames.new.items fault) }
 {
@@ -28,7 +28,7 @@ fn drain(feed: &mut Feed, frames: &mut Vec<Frame>) -> Result<Option<FrameFault>,
     }
 }
 
-/// The frames of a stream that comes in these pieces, and the fault that stands behind them in a frame's place, if one does.
+/// The frames of a stream that comes in these pieces, and the fault that follows them in a frame's place, if one does.
 ///
 /// # Errors
 ///

@@ -68,7 +68,7 @@ const FAULTS: &[(u8, &[u8])] = &[
         4,
         b"\x00\x00\x00\x0e\x02\x21\x00\x00\x00\x01\x00\x00\x00\x10\x00\x00\x00\x01",
     ),
-    // A blob that is no command, and one with an octet behind a command.
+    // A blob that is no command, and one with an octet after a command.
     (
         4,
         b"\x00\x00\x00\x17\x02\x10\x00\x00\x00\x11iiiiiiiiiiiiiiii\x07",
@@ -113,7 +113,7 @@ fn are_frames(alloc: Global, octets: &[u8], count: usize) -> Result<bool, AllocE
     Ok(fault.is_none() && frames.len() == count && out.as_slice() == octets)
 }
 
-/// The code of the fault that stands in a stream, or 0.
+/// The code of the fault that is in a stream, or 0.
 fn fault_of(alloc: Global, octets: &[u8]) -> Result<u8, AllocError> {
     match decode(alloc, pieces(alloc, octets)?.as_slice())? {
         (_, Some(fault)) => Ok(fault.code()),

@@ -12,7 +12,7 @@ use std::alloc::AllocError;
 pub enum FeedError {
     /// Memory was refused. The frame can be taken again.
     Memory,
-    /// A fault stands in the frame's place.
+    /// A fault is in the frame's place.
     Frame(FrameFault),
 }
 

@@ -3,10 +3,10 @@
 ghost use Rattle.std.specs.Prelude.{◌≡◌, ◌≤◌, ◌<◌, ◌+◌, ◌++◌, ◌∷◌, length, IfOk, OnOk, OnErr, Err};
 ghost use Rattle.std.specs.Int.{to_be_bytes, w32, w64};
 ghost use Rattle.ts_question.specs.Parts.{blob32};
-ghost use Rattle.ts_store.specs.Commands.{spelling as command_octets};
-ghost use Rattle.ts_question.specs.Question.{spelling as question_octets};
-ghost use Rattle.ts_wire.specs.Outcomes.{refusal_code, outcome_spelling};
-ghost use Rattle.ts_wire.specs.Frames.{body_kind, kind_of, taken_spelling, body_spelling, fields, spelling};
+ghost use Rattle.ts_store.specs.Commands.{encoding as command_octets};
+ghost use Rattle.ts_question.specs.Question.{encoding as question_octets};
+ghost use Rattle.ts_wire.specs.Outcomes.{refusal_code, outcome_encoding};
+ghost use Rattle.ts_wire.specs.Frames.{body_kind, kind_of, taken_encoding, body_encoding, fields, encoding};
 ghost use Rattle.ts_wire.specs.declared.wire_error.WriteError.TheVariants.{Length};
 
 use crate::frame::Frame;
@@ -16,7 +16,7 @@ use ts_question::{Question, push_blob32};
 use ts_store::{Command, Outcome, Refusal};
 use ts_synod::{Ballot, Body, Vote};
 
-/// The most octets behind a frame's length.
+/// The most octets after a frame's length.
 pub const MAX_LENGTH: usize = 8_388_608;
 
 fn push_number(out: &mut Vec<u8>, number: u32) -> Result<(), AllocError>
@@ -54,7 +54,7 @@ fn push_taken(
     out: &mut Vec<u8>,
     taken: &Option<Vote<Command>>,
 ) -> Result<(), AllocError>
-    ensures { OnOk result (out.new.items ≡ out.old.items ++ taken_spelling taken.now) }
+    ensures { OnOk result (out.new.items ≡ out.old.items ++ taken_encoding taken.now) }
 {
     match taken {
         None => out.push(0)?,
@@ -83,7 +83,7 @@ fn body_kind(body: &Body<Command>) -> u8
 
 #[tactic(auto, using(crate::proofs::Joins::two, crate::proofs::Joins::three))]
 fn push_body(alloc: Global, out: &mut Vec<u8>, body: &Body<Command>) -> Result<(), AllocError>
-    ensures { OnOk result (out.new.items ≡ out.old.items ++ body_spelling body.now) }
+    ensures { OnOk result (out.new.items ≡ out.old.items ++ body_encoding body.now) }
 {
     match body {
         Body::Prepare { position, ballot } => {
@@ -153,7 +153,7 @@ fn refusal_code(refusal: Refusal) -> u8
 }
 
 fn push_outcome(out: &mut Vec<u8>, outcome: Outcome) -> Result<(), AllocError>
-    ensures { OnOk result (out.new.items ≡ out.old.items ++ outcome_spelling outcome) }
+    ensures { OnOk result (out.new.items ≡ out.old.items ++ outcome_encoding outcome) }
 {
     match outcome {
         Outcome::Applied => out.push(0)?,
@@ -223,7 +223,7 @@ fn push_fields(alloc: Global, out: &mut Vec<u8>, frame: &Frame) -> Result<(), Al
     Ok(())
 }
 
-/// What stands behind a frame's length: the version, the kind and the fields.
+/// What follows a frame's length: the version, the kind and the fields.
 fn body_of(alloc: Global, frame: &Frame) -> Result<Vec<u8>, AllocError>
     ensures { IfOk result (λ body. body.items ≡ 2 ∷ kind_of frame.now ∷ fields frame.now) }
 {
@@ -245,14 +245,14 @@ fn append(alloc: Global, out: &mut Vec<u8>, size: [u8; 4], body: &[u8]) -> Resul
     Ok(())
 }
 
-/// Writes the octets of the frame, which are its one spelling, behind others.
+/// Writes the octets of the frame, which are its one encoding, after others.
 ///
 /// # Errors
 ///
 /// `Length` exactly where the frame's length would be above 8,388,608, and else only memory that is refused. Nothing is written
 /// then.
 pub fn write_frame(alloc: Global, out: &mut Vec<u8>, frame: &Frame) -> Result<(), WriteError>
-    ensures spelled { OnOk result (out.new.items ≡ out.old.items ++ spelling frame.now) }
+    ensures encoded { OnOk result (out.new.items ≡ out.old.items ++ encoding frame.now) }
     ensures short { OnOk result (2 + length (fields frame.now) ≤ 8388608) }
     ensures length { result ≡ Err Length → 8388608 < 2 + length (fields frame.now) }
     ensures unchanged { OnErr result (out.new.items ≡ out.old.items) }

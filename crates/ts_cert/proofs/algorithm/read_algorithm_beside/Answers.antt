@@ -9,4 +9,4 @@ pub returns-then-eq : goal.returns-then-eq
 returns-then-eq c =
     let read = c.requires.read in
     let same = (bytes_eq-Decides c.args.element.whole.now c.args.other.whole.now).0 (sym c.eq.ensures ∙ c.if-eq.true) in
-    beside (now c.args.element) (algorithm_in c.args.other) read.0 c.requires.fits c.requires.spelled read.1 same
+    beside (now c.args.element) (algorithm_in c.args.other) read.0 c.requires.fits c.requires.encoded read.1 same

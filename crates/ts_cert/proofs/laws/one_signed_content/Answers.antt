@@ -1,4 +1,4 @@
-use Rattle.ts_cert.proofs.OneSpelling.{one-tbs}
+use Rattle.ts_cert.proofs.OneEncoding.{one-tbs}
 use Rattle.ts_cert.proofs.laws.one_signed_content.Goals as goal
 
 pub returns : goal.returns

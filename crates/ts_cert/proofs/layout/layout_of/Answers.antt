@@ -1,10 +1,10 @@
 use Rattle.std.proofs.Common.{◌≡◌, ℕ, false, List, [], ◌++◌, length, drop, refl, sym, ap, ◌∙◌, append_assoc, arith}
 use Rattle.std.proofs.lemmas.List.{append-nil, drop_all}
-use Rattle.ts_der.specs.Element.{spell}
+use Rattle.ts_der.specs.Element.{encode}
 use Rattle.ts_der.specs.Reading.{begins_with}
 use Rattle.ts_shape.proofs.OptionalParts.{begins-other, begins-if-any}
 use Rattle.ts_ext.specs.Extension.{AreExplicit}
-use Rattle.ts_cert.specs.Spelling.{IsUniqueIdentifier}
+use Rattle.ts_cert.specs.Encoding.{IsUniqueIdentifier}
 use Rattle.ts_cert.proofs.Layouts.{lies, passed, if-passed, version-passed}
 use Rattle.ts_cert.proofs.layout.layout_of.Goals as goal
 
@@ -24,9 +24,9 @@ returns c cert is version =
     let y3 : List ℕ = f.issued_by ++ y4 in
     let y2 : List ℕ = f.algorithm ++ y3 in
     let y1 : List ℕ = f.serial ++ y2 in
-    let at_tbs : drop c.inside-tbs.result octets ≡ w.content ++ [] = c.inside-tbs.ensures.begins 0x30 w.content [] w.fits (w.spelled ∙ sym (append-nil (spell 0x30 w.content))) in
+    let at_tbs : drop c.inside-tbs.result octets ≡ w.content ++ [] = c.inside-tbs.ensures.begins 0x30 w.content [] w.fits (w.encoded ∙ sym (append-nil (encode 0x30 w.content))) in
     let signed : drop c.inside-tbs.result octets ≡ cert.tbs ++ r = at_tbs ∙ (append-nil w.content ∙ s.fields) in
-    let at_fields = c.inside-fields.ensures.begins 0x30 t.content r t.fits (signed ∙ ap (λ (o : List ℕ). o ++ r) t.spelled) ∙ ap (λ (o : List ℕ). o ++ r) f.fields in
+    let at_fields = c.inside-fields.ensures.begins 0x30 t.content r t.fits (signed ∙ ap (λ (o : List ℕ). o ++ r) t.encoded) ∙ ap (λ (o : List ℕ). o ++ r) f.fields in
     let no_version : begins_with 0xA0 (y1 ++ r) ≡ false = ap (λ (o : List ℕ). begins_with 0xA0 o) (append_assoc f.serial y2 r) ∙ begins-other f.serialNumber 0xA0 refl (y2 ++ r) in
     let no_subject : begins_with 0x82 (f.last ++ r) ≡ false = begins-if-any 0xA3 AreExplicit f.last cert.tbsCertificate.extensions f.extensions 0x82 refl r (begins-other s.signatureAlgorithm 0x82 refl s.bits) in
     let no_issuer : begins_with 0x81 (y8 ++ r) ≡ false =

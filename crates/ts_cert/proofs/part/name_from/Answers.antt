@@ -15,11 +15,11 @@ invariant_of-result c =
     record {
       form = ∥∥₁_elim c.requires (Prim.hlevel props) (λ r.
           let h = r.1 in
-          let is = c.in-Ok.ensures.only h.spelled.content h.rest h.spelled.fits (ap (λ (p : Place). p.rest) c.at.ensures ∙ (h.here ∙ ap (λ (p : List ℕ). p ++ h.rest) h.spelled.spelled)) in
+          let is = c.in-Ok.ensures.only h.encoded.content h.rest h.encoded.fits (ap (λ (p : Place). p.rest) c.at.ensures ∙ (h.here ∙ ap (λ (p : List ℕ). p ++ h.rest) h.encoded.encoded)) in
           ap is_ok (name-there (now c.in-Ok.element) c.args.octets.now c.args.at r.0 h c.at.result.at is));
     }
 
 pub returns : goal.returns
 returns c x h =
-    let is = c.in-Ok.ensures.only h.spelled.content h.rest h.spelled.fits (ap (λ (p : Place). p.rest) c.at.ensures ∙ (h.here ∙ ap (λ (p : List ℕ). p ++ h.rest) h.spelled.spelled)) in
+    let is = c.in-Ok.ensures.only h.encoded.content h.rest h.encoded.fits (ap (λ (p : Place). p.rest) c.at.ensures ∙ (h.here ∙ ap (λ (p : List ℕ). p ++ h.rest) h.encoded.encoded)) in
     ap (λ (r : Result (List (List Attr)) Fault). result_unwrap_or r []) (name-there (now c.in-Ok.element) c.args.octets.now c.args.at x h c.at.result.at is)

@@ -15,4 +15,4 @@ returns-in-Some-clause-rule c =
     sym (ap (λ (r : Result Certificate CertFault). refusal r) (is-read c.args.octets.now c.in-Some.layout c.in-Some.ensures)) ∙ judged c.args.octets.now
 
 pub returns-in-None-clause-rule : goal.returns-in-None-clause-rule
-returns-in-None-clause-rule c = c.other_layout.ensures.fault ∙ judged c.args.octets.now
+returns-in-None-clause-rule c = c.full_layout.ensures.fault ∙ judged c.args.octets.now

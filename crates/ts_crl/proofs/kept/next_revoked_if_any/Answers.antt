@@ -4,13 +4,13 @@ use Rattle.ts_der.specs.declared.fault.Fault.{Fault}
 use Rattle.ts_der.specs.Answer.{refusal}
 use Rattle.ts_der.specs.View.{now}
 use Rattle.ts_crl.specs.Findings.{Findings}
-use Rattle.ts_crl.specs.List.{StandingEntry}
+use Rattle.ts_crl.specs.List.{LocatedEntry}
 use Rattle.ts_crl.proofs.Lending.{entries-kept, entries-again}
 use Rattle.ts_crl.proofs.kept.next_revoked_if_any.Goals as goal
 
 pub invariant_of-result-clause-read : goal.invariant_of-result-clause-read
 invariant_of-result-clause-read c =
-    ap (λ (r : Result (List StandingEntry) Fault). refusal r)
+    ap (λ (r : Result (List LocatedEntry) Fault). refusal r)
     (entries-kept c.args.first c.args.fields.now (option_map now c.in_ok-element.field-0) (now c.in-Some.element) c.optional.new.self c.in_ok-element.ensures.exact (ap (option_map now) c.in-Some.is) c.requires).0
 
 pub invariant_of-result-clause-found : goal.invariant_of-result-clause-found

@@ -1,4 +1,4 @@
-use Rattle.ts_crl.proofs.OneSpelling.{one-tbs}
+use Rattle.ts_crl.proofs.OneEncoding.{one-tbs}
 use Rattle.ts_crl.proofs.laws.one_signed_content.Goals as goal
 
 pub returns : goal.returns

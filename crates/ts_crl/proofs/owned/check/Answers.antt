@@ -1,13 +1,13 @@
 use Rattle.std.proofs.Common.{Option, arith, sym, subst}
 use Rattle.ts_shape.specs.declared.fault.CertFault.{CertFault}
 use Rattle.ts_crl.specs.Kept.{HavePlace}
-use Rattle.ts_crl.specs.ListView.{standing_list_in}
+use Rattle.ts_crl.specs.ListView.{located_list_in}
 use Rattle.ts_crl.proofs.Lending.{quiet}
 use Rattle.ts_crl.proofs.owned.check.Goals as goal
 
 pub returns-in-None : goal.returns-in-None
 returns-in-None c =
-    let l = standing_list_in c.in_ok-crl.crl in record {
+    let l = located_list_in c.in_ok-crl.crl in record {
       are_octets = λ i. omega (arith, c.type_inv.octets i);
       list = l;
       shape = c.in_ok-crl.ensures;

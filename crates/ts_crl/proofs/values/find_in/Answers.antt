@@ -2,15 +2,15 @@ use Rattle.std.proofs.Common.{List, ap, ◌∙◌}
 use Rattle.std.specs.List.{find}
 use Rattle.std.specs.Prelude.{option_map}
 use Rattle.std.specs.Str.{bytes_eq}
-use Rattle.ts_ext.specs.Extension.{Standing, said}
-use Rattle.ts_ext.specs.ExtensionView.{standing_as}
+use Rattle.ts_ext.specs.Extension.{Located, unlocated}
+use Rattle.ts_ext.specs.ExtensionView.{located_as}
 use Rattle.ts_ext.specs.Known.{identifier_of}
 use Rattle.ts_crl.specs.EntryView.{listed_in}
-use Rattle.ts_crl.proofs.Finds.{said-find, seen-twice}
+use Rattle.ts_crl.proofs.Finds.{unlocated-find, seen-twice}
 use Rattle.ts_crl.proofs.values.find_in.Goals as goal
 
 pub returns : goal.returns
 returns c =
-    let test = λ (x : Standing). bytes_eq x.extnID (identifier_of c.args.known) in
-    seen-twice standing_as said c.find.result
-    ∙ (ap (option_map said) (c.find.ensures ∙ ap (λ (xs : List Standing). find test xs) c.extensions.ensures) ∙ said-find c.args.known (listed_in c.args.list))
+    let test = λ (x : Located). bytes_eq x.extnID (identifier_of c.args.known) in
+    seen-twice located_as unlocated c.find.result
+    ∙ (ap (option_map unlocated) (c.find.ensures ∙ ap (λ (xs : List Located). find test xs) c.extensions.ensures) ∙ unlocated-find c.args.known (listed_in c.args.list))

@@ -1,4 +1,4 @@
-use Rattle.ts_make.proofs.ToldLists.{purposes-told}
+use Rattle.ts_make.proofs.ToldCrls.{purposes-told}
 use Rattle.ts_make.proofs.laws.key_purposes.Goals as goal
 
 pub returns : goal.returns

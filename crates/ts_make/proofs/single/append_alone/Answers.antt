@@ -1,6 +1,6 @@
 use Rattle.std.proofs.Common.{true}
 use Rattle.std.proofs.lemmas.Result.{err_from_is_err_and}
-use Rattle.ts_der.specs.Element.{spell}
+use Rattle.ts_der.specs.Element.{encode}
 use Rattle.ts_make.specs.Serial.{serial_content}
 use Rattle.ts_make.specs.Extensions.{extension, id_ce, basic_constraints_value}
 use Rattle.ts_make.proofs.TooLong.{longer, value-within}
@@ -19,5 +19,5 @@ returns-in_err-append_number-in-InhibitAnyPolicy-InhibitAnyPolicy c =
     let p = err_from_is_err_and c.from_residual-in_err-append_number-in-InhibitAnyPolicy-InhibitAnyPolicy.result c.from_residual-in_err-append_number-in-InhibitAnyPolicy-InhibitAnyPolicy.ensures.1 in
     let e = c.in_err-append_number-in-InhibitAnyPolicy-InhibitAnyPolicy.field-0.0 in
     let h = rw c.new-value.ensures.items at c.in_err-append_number-in-InhibitAnyPolicy-InhibitAnyPolicy.ensures in
-    let within = value-within c.args.octets.now.items (extension (id_ce 54) true (spell 0x02 (serial_content c.in-InhibitAnyPolicy-InhibitAnyPolicy.n))) in
+    let within = value-within c.args.octets.now.items (extension (id_ce 54) true (encode 0x02 (serial_content c.in-InhibitAnyPolicy-InhibitAnyPolicy.n))) in
     rw (p.1, p.2, c.in-InhibitAnyPolicy-InhibitAnyPolicy.is-0, c.in-InhibitAnyPolicy-InhibitAnyPolicy.is-1) (longer e _ _ h within)

@@ -1,9 +1,9 @@
 use Rattle.std.proofs.Common.{◌≡◌, ◌++◌, refl, sym, ◌∙◌, append_assoc}
 use Rattle.std.proofs.lemmas.Result.{err_from_is_err_and}
-use Rattle.ts_der.specs.Element.{spell}
+use Rattle.ts_der.specs.Element.{encode}
 use Rattle.ts_sig.specs.StandIn.{algorithm_identifier}
 use Rattle.ts_cert.specs.declared.version.Version.TheVariants.{V3}
-use Rattle.ts_cert.specs.Spelling.{version_octets}
+use Rattle.ts_cert.specs.Encoding.{version_octets}
 use Rattle.ts_make.specs.TimeView.{time_octets}
 use Rattle.ts_make.specs.Serial.{serial_content}
 use Rattle.ts_make.specs.Made.{name_octets, key_octets, tbs_content}
@@ -17,9 +17,9 @@ unfolding tbs_content
 returns-clause-exact c =
     let version : c.append.new.octets.items ≡ version_octets V3 = c.in_ok-append.ensures ∙ rw (c.new-fields.ensures.items, c.as_slice.ensures) version-3 in
     let algorithm : c.append-2.new.octets.items ≡ c.append_number.new.octets.items ++ algorithm_identifier = c.in_ok-append-2.ensures ∙ rw c.as_slice-2.ensures refl in
-    let serial = spell 0x02 (serial_content c.args.text.now.serial) in
+    let serial = encode 0x02 (serial_content c.args.text.now.serial) in
     let issuer = name_octets c.args.text.now.issuer.now in
-    let period = spell 0x30 (time_octets c.args.before.now ++ time_octets c.args.after.now) in
+    let period = encode 0x30 (time_octets c.args.before.now ++ time_octets c.args.after.now) in
     let subject = name_octets c.args.text.now.subject.now in
     let key = key_octets c.args.text.now.key.now in
     let last = field_octets (described_extensions c.args.text.now.extensions.now) in
@@ -32,9 +32,9 @@ unfolding tbs_content
 returns-in_err-append_extensions-clause-exact c =
     let version : c.append.new.octets.items ≡ version_octets V3 = c.in_ok-append.ensures ∙ rw (c.new-fields.ensures.items, c.as_slice.ensures) version-3 in
     let algorithm : c.append-2.new.octets.items ≡ c.append_number.new.octets.items ++ algorithm_identifier = c.in_ok-append-2.ensures ∙ rw c.as_slice-2.ensures refl in
-    let serial = spell 0x02 (serial_content c.args.text.now.serial) in
+    let serial = encode 0x02 (serial_content c.args.text.now.serial) in
     let issuer = name_octets c.args.text.now.issuer.now in
-    let period = spell 0x30 (time_octets c.args.before.now ++ time_octets c.args.after.now) in
+    let period = encode 0x30 (time_octets c.args.before.now ++ time_octets c.args.after.now) in
     let subject = name_octets c.args.text.now.subject.now in
     let key = key_octets c.args.text.now.key.now in
     let last = field_octets (described_extensions c.args.text.now.extensions.now) in
@@ -50,9 +50,9 @@ unfolding tbs_content
 returns-in_err-append_key-clause-exact c =
     let version : c.append.new.octets.items ≡ version_octets V3 = c.in_ok-append.ensures ∙ rw (c.new-fields.ensures.items, c.as_slice.ensures) version-3 in
     let algorithm : c.append-2.new.octets.items ≡ c.append_number.new.octets.items ++ algorithm_identifier = c.in_ok-append-2.ensures ∙ rw c.as_slice-2.ensures refl in
-    let serial = spell 0x02 (serial_content c.args.text.now.serial) in
+    let serial = encode 0x02 (serial_content c.args.text.now.serial) in
     let issuer = name_octets c.args.text.now.issuer.now in
-    let period = spell 0x30 (time_octets c.args.before.now ++ time_octets c.args.after.now) in
+    let period = encode 0x30 (time_octets c.args.before.now ++ time_octets c.args.after.now) in
     let subject = name_octets c.args.text.now.subject.now in
     let key = key_octets c.args.text.now.key.now in
     let last = field_octets (described_extensions c.args.text.now.extensions.now) in
@@ -68,9 +68,9 @@ unfolding tbs_content
 returns-in_err-append_name-2-clause-exact c =
     let version : c.append.new.octets.items ≡ version_octets V3 = c.in_ok-append.ensures ∙ rw (c.new-fields.ensures.items, c.as_slice.ensures) version-3 in
     let algorithm : c.append-2.new.octets.items ≡ c.append_number.new.octets.items ++ algorithm_identifier = c.in_ok-append-2.ensures ∙ rw c.as_slice-2.ensures refl in
-    let serial = spell 0x02 (serial_content c.args.text.now.serial) in
+    let serial = encode 0x02 (serial_content c.args.text.now.serial) in
     let issuer = name_octets c.args.text.now.issuer.now in
-    let period = spell 0x30 (time_octets c.args.before.now ++ time_octets c.args.after.now) in
+    let period = encode 0x30 (time_octets c.args.before.now ++ time_octets c.args.after.now) in
     let subject = name_octets c.args.text.now.subject.now in
     let key = key_octets c.args.text.now.key.now in
     let last = field_octets (described_extensions c.args.text.now.extensions.now) in
@@ -86,9 +86,9 @@ unfolding tbs_content
 returns-in_err-append_validity-clause-exact c =
     let version : c.append.new.octets.items ≡ version_octets V3 = c.in_ok-append.ensures ∙ rw (c.new-fields.ensures.items, c.as_slice.ensures) version-3 in
     let algorithm : c.append-2.new.octets.items ≡ c.append_number.new.octets.items ++ algorithm_identifier = c.in_ok-append-2.ensures ∙ rw c.as_slice-2.ensures refl in
-    let serial = spell 0x02 (serial_content c.args.text.now.serial) in
+    let serial = encode 0x02 (serial_content c.args.text.now.serial) in
     let issuer = name_octets c.args.text.now.issuer.now in
-    let period = spell 0x30 (time_octets c.args.before.now ++ time_octets c.args.after.now) in
+    let period = encode 0x30 (time_octets c.args.before.now ++ time_octets c.args.after.now) in
     let subject = name_octets c.args.text.now.subject.now in
     let key = key_octets c.args.text.now.key.now in
     let last = field_octets (described_extensions c.args.text.now.extensions.now) in

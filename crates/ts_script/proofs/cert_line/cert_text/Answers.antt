@@ -1,5 +1,5 @@
 -- A name is text.
-use Rattle.ts_script.proofs.Spelling.{IsName-IsUtf8}
+use Rattle.ts_script.proofs.Encoding.{IsName-IsUtf8}
 use Rattle.ts_script.proofs.cert_line.cert_text.Goals as goal
 
 pub returns-in-Err-clause-fault : goal.returns-in-Err-clause-fault

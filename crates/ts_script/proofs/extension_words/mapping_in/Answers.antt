@@ -1,4 +1,4 @@
--- Behind two object identifiers nothing stands.
+-- After two object identifiers nothing stands.
 use Rattle.std.proofs.Common.{◌≡◌, ◌∷◌, ◌∙◌, ℕ, List, Bor, Option, option_map, sym, subst, ap}
 use Rattle.ts_script.specs.Pieces.{pieces_of, pieces_behind}
 use Rattle.ts_script.proofs.Answering.{ok_some}

@@ -1,4 +1,4 @@
--- Each word is read behind those that were.
+-- Each word is read after those that were.
 use Rattle.std.proofs.Common.{◌≡◌, ◌∷◌, ◌∙◌, ◌++◌, [], ℕ, List, Bor, option_map, subst, sym, ap, refl, rules}
 use Rattle.std.specs.List.{flat_map}
 use Rattle.std.proofs.lemmas.Result.{err_from_is_err_and}

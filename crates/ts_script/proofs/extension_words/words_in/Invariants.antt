@@ -1,4 +1,4 @@
--- What was read stands before what is left.
+-- What was read precedes what is left.
 use Rattle.std.proofs.Common.{length, option_map}
 use Rattle.std.specs.List.{flat_map}
 use Rattle.ts_script.specs.Pieces.{pieces_behind}

@@ -4,7 +4,7 @@ use Rattle.std.proofs.lemmas.Grind.{common_steps}
 use Rattle.std.specs.Str.{IsUtf8}
 use Rattle.std.specs.Fmt.{decimal}
 use Rattle.ts_script.specs.Words.{IsNumber}
-use Rattle.ts_script.proofs.Spelling.{IsNumber-IsUtf8, IsNumber-parsed, number_read, refused_ok}
+use Rattle.ts_script.proofs.Encoding.{IsNumber-IsUtf8, IsNumber-parsed, number_read, refused_ok}
 use Rattle.ts_script.proofs.words.number_of.Goals as goal
 
 pub returns-in_err-ok : goal.returns-in_err-ok
@@ -23,11 +23,11 @@ returns-in_err-number c =
 pub returns : goal.returns
 returns c =
     let same : c.in_ok-ok.field-0.now ≡ c.args.word.now = search rules in
-    let spells : c.as_bytes.result.now ≡ decimal c.in_ok-number.number = search rules in
+    let encodes : c.as_bytes.result.now ≡ decimal c.in_ok-number.number = search rules in
     let small : c.in_ok-number.number < 2 ^ 32 = search rules in
     let gives : c.parse.result ≡ Ok c.in_ok-number.number = search rules in
     rw c.then_some.ensures
-    (number_read c.args.word.now c.as_bytes.result.now c.in_ok-number.number c.eq.result spells small c.eq.ensures
+    (number_read c.args.word.now c.as_bytes.result.now c.in_ok-number.number c.eq.result encodes small c.eq.ensures
     (λ n is.
     let parsed = IsNumber-parsed c.in_ok-ok.field-0.now n c.parse.result (subst (λ (w : List ℕ). IsNumber w n) (sym same) is) c.parse.ensures.value.0 in
     cc))

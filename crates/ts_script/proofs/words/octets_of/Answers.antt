@@ -2,7 +2,7 @@
 use Rattle.std.proofs.Common.{rules, ◌≡◌, ◌∙◌, sym, arith, vec_len, length}
 use Rattle.std.proofs.lemmas.Result.{err_from_is_err_and}
 use Rattle.hex.specs.Hex.{encode_lower}
-use Rattle.ts_script.proofs.Spelling.{hex_refused, hex_other, hex_found, IsHex-one, not_is_true, not_is_false}
+use Rattle.ts_script.proofs.Encoding.{hex_refused, hex_other, hex_found, IsHex-one, not_is_true, not_is_false}
 use Rattle.ts_script.proofs.Cutting.{no_items, some_items}
 use Rattle.std.proofs.lemmas.Bool.{eqb-true, eqb-false}
 use Rattle.ts_script.proofs.words.octets_of.Goals as goal
@@ -20,8 +20,8 @@ returns-then-ne-clause-fault c = λ xs is.
     let decodes = c.in_ok-octets.ensures.ok in
     elim c.then-ne.branch [
       | then-ne-via-then-ne w ↦
-          let spells : c.as_bytes.result.now ≡ encode_lower octets.items = search rules in
-          hex_other word xs octets.items c.as_bytes.result.now is decodes spells (not_is_true _ (sym c.ne.ensures ∙ w.if-ne.true))
+          let encodes : c.as_bytes.result.now ≡ encode_lower octets.items = search rules in
+          hex_other word xs octets.items c.as_bytes.result.now is decodes encodes (not_is_true _ (sym c.ne.ensures ∙ w.if-ne.true))
       | then-ne-via-else-ne+then-is_empty w ↦
           let len : vec_len octets ≡ length octets.items = omega (arith, octets.ok.0) in
           let none = eqb-true (vec_len octets) 0 (sym w.is_empty.ensures ∙ w.if-is_empty.true) in
@@ -31,8 +31,8 @@ returns-then-ne-clause-fault c = λ xs is.
 pub returns-clause-found : goal.returns-clause-found
 returns-clause-found c =
     let octets = c.in_ok-octets.octets in
-    let spells : c.as_bytes.result.now ≡ encode_lower octets.items = search rules in
+    let encodes : c.as_bytes.result.now ≡ encode_lower octets.items = search rules in
     let len : vec_len octets ≡ length octets.items = omega (arith, octets.ok.0) in
     let some = eqb-false (vec_len octets) 0 (sym c.is_empty.ensures ∙ c.if-is_empty.false) in
-    hex_found c.args.word.now octets.items c.as_bytes.result.now c.in_ok-octets.ensures.ok spells (not_is_false _ (sym c.ne.ensures ∙ c.if-ne.false))
+    hex_found c.args.word.now octets.items c.as_bytes.result.now c.in_ok-octets.ensures.ok encodes (not_is_false _ (sym c.ne.ensures ∙ c.if-ne.false))
     (some_items octets.items (λ e. some (len ∙ e)))

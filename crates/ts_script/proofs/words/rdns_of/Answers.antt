@@ -2,7 +2,7 @@
 use Rattle.std.proofs.Common.{◌≡◌, ◌∷◌, ℕ, List, Bor, map, option_map}
 use Rattle.ts_script.specs.Pieces.{pieces_behind}
 use Rattle.ts_script.specs.Words.{rdn_word}
-use Rattle.ts_script.proofs.Spelling.{no_dn}
+use Rattle.ts_script.proofs.Encoding.{no_dn}
 use Rattle.ts_script.proofs.words.rdns_of.Goals as goal
 
 abbrev here : Bor (List ℕ) → List ℕ

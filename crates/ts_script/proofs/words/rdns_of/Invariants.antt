@@ -1,4 +1,4 @@
--- What was read stands before what is left.
+-- What was read precedes what is left.
 use Rattle.std.proofs.Common.{◌≡◌, ◌++◌, map, length, option_map}
 use Rattle.ts_make.specs.Sayable.{AreTexts}
 use Rattle.ts_script.specs.Pieces.{pieces_of, pieces_behind}

@@ -1,4 +1,4 @@
--- The messages so far are behind those that were there, as far as there is room.
+-- The messages so far are after those that were there, as far as there is room.
 use Rattle.std.proofs.Common.{◌≡◌, ◌++◌, map, take}
 use Rattle.ts_wire.specs.declared.frame.Frame.TheVariants.{Peer}
 use Rattle.ts_serve.specs.Outbox.{IsOutbox}

@@ -1,6 +1,6 @@
 use Rattle.std.proofs.Common.{sym, ◌∙◌}
 use Rattle.ts_cert.specs.CertView.{cert_in}
-use Rattle.ts_cert.specs.Spelling.{IsCertificate}
+use Rattle.ts_cert.specs.Encoding.{IsCertificate}
 use Rattle.ts_show.proofs.Answered.{is_read, is_not_read}
 use Rattle.ts_show.proofs.kind.are_certificate.Goals as goal
 

@@ -1,6 +1,6 @@
 use Rattle.std.proofs.Common.{sym, ◌∙◌}
 use Rattle.ts_crl.specs.ListView.{crl_in}
-use Rattle.ts_crl.specs.Spelling.{IsCertificateList}
+use Rattle.ts_crl.specs.Encoding.{IsCertificateList}
 use Rattle.ts_show.proofs.Answered.{is_read, is_not_read}
 use Rattle.ts_show.proofs.kind.are_list.Goals as goal
 

@@ -3,7 +3,7 @@ use Rattle.ts_shape.proofs.Walks.{IfOk-answers, IsOkAnd-answers}
 use Rattle.ts_cert.specs.Certificate.{Certificate}
 use Rattle.ts_cert.specs.CertView.{cert_in}
 use Rattle.ts_cert.specs.Reading.{certificate_of}
-use Rattle.ts_cert.specs.Spelling.{IsCertificate}
+use Rattle.ts_cert.specs.Encoding.{IsCertificate}
 use Rattle.ts_cert.proofs.Judging.{fault-judged}
 use Rattle.ts_cert.proofs.Certificates.{certificate-found, certificate-again}
 use Rattle.ts_cert.proofs.certificate.Cert.read.Goals as goal

@@ -2,7 +2,7 @@ use Rattle.std.proofs.Common.{◌≡◌, ℕ, List, subst, sym, ap, ◌∙◌}
 use Rattle.ts_cert.specs.CertView.{certificate_in}
 use Rattle.ts_cert.specs.Layout.{AreLaidOut}
 use Rattle.ts_cert.specs.Reading.{certificate_of}
-use Rattle.ts_cert.specs.Spelling.{IsCertificate}
+use Rattle.ts_cert.specs.Encoding.{IsCertificate}
 use Rattle.ts_cert.proofs.Held.{is-read, is-certificate}
 use Rattle.ts_cert.proofs.owned.OwnedCert.view.Goals as goal
 

@@ -1,7 +1,7 @@
 use Rattle.std.proofs.Common.{arith}
 use Rattle.ts_crl.specs.Fault.{fault_in}
 use Rattle.ts_crl.specs.ListView.{crl_in}
-use Rattle.ts_crl.specs.Spelling.{IsCertificateList}
+use Rattle.ts_crl.specs.Encoding.{IsCertificateList}
 use Rattle.ts_crl.specs.Table.{crl_of}
 use Rattle.ts_crl.proofs.Crls.{crl-found, crl-again}
 use Rattle.ts_crl.proofs.Judging.{fault-judged, found-by, read-by}

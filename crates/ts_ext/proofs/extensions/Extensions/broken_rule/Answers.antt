@@ -1,7 +1,7 @@
 use Rattle.std.proofs.Common.{sym, ◌∙◌}
 use Rattle.ts_der.specs.Element.{inside}
 use Rattle.ts_der.specs.View.{now}
-use Rattle.ts_ext.proofs.Soundness.{sound}
+use Rattle.ts_ext.proofs.ValidExtensions.{sound}
 use Rattle.ts_ext.proofs.extensions.Extensions.broken_rule.Goals as goal
 
 pub returns-clause-sound : goal.returns-clause-sound

@@ -2,11 +2,11 @@ use Rattle.std.proofs.Common.{◌≡◌}
 use Rattle.std.specs.List.{find}
 use Rattle.std.specs.Str.{bytes_eq}
 use Rattle.ts_shape.specs.Items.{items_at}
-use Rattle.ts_ext.specs.Extension.{standing_in}
-use Rattle.ts_ext.specs.ExtensionView.{standings_in}
+use Rattle.ts_ext.specs.Extension.{located_in}
+use Rattle.ts_ext.specs.ExtensionView.{all_located_in}
 use Rattle.ts_ext.specs.Known.{identifier_of}
 use Rattle.ts_ext.proofs.extensions.Extensions.find.Given as goal
 
 abbrev pub invariant-loop-extension : goal.invariant-loop-extension
 invariant-loop-extension l =
-    find (λ x. bytes_eq x.extnID (identifier_of l.fn.known)) (standings_in l.fn.self) ≡ find (λ x. bytes_eq x.extnID (identifier_of l.fn.known)) (items_at standing_in l.extension-iterator.rest)
+    find (λ x. bytes_eq x.extnID (identifier_of l.fn.known)) (all_located_in l.fn.self) ≡ find (λ x. bytes_eq x.extnID (identifier_of l.fn.known)) (items_at located_in l.extension-iterator.rest)

@@ -1,7 +1,7 @@
 use Rattle.ts_der.specs.View.{now}
 use Rattle.ts_ext.proofs.ExtensionParts.{extensions-format}
 use Rattle.ts_ext.proofs.Formats.{is_found, is_read, is_fault}
-use Rattle.ts_ext.proofs.Said.{say}
+use Rattle.ts_ext.proofs.Unlocated.{say}
 use Rattle.ts_ext.specs.ExtensionView.{extensions_in}
 use Rattle.ts_ext.proofs.extensions.Extensions.read.Goals as goal
 

@@ -1,6 +1,6 @@
 use Rattle.std.proofs.Common.{◌≡◌, refl}
 use Rattle.ts_der.specs.View.{now}
-use Rattle.ts_name.specs.NameSpelling.{IsName}
+use Rattle.ts_name.specs.NameEncoding.{IsName}
 use Rattle.ts_name.specs.NameView.{rdns_in}
 use Rattle.ts_shape.proofs.Walks.{IfOk-answers, IsOkAnd-answers}
 use Rattle.ts_shape.proofs.Judging.{about-judged, no_less}

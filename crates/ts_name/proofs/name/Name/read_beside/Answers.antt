@@ -9,7 +9,7 @@ use Rattle.ts_der.specs.Reading.{many}
 use Rattle.ts_der.specs.View.{now}
 use Rattle.ts_name.specs.Canon.{Attr}
 use Rattle.ts_name.specs.Names.{name_of, rdns_from, are_rdns, rdn_at}
-use Rattle.ts_name.specs.NameSpelling.{IsName}
+use Rattle.ts_name.specs.NameEncoding.{IsName}
 use Rattle.ts_shape.proofs.Walks.{ok_unwrapped}
 use Rattle.ts_name.proofs.Shapes.{name-found, name-again}
 use Rattle.ts_name.proofs.name.Name.read_beside.Goals as goal

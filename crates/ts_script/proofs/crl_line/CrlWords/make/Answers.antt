@@ -2,15 +2,15 @@
 use Rattle.std.proofs.Common.{◌∙◌, refl, subst, ap, ℤ, ℕ, List, sym}
 use Rattle.std.proofs.lemmas.Result.{err_from_is_err_and}
 use Rattle.ts_time.specs.Text.{IsGeneral}
-use Rattle.ts_make.specs.declared.list_description.CrlText.{CrlText}
-use Rattle.ts_make.specs.ListMade.{made_list}
-use Rattle.ts_script.specs.ListWords.{ListPart, Gather, AreFields, fields_of}
-use Rattle.ts_script.specs.OwnedList.{list_parts}
+use Rattle.ts_make.specs.declared.crl_description.CrlText.{CrlText}
+use Rattle.ts_make.specs.CrlMade.{made_crl}
+use Rattle.ts_script.specs.CrlLineWords.{CrlPart, Gather, AreFields, fields_of}
+use Rattle.ts_script.specs.CrlParts.{crl_parts}
 use Rattle.ts_script.specs.Known.{known_in, thing_in, named}
-use Rattle.ts_script.specs.CrlLine.{list_words, IsListSaid, IsNoList}
+use Rattle.ts_script.specs.CrlLine.{crl_words, IsListSaid, IsNoCrl}
 use Rattle.ts_script.proofs.Answering.{form_of_none, some_of_ok, found_some, found_none}
-use Rattle.ts_script.proofs.ListReading.{one_list_words}
-use Rattle.ts_script.proofs.OneList.{refuses_list, list_long, list_unreadable, list_stands, long_list, one_list_made}
+use Rattle.ts_script.proofs.CrlReading.{one_crl_words}
+use Rattle.ts_script.proofs.OneList.{refuses_crl, crl_long, crl_unreadable, crl_stands, long_crl, one_crl_made}
 use Rattle.ts_script.proofs.crl_line.CrlWords.make.Goals as goal
 
 abbrev NoTime : List ℕ → Type 0
@@ -34,10 +34,10 @@ pub returns-in_err-fields-clause-fault : goal.returns-in_err-fields-clause-fault
 returns-in_err-fields-clause-fault c =
     let words = c.args.self.now in
     let p = err_from_is_err_and c.from_residual-in_err-fields.result c.from_residual-in_err-fields.ensures.1 in
-    rw (p.1, p.2) (refuses_list (known_in c.args.known.now) words c.in_err-fields.field-0.0 c.in_err-fields.ensures.fault (λ none octets made.
+    rw (p.1, p.2) (refuses_crl (known_in c.args.known.now) words c.in_err-fields.field-0.0 c.in_err-fields.ensures.fault (λ none octets made.
     let fields = made.1.fields in
-    let parts = one_list_words (list_words words) fields.parts (list_parts c.in_ok-words.words.items) fields.said c.in_ok-words.ensures.found in
-    absurd (none (fields_of made.0) (subst (λ (ps : List ListPart). Gather ps (fields_of made.0)) (parts ∙ ap list_parts (sym c.deref.ensures.value)) fields.gather))))
+    let parts = one_crl_words (crl_words words) fields.parts (crl_parts c.in_ok-words.words.items) fields.said c.in_ok-words.ensures.found in
+    absurd (none (fields_of made.0) (subst (λ (ps : List CrlPart). Gather ps (fields_of made.0)) (parts ∙ ap crl_parts (sym c.deref.ensures.value)) fields.gather))))
 
 pub returns-in-Err-TooLong-clause-fault : goal.returns-in-Err-TooLong-clause-fault
 returns-in-Err-TooLong-clause-fault c =
@@ -56,8 +56,8 @@ returns-in-Err-TooLong-clause-fault c =
       uris = c.deref-6.result;
       critical = c.deref-7.result;
     } in
-    let fields : AreFields (list_words words) (fields_of text) = record {
-      parts = list_parts c.deref.result.now;
+    let fields : AreFields (crl_words words) (fields_of text) = record {
+      parts = crl_parts c.deref.result.now;
       said = rw c.deref.ensures.value c.in_ok-words.ensures.found;
       gather = rw (c.deref-4.ensures.value, c.deref-5.ensures.value, c.deref-6.ensures.value, c.deref-7.ensures.value) c.in_ok-fields.ensures.found;
     } in
@@ -69,11 +69,11 @@ returns-in-Err-TooLong-clause-fault c =
       fields = fields;
     } in
     let made = c.make_crl-made.ensures.made in
-    let octets = made_list made.0 made.1 text in
-    let long = list_long c.make_crl-made.result c.in-Err-TooLong.field-0 octets made.4 c.in-Err-TooLong.is (rw c.in-Err-TooLong.is at c.in-Err-TooLong.field-0-is) in (
+    let octets = made_crl made.0 made.1 text in
+    let long = crl_long c.make_crl-made.result c.in-Err-TooLong.field-0 octets made.4 c.in-Err-TooLong.is (rw c.in-Err-TooLong.is at c.in-Err-TooLong.field-0-is) in (
       octets,
       (text, said, made.0, made.1, made.2, made.3, refl),
-      long_list octets long,
+      long_crl octets long,
       found_some (λ one. thing_in one.now) c.find.result (named (known_in c.args.known.now) words.name.now) (sym c.is_some-is_taken.ensures ∙ c.if-is_taken.true) c.find.ensures,
     )
 
@@ -94,8 +94,8 @@ returns-in-Err-TooLong-2-clause-fault c =
       uris = c.deref-6.result;
       critical = c.deref-7.result;
     } in
-    let fields : AreFields (list_words words) (fields_of text) = record {
-      parts = list_parts c.deref.result.now;
+    let fields : AreFields (crl_words words) (fields_of text) = record {
+      parts = crl_parts c.deref.result.now;
       said = rw c.deref.ensures.value c.in_ok-words.ensures.found;
       gather = rw (c.deref-4.ensures.value, c.deref-5.ensures.value, c.deref-6.ensures.value, c.deref-7.ensures.value) c.in_ok-fields.ensures.found;
     } in
@@ -107,8 +107,8 @@ returns-in-Err-TooLong-2-clause-fault c =
       fields = fields;
     } in
     let made = c.make_crl-made.ensures.made in
-    let octets = made_list made.0 made.1 text in
-    let long = list_long c.make_crl-made.result c.in-Err-TooLong-2.field-0 octets made.4 c.in-Err-TooLong-2.is (rw c.in-Err-TooLong-2.is at c.in-Err-TooLong-2.field-0-is) in (
+    let octets = made_crl made.0 made.1 text in
+    let long = crl_long c.make_crl-made.result c.in-Err-TooLong-2.field-0 octets made.4 c.in-Err-TooLong-2.is (rw c.in-Err-TooLong-2.is at c.in-Err-TooLong-2.field-0-is) in (
       octets,
       (text, said, made.0, made.1, made.2, made.3, refl),
       found_none (λ one. thing_in one.now) c.find.result (named (known_in c.args.known.now) words.name.now) (sym c.is_some-is_taken.ensures ∙ c.if-is_taken.false) c.find.ensures,
@@ -132,8 +132,8 @@ returns-in-Ok-clause-fault c =
       uris = c.deref-6.result;
       critical = c.deref-7.result;
     } in
-    let fields : AreFields (list_words words) (fields_of text) = record {
-      parts = list_parts c.deref.result.now;
+    let fields : AreFields (crl_words words) (fields_of text) = record {
+      parts = crl_parts c.deref.result.now;
       said = rw c.deref.ensures.value c.in_ok-words.ensures.found;
       gather = rw (c.deref-4.ensures.value, c.deref-5.ensures.value, c.deref-6.ensures.value, c.deref-7.ensures.value) c.in_ok-fields.ensures.found;
     } in
@@ -145,10 +145,10 @@ returns-in-Ok-clause-fault c =
       fields = fields;
     } in
     let made = c.make_crl-made.ensures.made in
-    let octets = made_list made.0 made.1 text in (
+    let octets = made_crl made.0 made.1 text in (
       octets,
       (text, said, made.0, made.1, made.2, made.3, refl),
-      list_stands c.make_crl-made.result c.in-Ok.field-0 octets made.4 c.in-Ok.is,
+      crl_stands c.make_crl-made.result c.in-Ok.field-0 octets made.4 c.in-Ok.is,
       found_some (λ one. thing_in one.now) c.find.result (named (known_in c.args.known.now) words.name.now) (sym c.is_some-is_taken.ensures ∙ c.if-is_taken-2.true) c.find.ensures,
     )
 
@@ -169,8 +169,8 @@ returns-in-Err-Unreadable-clause-fault c = λ octets is.
       uris = c.deref-6.result;
       critical = c.deref-7.result;
     } in
-    let fields : AreFields (list_words words) (fields_of text) = record {
-      parts = list_parts c.deref.result.now;
+    let fields : AreFields (crl_words words) (fields_of text) = record {
+      parts = crl_parts c.deref.result.now;
       said = rw c.deref.ensures.value c.in_ok-words.ensures.found;
       gather = rw (c.deref-4.ensures.value, c.deref-5.ensures.value, c.deref-6.ensures.value, c.deref-7.ensures.value) c.in_ok-fields.ensures.found;
     } in
@@ -182,7 +182,7 @@ returns-in-Err-Unreadable-clause-fault c = λ octets is.
       fields = fields;
     } in
     let made = c.make_crl-made.ensures.made in
-    let here = made_list made.0 made.1 text in
-    let one = one_list_made words here octets (text, said, made.0, made.1, made.2, made.3, refl) is in
-    let because = list_unreadable c.make_crl-made.result c.in-Err-Unreadable.field-0 c.in-Err-Unreadable.field-0-0 here made.4 c.in-Err-Unreadable.is (rw c.in-Err-Unreadable.is at c.in-Err-Unreadable.field-0-is) in
-    subst IsNoList one because
+    let here = made_crl made.0 made.1 text in
+    let one = one_crl_made words here octets (text, said, made.0, made.1, made.2, made.3, refl) is in
+    let because = crl_unreadable c.make_crl-made.result c.in-Err-Unreadable.field-0 c.in-Err-Unreadable.field-0-0 here made.4 c.in-Err-Unreadable.is (rw c.in-Err-Unreadable.is at c.in-Err-Unreadable.field-0-is) in
+    subst IsNoCrl one because

@@ -1,12 +1,12 @@
 -- The words are read in their places, or they do not stand there.
 use Rattle.std.proofs.Common.{◌∷◌, List, ℕ, codes}
 use Rattle.ts_script.specs.declared.crl_line.CrlWords.{CrlWords}
-use Rattle.ts_script.specs.CrlLine.{crl_line, list_words}
+use Rattle.ts_script.specs.CrlLine.{crl_line, crl_words}
 use Rattle.ts_script.proofs.Cutting.{behind_two}
 use Rattle.ts_script.proofs.crl_line.CrlWords.of.Goals as goal
 
 abbrev from_signer : CrlWords → List (List ℕ)
-from_signer w = codes "signer" ∷ w.signer.now ∷ list_words w
+from_signer w = codes "signer" ∷ w.signer.now ∷ crl_words w
 
 pub returns-in_err-next_update : goal.returns-in_err-next_update
 unfolding crl_line
@@ -23,4 +23,4 @@ returns-in_err-signer c =
     let issuer = behind_two c.in_ok-name.ensures is.0 in
     let this = behind_two c.in_ok-issuer.ensures issuer in
     let next = behind_two c.in_ok-this_update.ensures this in
-    c.in_err-signer.ensures w.signer.now (list_words w) (behind_two c.in_ok-next_update.ensures next))
+    c.in_err-signer.ensures w.signer.now (crl_words w) (behind_two c.in_ok-next_update.ensures next))

@@ -1,4 +1,4 @@
--- A word is cut behind its keyword, and says what its value does.
+-- A word is cut after its keyword, and says what its value does.
 use Rattle.std.proofs.Common.{◌≡◌, ◌≢◌, ◌∷◌, ℕ, List, Bor, Option, Some, None, option_map, subst}
 use Rattle.std.proofs.lemmas.Result.{IfOk-weaker, IfErr-weaker, err_from_is_err_and}
 use Rattle.ts_script.specs.declared.keyword.Keyword.{Keyword}

@@ -1,4 +1,4 @@
-use Rattle.ts_store.proofs.Spelled.{found_octets, no_octets}
+use Rattle.ts_store.proofs.Encoded.{found_octets, no_octets}
 use Rattle.ts_store.proofs.codec.CommandCodec.read.Goals as goal
 
 pub returns-clause-found : goal.returns-clause-found

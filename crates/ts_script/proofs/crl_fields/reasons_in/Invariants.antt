@@ -1,0 +1,9 @@
+-- What was gathered is what the words so far say.
+use Rattle.std.proofs.Common.{◌≡◌, take}
+use Rattle.std.specs.List.{flat_map}
+use Rattle.ts_script.specs.CrlLineWords.{reasons_said}
+use Rattle.ts_script.specs.CrlParts.{crl_parts}
+use Rattle.ts_script.proofs.crl_fields.reasons_in.Given as goal
+
+abbrev pub invariant-loop-word : goal.invariant-loop-word
+invariant-loop-word l = l.reasons.items ≡ flat_map reasons_said (crl_parts (take l.word-index l.words))

@@ -1,9 +1,0 @@
--- What was gathered is what the words so far say.
-use Rattle.std.proofs.Common.{◌≡◌, map, take}
-use Rattle.std.specs.List.{flat_map}
-use Rattle.ts_script.specs.ListWords.{critical_said}
-use Rattle.ts_script.specs.OwnedList.{list_parts}
-use Rattle.ts_script.proofs.list_fields.critical_in.Given as goal
-
-abbrev pub invariant-loop-word : goal.invariant-loop-word
-invariant-loop-word l = map (λ oid. oid.content.now) l.oids.items ≡ flat_map critical_said (list_parts (take l.word-index l.words))

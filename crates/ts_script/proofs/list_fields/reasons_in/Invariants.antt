@@ -1,9 +1,0 @@
--- What was gathered is what the words so far say.
-use Rattle.std.proofs.Common.{◌≡◌, take}
-use Rattle.std.specs.List.{flat_map}
-use Rattle.ts_script.specs.ListWords.{reasons_said}
-use Rattle.ts_script.specs.OwnedList.{list_parts}
-use Rattle.ts_script.proofs.list_fields.reasons_in.Given as goal
-
-abbrev pub invariant-loop-word : goal.invariant-loop-word
-invariant-loop-word l = l.reasons.items ≡ flat_map reasons_said (list_parts (take l.word-index l.words))

@@ -1,6 +1,0 @@
-use Rattle.std.proofs.Common.{◌≡◌, drop}
-use Rattle.ts_shape.specs.Suspects.{hash_from}
-use Rattle.ts_shape.proofs.suspects.flag_of.Given as goal
-
-abbrev pub invariant-loop-octet : goal.invariant-loop-octet
-invariant-loop-octet g l = hash_from l.factor 0 l.key ≡ hash_from l.factor l.hash (drop l.octet-index l.key)
