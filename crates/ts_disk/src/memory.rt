@@ -1,5 +1,5 @@
 // A disk in memory, which keeps a record of its calls, and fails when a test wants it to.
-ghost use Rattle.std.specs.Prelude.{◌≡◌, IfOk, ◌⊎◌, ◌<◌, ◌≤◌, ◌^◌, ◌-◌, [], ◌∷◌, ◌++◌, length, true, Some, None, Err, OnOk, OnErr, IfErr, IsErr};
+ghost use Rattle.std.specs.Prelude.{◌≡◌, IfOk, ◌⊎◌, ◌<◌, ◌≤◌, ◌^◌, ◌-◌, List, ℕ, [], ◌∷◌, ◌++◌, length, true, Some, None, Err, OnOk, OnErr, IfErr, IsErr};
 ghost use Rattle.ts_disk.specs.declared.call.DiskCall.TheVariants.{Read, Write, Sync};
 ghost use Rattle.ts_disk.specs.declared.fault.DiskFault.TheVariants.{Failed};
 ghost use Rattle.ts_disk.specs.declared.crash.Torn.TheVariants.{New};
@@ -67,6 +67,8 @@ impl MemDisk {
     /// Lets this many more calls pass; each later one fails.
     pub fn set_fuse(&mut self, passing: u64)
         ensures octets { (state_of self.new).read ≡ (state_of self.old).read }
+        ensures failures { (state_of self.new).failures ≡ (state_of self.old).failures }
+        ensures images { (image : List ℕ) → (state_of self.new).may_leave image → (state_of self.old).may_leave image }
         ensures calls { calls_of self.new ≡ calls_of self.old }
         ensures plan { plan_of self.new ≡ record {
           made = (plan_of self.old).made;
@@ -80,6 +82,8 @@ impl MemDisk {
     /// Lets one call alone fail: the next one for 1.
     pub fn fail_at(&mut self, call: u64)
         ensures octets { (state_of self.new).read ≡ (state_of self.old).read }
+        ensures failures { (state_of self.new).failures ≡ (state_of self.old).failures }
+        ensures images { (image : List ℕ) → (state_of self.new).may_leave image → (state_of self.old).may_leave image }
         ensures calls { calls_of self.new ≡ calls_of self.old }
         ensures plan { plan_of self.new ≡ record {
           made = (plan_of self.old).made;

@@ -11,8 +11,6 @@ mod bit_tests;
 mod certificate_policies;
 mod checked_extensions;
 mod checks;
-#[cfg(test)]
-mod constraint_tests;
 mod crl_number;
 mod distribution_point;
 mod distribution_points;
@@ -35,16 +33,12 @@ mod key_usage;
 mod known;
 pub mod laws;
 mod name_constraints;
-#[cfg(test)]
-mod name_value_tests;
 mod named_bits;
 mod policy_constraints;
 mod policy_information;
 mod policy_mapping;
 mod policy_mappings;
 mod policy_qualifier;
-#[cfg(test)]
-mod policy_tests;
 mod reason_code;
 mod reason_flag;
 mod reason_flags;

@@ -71,53 +71,6 @@ fn numbers_of_lists(rt: HostRuntime) {
     }
 }
 
-fn count(octets: &[u8]) -> Result<u32, Fault> {
-    Ok(SkipCerts::read(value(octets)?)?.0)
-}
-
-const COUNTS: [(&[u8], Result<u32, Refusal>); 4] = [
-    (b"\x04\x03\x02\x01\x00", Ok(0)),
-    (b"\x04\x07\x02\x05\x00\xff\xff\xff\xff", Ok(4_294_967_295)),
-    (
-        b"\x04\x07\x02\x05\x01\x00\x00\x00\x00",
-        Err((DerFault::TooLarge, 2)),
-    ),
-    (b"\x04\x03\x02\x01\xff", Err((DerFault::IntegerForm, 2))),
-];
-
-#[test]
-fn counts_have_32_bits(rt: HostRuntime) {
-    for (octets, wanted) in COUNTS {
-        assert_eq!(rt; answer(count(octets)), wanted);
-    }
-}
-
-fn reason(octets: &[u8]) -> Result<ReasonCode, Fault> {
-    ReasonCode::read(value(octets)?)
-}
-
-const REASONS: [(&[u8], Result<ReasonCode, Refusal>); 10] = [
-    (b"\x04\x03\x0a\x01\x00", Ok(ReasonCode::Unspecified)),
-    (b"\x04\x03\x0a\x01\x01", Ok(ReasonCode::KeyCompromise)),
-    (b"\x04\x03\x0a\x01\x06", Ok(ReasonCode::CertificateHold)),
-    (b"\x04\x03\x0a\x01\x08", Ok(ReasonCode::RemoveFromCrl)),
-    (b"\x04\x03\x0a\x01\x0a", Ok(ReasonCode::AaCompromise)),
-    // The number of no reason.
-    (b"\x04\x03\x0a\x01\x07", Err((DerFault::IntegerForm, 2))),
-    (b"\x04\x03\x0a\x01\x0b", Err((DerFault::IntegerForm, 2))),
-    (b"\x04\x03\x0a\x01\xff", Err((DerFault::IntegerForm, 2))),
-    // Two octets; none.
-    (b"\x04\x04\x0a\x02\x00\x01", Err((DerFault::IntegerForm, 2))),
-    (b"\x04\x02\x0a\x00", Err((DerFault::IntegerForm, 2))),
-];
-
-#[test]
-fn reasons_have_ten_numbers(rt: HostRuntime) {
-    for (octets, wanted) in REASONS {
-        assert_eq!(rt; answer(reason(octets)), wanted);
-    }
-}
-
 /// The seconds that a date names.
 fn seconds(octets: &[u8]) -> Result<i64, Fault> {
     Ok(InvalidityDate::read(value(octets)?)?.moment().0)
