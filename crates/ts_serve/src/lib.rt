@@ -18,7 +18,7 @@
 //! |---|---|
 //! | [`Server::new`], [`Server::close`] | the node, given back too where memory is refused |
 //! | [`serve`] | `served`: where the reader tells its octets, what is written is the text of the answers to the requests at the front of the stream, each a turn of the server (`specs/Turn`, in the words of `Node::handle`), and nothing else; Ok where that is all of the stream, `Cut` where less than a frame is left, `Frame` at the fault after them, whose answer comes last; at another fault what is written is a front of such a text, and the server is after the requests that were taken (`specs/Stream`). `exact`: the requests are those among the frames that the stream splits into. `run`: whatever is read, the server is after a run of turns. `sound` |
-//! | [`listen`] | `run`, `sound`; `fault`: no fault but `Read` |
+//! | [`listen`] | `run`, `sound`; `fault`: no fault but `Read`. A client that is waited for longer than [`LONGEST_WAIT`] seconds loses its connection; no clause says so |
 //! | [`ServerPeer::exchange`](Peer::exchange) | `served`: the answers are those of `serve` to the whole stream |
 //! | [`TcpPeer::exchange`](Peer::exchange), [`carry`] | they end, and each peer can be asked again; what they carry and count is shown by tests |
 //!
@@ -44,6 +44,7 @@ mod test_ids;
 mod test_machine;
 #[cfg(test)]
 mod tests;
+mod waiting;
 
 pub use carrying::carry;
 pub use fault::ServeFault;
@@ -52,3 +53,4 @@ pub use outbox::MAX_WAITING;
 pub use peer::{Peer, ServerPeer, TcpPeer};
 pub use server::Server;
 pub use serving::{READ_LIMIT, serve};
+pub use waiting::LONGEST_WAIT;

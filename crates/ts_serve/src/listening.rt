@@ -12,6 +12,7 @@ ghost use Rattle.ts_serve.specs.Stream.{Run};
 use crate::fault::ServeFault;
 use crate::server::Server;
 use crate::serving::serve;
+use crate::waiting::limit_waits;
 use std::io::BufWriter;
 use std::net::{TcpListener, TcpStream};
 use ts_disk::Disk;
@@ -19,7 +20,8 @@ use ts_node::Machine;
 use ts_question::{Answer, Question};
 use ts_store::{Command, Outcome};
 
-/// Serves one connection, whatever becomes of it.
+/// Serves one connection, whatever becomes of it. A client that neither sends nor reads for [`LONGEST_WAIT`](crate::LONGEST_WAIT) seconds loses it, so
+/// that it does not keep others out.
 fn serve_connection<D, M>(server: &mut Server<D, M>, stream: &TcpStream)
 where
     D: Disk,
@@ -28,6 +30,9 @@ where
     ensures run { (requests answers : List Request) × Run (Turn D.state (store_of Asked M.client_id M.outcome) M.basis M.is_answer) server.old requests answers server.new }
     ensures sound { IsSound D.state octets_of M.commands server.new.node }
 {
+    if limit_waits(stream).is_err() {
+        return;
+    }
     let Ok(mut writer) = BufWriter::new(server.allocator(), stream) else {
         return;
     };
@@ -35,7 +40,8 @@ where
     let _ = serve(server, &mut reader, &mut writer);
 }
 
-/// Accepts this many connections, and serves them one after the other. A fault of a connection ends its own stream alone.
+/// Accepts this many connections, and serves them one after the other. A fault of a connection ends its own stream alone, and so does a client
+/// that is waited for longer than [`LONGEST_WAIT`](crate::LONGEST_WAIT) seconds.
 ///
 /// # Errors
 ///

@@ -12,6 +12,7 @@ use crate::fault::ServeFault;
 use crate::sending::write_octets;
 use crate::server::Server;
 use crate::serving::{READ_LIMIT, serve};
+use crate::waiting::limit_waits;
 use std::alloc::Global;
 use std::io::{ErrorKind, Read};
 use std::net::{Net, OpenStream, Shutdown, TcpStream};
@@ -84,11 +85,15 @@ impl<'a, N: Net> TcpPeer<'a, N> {
 impl<N: Net> Peer for TcpPeer<'_, N> {
     ghost is_ready = { λ _. Unit {0} };
 
-    /// `Write` where the connection is not made, or a write fails; `Read` and `ReadLimit` as the answers are read; `Memory`.
+    /// `Write` where the connection is not made, or a write fails; `Read` and `ReadLimit` as the answers are read; `Memory`. A read or write that
+    /// waits longer than [`LONGEST_WAIT`](crate::LONGEST_WAIT) seconds fails.
     fn exchange(&mut self, octets: &[u8]) -> Result<Vec<u8>, ServeFault> {
         let Ok(mut stream) = TcpStream::connect(self.net, self.address.as_str()) else {
             return Err(ServeFault::Write);
         };
+        if limit_waits(&stream).is_err() {
+            return Err(ServeFault::Write);
+        }
         write_octets(&mut stream, octets)?;
         if stream.shutdown(Shutdown::Write).is_err() {
             return Err(ServeFault::Write);
