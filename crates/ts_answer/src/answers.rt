@@ -50,8 +50,8 @@ fn store_of(alloc: Global, commands: &[Command]) -> Result<Store, AllocError>
     Ok(store)
 }
 
-/// An answer, each field of which is in its range. That the ranges are kept follows from the definition of a reply, and isn't proved here;
-/// what is out of range is refused as memory is.
+/// An answer, each field of which is in its range. That a reply keeps the ranges follows from its definition, and isn't proved here; what is out
+/// of range, as a k above 1,000,000 is, which no question has, is refused as memory is.
 fn answer_of(k: u32, reply: Reply) -> Result<Answer, AllocError>
     ensures { IfOk result (λ answer. answer ≡ record { k = k; reply = reply }) }
 {
@@ -141,7 +141,7 @@ impl<S: SignatureCheck> Answers<S> {
     ///
     /// # Errors
     ///
-    /// Memory that is refused.
+    /// Memory that is refused; and for a k above 1,000,000, which no question has.
     pub fn answer(&self, k: u32, question: &Question) -> Result<Answer, AllocError>
         ensures answer { k ≤ length self.now.commands → IfOk result (IsAnswer (S.accepts self.now.check) (take k self.now.commands) question.now) }
         ensures not_yet { length self.now.commands < k → IfOk result (λ answer. answer ≡ record { k = k; reply = NotYet (length self.now.commands) }) }

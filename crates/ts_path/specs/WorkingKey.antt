@@ -1,4 +1,4 @@
--- The key under which a certificate's signature is checked (RFC 5280 6.1.1 (d), 6.1.2 (g) to (i), 6.1.4 (c) to (f)).
+-- The key under which a certificate's signature is checked (RFC 5280 6.1.1 (d), 6.1.2 (g) to (i), 6.1.4 (d) to (f)).
 use Rattle.std.specs.Prelude.{◌≡◌, ℕ, Bool, true, false, List, [], ◌∷◌, ◌++◌, Option, Some, None, if◌then◌else◌}
 use Rattle.std.specs.List.{AllByRecursion}
 use Rattle.std.specs.Str.{bytes_eq}

@@ -1,6 +1,6 @@
 //! What a verdict depends on beside the anchor and the chain.
 
-ghost use Rattle.std.specs.Prelude.{◌≡◌};
+ghost use Rattle.std.specs.Prelude.{◌≡◌, [], None, false};
 
 use ts_name::Subtree;
 use ts_time::Moment;
@@ -35,6 +35,10 @@ impl<'a> Inputs<'a> {
     /// whose status can't be determined.
     pub fn at(moment: Moment) -> Inputs<'a>
         ensures moment { result.moment ≡ moment }
+        ensures purpose { result.purpose ≡ None }
+        ensures policies { (result.user_policies.now ≡ []) × (result.explicit_policy ≡ false) × (result.inhibit_policy_mapping ≡ false) × (result.inhibit_any_policy ≡ false) }
+        ensures names { (result.permitted_subtrees.now ≡ []) × (result.excluded_subtrees.now ≡ []) }
+        ensures revocation { (result.hard ≡ false) × (result.use_deltas ≡ false) }
     {
         Inputs {
             moment,

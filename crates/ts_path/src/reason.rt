@@ -26,7 +26,7 @@ pub enum Reason<'a> {
     Undetermined,
     /// The issuer is not the subject of the certificate before: 6.1.3 (a) (4).
     IssuerName,
-    /// A name of a form whose constraints are not processed is constrained: 6.1.3 (b), (c).
+    /// A name of a form whose constraints are not processed is constrained: 4.2.1.10.
     UnsupportedConstraint,
     /// A name lies in no permitted subtree: 6.1.3 (b).
     NotPermitted,

@@ -1,5 +1,4 @@
 mod Sets
 mod Walks
-pub mod SameNames
 mod ByList
 mod Reaching

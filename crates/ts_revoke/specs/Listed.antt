@@ -1,16 +1,13 @@
 -- What a CRL, with its delta CRL, says of the certificate's serial number (RFC 5280 6.3.3 (c), (h) to (k)).
-use Rattle.std.specs.Prelude.{ℕ, ◌&&◌, Bool, true, false, List, Option, Some, None, unwrap_or, option_map, if◌then◌else◌}
+use Rattle.std.specs.Prelude.{ℕ, ◌&&◌, Bool, List, Option, Some, None, unwrap_or, option_map, if◌then◌else◌}
 use Rattle.std.specs.List.{find}
 use Rattle.std.specs.Option.{option_and_then}
-use Rattle.std.specs.Str.{bytes_eq}
-use Rattle.ts_ext.specs.declared.known.Known.{Known}
-use Rattle.ts_ext.specs.declared.known.Known.TheVariants.{IssuingDistributionPoint, AuthorityKeyIdentifier}
 use Rattle.ts_ext.specs.Encoding.{reason_number}
 use Rattle.ts_crl.specs.Entries.{first_entry}
 use Rattle.ts_crl.specs.List.{RevokedCertificate, CertificateList}
-use Rattle.ts_crl.specs.Values.{is_known, extensions_of, reason_of}
+use Rattle.ts_crl.specs.Slots.{is_same_slot}
+use Rattle.ts_crl.specs.Values.{reason_of}
 use Rattle.ts_revoke.specs.Decision.{or_reason}
-use Rattle.ts_revoke.specs.Names.{is_same_name}
 use Rattle.ts_revoke.specs.Numbers.{continues}
 use Rattle.ts_revoke.specs.Question.{Question}
 use Rattle.ts_revoke.specs.Usable.{is_current, is_signed}
@@ -25,24 +22,6 @@ listed_in serial l = option_map code_of (first_entry serial l)
 
 -- ---- delta CRLs
 
--- the octets of an extension's value, where the extension is there
-abbrev pub octets_of : Known → CertificateList → Option (List ℕ)
-octets_of known l = option_map (λ x. x.extnValue) (find (is_known known) (extensions_of l))
-
--- both absent, or both there and equal
-abbrev pub is_same_value : Option (List ℕ) → Option (List ℕ) → Bool
-is_same_value None None = true
-is_same_value (Some a) (Some b) = bytes_eq a b
-is_same_value a b = false
-
--- one slot: the issuers are the same, and so are the issuing distribution points and the authority key identifiers, or both have
--- none (6.3.3 (c))
-unfoldable pub is_same_slot : CertificateList → CertificateList → Bool
-is_same_slot l other =
-    is_same_name l.tbsCertList.issuer other.tbsCertList.issuer
-    && (is_same_value (octets_of IssuingDistributionPoint l) (octets_of IssuingDistributionPoint other)
-    && is_same_value (octets_of AuthorityKeyIdentifier l) (octets_of AuthorityKeyIdentifier other))
-
 -- a delta CRL counts for a CRL: it is current, states the changes since that CRL (5.2.4), and the same key signed it (6.3.3 (h))
 abbrev pub counts_for : Question → CertificateList → CertificateList → Bool
 counts_for q l delta = is_current q.moment delta && (continues l delta && is_signed q delta)
@@ -51,7 +30,7 @@ abbrev pub if_counts : Question → CertificateList → Option CertificateList �
 if_counts q l None = None
 if_counts q l (Some delta) = if counts_for q l delta then Some delta else None
 
--- the delta CRL of a CRL: the first of its slot, if it counts; none where delta CRLs are not used
+-- the delta CRL of a CRL: the first of its slot (6.3.3 (c)), if it counts; none where delta CRLs are not used
 abbrev pub delta_of : Question → CertificateList → Option CertificateList
 delta_of q l = if q.use_deltas then if_counts q l (find (λ d. is_same_slot l d) q.deltas) else None
 

@@ -1,19 +1,9 @@
 -- When two names are shared (RFC 5280 6.3.3 (b) (2) (i)): directory names that are the same, other forms of equal octets.
-use Rattle.std.specs.Prelude.{◌==◌, ◌&&◌, Bool, false, List}
+use Rattle.std.specs.Prelude.{Bool, false, List}
 use Rattle.std.specs.List.{list_any}
 use Rattle.std.specs.Str.{bytes_eq}
-use Rattle.std.specs.Cmp.Lexicographic.{pointwise}
-use Rattle.ts_name.specs.Canon.{Attr, CanonAttr}
-use Rattle.ts_name.specs.Sameness.{canon_name}
 use Rattle.ts_name.specs.General.{GeneralName, otherName, rfc822Name, dNSName, x400Address, directoryName, ediPartyName, uniformResourceIdentifier, iPAddress, registeredID}
-
--- whether two attributes in canonical form are one
-abbrev pub is_same_attr : CanonAttr → CanonAttr → Bool
-is_same_attr a b = bytes_eq a.kind b.kind && (a.tag == b.tag && bytes_eq a.value b.value)
-
--- whether two names are the same: their canonical forms are equal (7.1)
-unfoldable pub is_same_name : List (List Attr) → List (List Attr) → Bool
-is_same_name a b = pointwise (pointwise is_same_attr) (canon_name a) (canon_name b)
+use Rattle.ts_crl.specs.Slots.{is_same_name}
 
 -- whether two general names are one
 unfoldable pub is_same_general : GeneralName → GeneralName → Bool

@@ -11,8 +11,9 @@ use Rattle.ts_cert.specs.declared.time.Time.{Time}
 use Rattle.ts_cert.specs.Certificate.{Certificate}
 use Rattle.ts_cert.specs.Stated.{stated}
 use Rattle.ts_crl.specs.List.{CertificateList}
-use Rattle.ts_crl.specs.Profile.{scope_of, is_relative_name}
-use Rattle.ts_revoke.specs.Names.{is_same_name, share}
+use Rattle.ts_crl.specs.Profile.{scope_of, is_delta, is_relative_name}
+use Rattle.ts_crl.specs.Slots.{is_same_name}
+use Rattle.ts_revoke.specs.Names.{share}
 use Rattle.ts_revoke.specs.Question.{Question}
 use Rattle.ts_revoke.specs.Reasons.{reasons_where, all_reasons, intersection}
 
@@ -27,7 +28,7 @@ abbrev pub is_at_or_after : ℤ → Option Time → Bool
 is_at_or_after moment None = false
 is_at_or_after moment (Some t) = int_le moment t.moment
 
--- thisUpdate is at or before the moment, and nextUpdate at or after it (6.3.3 (a))
+-- nextUpdate is at or after the moment (6.3.3 (a)), and thisUpdate at or before it (this profile)
 abbrev pub is_current : ℤ → CertificateList → Bool
 is_current moment l = int_le l.tbsCertList.thisUpdate.moment moment && is_at_or_after moment l.tbsCertList.nextUpdate
 
@@ -36,7 +37,7 @@ abbrev pub may_sign : Option (List Bool) → Bool
 may_sign None = true
 may_sign (Some bits) = bit 6 bits
 
--- the key that signed the certificate signed the CRL (6.3.3 (g))
+-- the key that signed the certificate signed the CRL (6.3.3 (f) and (g), in this profile)
 abbrev pub is_signed : Question → CertificateList → Bool
 is_signed q l = q.good l.signatureAlgorithm.whole q.key l.tbs l.signatureValue
 
@@ -55,14 +56,15 @@ covers ca None = true
 covers ca (Some s) =
     not s.onlyContainsAttributeCerts && ((not s.onlyContainsUserCerts || not ca) && (not s.onlyContainsCACerts || ca))
 
--- all that is asked of a CRL, at whatever distribution point
+-- all that is asked of a CRL, at whatever distribution point: a delta CRL is used with a complete one alone (5.2.4)
 unfoldable pub serves : Question → CertificateList → Bool
 serves q l =
-    has_issuer q l
+    not (is_delta l)
+    && (has_issuer q l
     && (is_current q.moment l
     && (may_sign q.usage
     && (covers (is_ca q.certificate) (scope_of l)
-    && is_signed q l)))
+    && is_signed q l))))
 
 -- ---- the CRL and the distribution point
 

@@ -5,23 +5,23 @@ ghost use Rattle.std.specs.Prelude.{◌≡◌, map, option_map};
 ghost use Rattle.std.specs.Option.{option_and_then};
 ghost use Rattle.ts_cert.specs.CertView.{cert_in};
 ghost use Rattle.ts_crl.specs.ListView.{crl_in};
-ghost use Rattle.ts_revoke.specs.Listed.{is_same_slot as are_one_slot, counts_for as counts_for_list, listed_in as listed_in_list, delta_of as delta_of_list, listed as listed_of};
+ghost use Rattle.ts_crl.specs.Slots.{is_same_slot};
+ghost use Rattle.ts_revoke.specs.Listed.{counts_for as counts_for_list, listed_in as listed_in_list, delta_of as delta_of_list, listed as listed_of};
 ghost use Rattle.ts_revoke.specs.View.{question_in};
 
 use crate::entries::listed_in;
 use crate::numbers::continues;
 use crate::question::Question;
-use crate::slots::is_same_slot;
 use crate::usable::{is_current, is_signed};
 use ts_crl::Crl;
 use ts_sig::SignatureCheck;
 
 /// The first delta CRL of a CRL's slot.
 fn of_slot<'a, 'b>(crl: &Crl<'_>, deltas: &'a [Crl<'b>]) -> Option<&'a Crl<'b>>
-    ensures { option_map (λ d. crl_in d.now) result ≡ find (λ d. are_one_slot (crl_in crl.now) d) (map crl_in deltas.now) }
+    ensures { option_map (λ d. crl_in d.now) result ≡ find (λ d. is_same_slot (crl_in crl.now) d) (map crl_in deltas.now) }
 {
     for delta in deltas {
-        if is_same_slot(crl, delta) {
+        if crl.is_same_slot(*delta) {
             return Some(delta);
         }
     }

@@ -12,7 +12,7 @@
 //!
 //! The RFC's loop visits the CRLs of each distribution point in an order that it leaves open, and stops as soon as all reasons
 //! are covered: a certificate may be revoked in one order and good in another. Here it is `Good` only if it is good in every
-//! order.
+//! order within each of the two passes.
 //!
 //! | Definition | What it says |
 //! |---|---|
@@ -24,7 +24,7 @@
 //! | Call | What its clause says |
 //! |---|---|
 //! | [`status`] | the status of these definitions, exactly |
-//! | [`laws::in_any_order`] | where it is `Good` or `Undetermined` the loop answers the same in every order; where it is `Revoked`, the loop answers so in some order |
+//! | [`laws::in_any_order`] | where it is `Good` or `Undetermined` the loop answers the same in every order within the passes; where it is `Revoked`, the loop answers so in some order |
 //!
 //! `status` takes no memory. The definition goes through the distribution points and at each through all CRLs; the code goes
 //! through the CRLs and at each through all points (`specs/ByList`), so that in each pass a CRL's signature is checked once at
@@ -46,7 +46,6 @@ mod points;
 mod question;
 mod reach;
 mod reasons;
-mod slots;
 #[cfg(test)]
 mod test_certs;
 #[cfg(test)]

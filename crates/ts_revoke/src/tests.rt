@@ -215,7 +215,7 @@ fn with_delta(cert: &[u8], list: &[u8], delta: &[u8]) -> Option<(Status, Status)
 }
 
 /// A certificate, a CRL, a delta CRL, and the status without and with the use of delta CRLs.
-const CHANGED: [(&[u8], &[u8], &[u8], Status, Status); 16] = [
+const CHANGED: [(&[u8], &[u8], &[u8], Status, Status); 18] = [
     (L, Y_6, D_8, Status::Revoked(6), Status::Good),
     (L, Y_6, D_8_1, Status::Revoked(6), Status::Revoked(6)),
     (L, Y_6, D_1, Status::Revoked(6), Status::Revoked(1)),
@@ -232,6 +232,15 @@ const CHANGED: [(&[u8], &[u8], &[u8], Status, Status); 16] = [
     (L, Y_255, D_256_OF_256, Status::Good, Status::Good),
     (L, Y_255, D_1, Status::Good, Status::Good),
     (L_U1, U1, D_U1, Status::Good, Status::Revoked(1)),
+    // A delta CRL by itself.
+    (
+        L,
+        D_QUIET,
+        D_QUIET,
+        Status::Undetermined,
+        Status::Undetermined,
+    ),
+    (L, D_1, D_8, Status::Undetermined, Status::Undetermined),
 ];
 
 #[test]

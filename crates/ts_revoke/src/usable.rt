@@ -72,13 +72,14 @@ fn covers(ca: bool, scope: &Option<IssuingDistributionPoint<'_>>) -> bool
     }
 }
 
-/// Whether the CRL may be used for the certificate, at whatever distribution point. The signature comes last, since it
+/// Whether the CRL may be used for the certificate, at whatever distribution point; a delta CRL may not, by itself. The signature comes last, since it
 /// costs most.
 #[tactic(auto, unfolding(crate::specs::Usable::serves))]
 pub(crate) fn serves<S: SignatureCheck>(crl: &Crl<'_>, q: &Question<'_>, check: &S) -> bool
     ensures { result ≡ serves_of (question_in q.now (S.accepts check.now)) (crl_in crl.now) }
 {
-    is_same(crl.issuer(), q.cert.issuer())
+    !crl.is_delta()
+        && is_same(crl.issuer(), q.cert.issuer())
         && is_current(crl, q.moment)
         && may_sign(q.issuer.key_usage)
         && covers(is_ca(q.cert), &crl.scope())

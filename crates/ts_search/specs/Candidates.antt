@@ -3,7 +3,7 @@
 use Rattle.std.specs.Prelude.{◌≡◌, ◌≤◌, ◌<◌, ◌⊎◌, ℕ, Bool, false, ◌==◌, List, [], ◌∷◌, length, Option, Some, None, slice_get, IsTrue}
 use Rattle.std.specs.List.{list_any, AllByRecursion}
 use Rattle.ts_cert.specs.Certificate.{Certificate}
-use Rattle.ts_revoke.specs.Names.{is_same_name}
+use Rattle.ts_crl.specs.Slots.{is_same_name}
 use Rattle.ts_policy.specs.Labels.{In}
 
 -- the issuer of a certificate has the name of another's subject (RFC 5280 6.1.3 (a) (4))

@@ -3,7 +3,7 @@ use Rattle.std.specs.List.{find}
 use Rattle.std.specs.Prelude.{map}
 use Rattle.ts_crl.specs.List.{CertificateList}
 use Rattle.ts_crl.specs.ListView.{crl_in}
-use Rattle.ts_revoke.specs.Listed.{is_same_slot}
+use Rattle.ts_crl.specs.Slots.{is_same_slot}
 use Rattle.ts_revoke.proofs.deltas.of_slot.Given as goal
 
 abbrev pub invariant-loop-delta : goal.invariant-loop-delta
