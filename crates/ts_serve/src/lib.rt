@@ -30,6 +30,7 @@
 #![tactic(auto)]
 
 mod carrying;
+mod connection;
 mod fault;
 mod listening;
 mod outbox;
@@ -44,13 +45,12 @@ mod test_ids;
 mod test_machine;
 #[cfg(test)]
 mod tests;
-mod waiting;
 
 pub use carrying::carry;
+pub use connection::LONGEST_WAIT;
 pub use fault::ServeFault;
 pub use listening::listen;
 pub use outbox::MAX_WAITING;
 pub use peer::{Peer, ServerPeer, TcpPeer};
 pub use server::Server;
 pub use serving::{READ_LIMIT, serve};
-pub use waiting::LONGEST_WAIT;

@@ -9,10 +9,10 @@ ghost use Rattle.ts_wire.specs.declared.frame.Frame.{Frame as Request};
 ghost use Rattle.ts_serve.specs.Turn.{Turn};
 ghost use Rattle.ts_serve.specs.Stream.{Run};
 
+use crate::connection::set_up;
 use crate::fault::ServeFault;
 use crate::server::Server;
 use crate::serving::serve;
-use crate::waiting::limit_waits;
 use std::io::BufWriter;
 use std::net::{TcpListener, TcpStream};
 use ts_disk::Disk;
@@ -30,7 +30,7 @@ where
     ensures run { (requests answers : List Request) × Run (Turn D.state (store_of Asked M.client_id M.outcome) M.basis M.is_answer) server.old requests answers server.new }
     ensures sound { IsSound D.state octets_of M.commands server.new.node }
 {
-    if limit_waits(stream).is_err() {
+    if set_up(stream).is_err() {
         return;
     }
     let Ok(mut writer) = BufWriter::new(server.allocator(), stream) else {

@@ -8,11 +8,11 @@ ghost use Rattle.ts_store.specs.Octets.{octets_of};
 ghost use Rattle.ts_serve.specs.Turn.{Turn};
 ghost use Rattle.ts_serve.specs.Stream.{IsServedSomehow};
 
+use crate::connection::set_up;
 use crate::fault::ServeFault;
 use crate::sending::write_octets;
 use crate::server::Server;
 use crate::serving::{READ_LIMIT, serve};
-use crate::waiting::limit_waits;
 use std::alloc::Global;
 use std::io::{ErrorKind, Read};
 use std::net::{Net, OpenStream, Shutdown, TcpStream};
@@ -91,7 +91,7 @@ impl<N: Net> Peer for TcpPeer<'_, N> {
         let Ok(mut stream) = TcpStream::connect(self.net, self.address.as_str()) else {
             return Err(ServeFault::Write);
         };
-        if limit_waits(&stream).is_err() {
+        if set_up(&stream).is_err() {
             return Err(ServeFault::Write);
         }
         write_octets(&mut stream, octets)?;
