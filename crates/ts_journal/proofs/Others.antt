@@ -4,8 +4,8 @@ use Rattle.std.proofs.lemmas.Bool.{cases_eq}
 use Rattle.std.specs.List.{flat_map}
 use Rattle.ts_disk.specs.Disk.{State, IsDisk, IsDurable, EveryImage, Torn, written}
 use Rattle.ts_journal.specs.Gate.{Opened}
-use Rattle.ts_journal.specs.Images.{Header, IsRight, head, block, IsBody, Stands, IsShut, IsEarlier, Behind, InUse, Opens, AnyPair, OpensFrom, OneOrOther, EveryPair, entry}
-use Rattle.ts_journal.specs.Settled.{IsJournal, IsSpare, next, header_of, Holds, disk_a, disk_b}
+use Rattle.ts_journal.specs.Images.{Header, Member, member_of, IsRight, head, block, IsBody, Stands, IsShut, IsEarlier, Behind, InUse, Opens, AnyPair, OpensFrom, OneOrOther, EveryPair, entry}
+use Rattle.ts_journal.specs.Settled.{IsJournal, IsSpare, next, header_of, member_in, Holds, disk_a, disk_b}
 use Rattle.ts_journal.specs.declared.journal.Stage.TheVariants.{Copying}
 use Rattle.ts_journal.specs.declared.journal.Journal.{Journal}
 use Rattle.ts_journal.proofs.Extend.{Appends}
@@ -23,16 +23,16 @@ other_moves state true current old new P Q is durable run first second ca cb lef
 other_moves state false current old new P Q is durable run first second ca cb left_a left_b =
     subst (λ c. Q c cb) (sym (still (state current) is durable ca left_a)) (first cb (run.each cb left_b) refl)
 
-used_by : {D : Type 0} (state : D → State) (j : Journal D) (bodies copied : List (List ℕ)) (other : List ℕ) → Holds state bodies copied j → Behind j.generation other → InUse bodies (state j.current).read other
-used_by state j bodies copied other holds behind = record { header = header_of j; right = holds.right; live = holds.live; is_live = holds.is_live; stands = holds.journal.stands; behind = behind }
+used_by : {D : Type 0} (state : D → State) (j : Journal D) (bodies copied : List (List ℕ)) (other : List ℕ) → Holds state bodies copied j → Behind j.generation other → InUse (member_in j) bodies (state j.current).read other
+used_by state j bodies copied other holds behind = record { header = header_of j; owner = refl; right = holds.right; live = holds.live; is_live = holds.is_live; stands = holds.journal.stands; behind = behind }
 
 -- at each moment of a step before the last, the journal opens from the disk in use
 pub behind_moves : {D : Type 0} (state : D → State) → ((d : D) → IsDisk (state d)) → (j : Journal D) (new : D) (bodies copied : List (List ℕ)) → Holds state bodies copied j → EveryImage (Behind j.generation) (state j.spare) (state new)
-    → EveryPair (OpensFrom j.swapped bodies) (state (disk_a j)) (state (disk_b j)) (state (cond j.swapped new j.current)) (state (cond j.swapped j.current new))
+    → EveryPair (OpensFrom (member_in j) j.swapped bodies) (state (disk_a j)) (state (disk_b j)) (state (cond j.swapped new j.current)) (state (cond j.swapped j.current new))
 behind_moves state lawful j new bodies copied holds run =
-    other_moves state j.swapped j.current j.spare new (Behind j.generation) (OpensFrom j.swapped bodies) (lawful j.current) holds.journal.durable run
-    (λ c behind is. (from j.swapped bodies (state j.current).read c (used_by state j bodies copied c holds behind)).0 is)
-    (λ c behind is. (from j.swapped bodies (state j.current).read c (used_by state j bodies copied c holds behind)).1 is)
+    other_moves state j.swapped j.current j.spare new (Behind j.generation) (OpensFrom (member_in j) j.swapped bodies) (lawful j.current) holds.journal.durable run
+    (λ c behind is. (from (member_in j) j.swapped bodies (state j.current).read c (used_by state j bodies copied c holds behind)).0 is)
+    (λ c behind is. (from (member_in j) j.swapped bodies (state j.current).read c (used_by state j bodies copied c holds behind)).1 is)
 
 pub shut_is_behind : (generation : ℕ) (old new : State) → EveryImage IsShut old new → EveryImage (Behind generation) old new
 shut_is_behind generation old new run = weaker IsShut (Behind generation) old new (λ c shut. inl shut) run
@@ -86,11 +86,12 @@ pub record IsReady {D : Type 0} (state : D → State) (bodies copied : List (Lis
   pub not_last : j.generation + 1 < 2 ^ 64
 
 -- at each moment of the last step
-one_of : {D : Type 0} (state : D → State) (j : Journal D) (bodies copied : List (List ℕ)) (c : List ℕ) → IsReady state bodies copied j → Switches (next (header_of j)) copied c → InUse bodies (state j.current).read c ⊎ InUse copied c (state j.current).read
+one_of : {D : Type 0} (state : D → State) (j : Journal D) (bodies copied : List (List ℕ)) (c : List ℕ) → IsReady state bodies copied j → Switches (next (header_of j)) copied c → InUse (member_in j) bodies (state j.current).read c ⊎ InUse (member_in j) copied c (state j.current).read
 one_of state j bodies copied c ready (inl shut) = inl (used_by state j bodies copied c ready.holds (inl shut))
 one_of state j bodies copied c ready (inr wide) =
     let s = ready.holds in inr (record {
       header = next (header_of j);
+      owner = refl;
       right = next_right (header_of j) s.right ready.not_last;
       live = wide.0;
       is_live = wide.1;
@@ -99,19 +100,19 @@ one_of state j bodies copied c ready (inr wide) =
     })
 
 pub switch_moves : {D : Type 0} (state : D → State) → ((d : D) → IsDisk (state d)) → (j : Journal D) (new : D) (bodies copied : List (List ℕ)) → IsReady state bodies copied j → EveryImage (Torn 24 1 (state j.spare).read) (state j.spare) (state new)
-    → EveryPair (OneOrOther bodies copied) (state (disk_a j)) (state (disk_b j)) (state (cond j.swapped new j.current)) (state (cond j.swapped j.current new))
+    → EveryPair (OneOrOther (member_in j) bodies copied) (state (disk_a j)) (state (disk_b j)) (state (cond j.swapped new j.current)) (state (cond j.swapped j.current new))
 switch_moves state lawful j new bodies copied ready torn =
     let h = next (header_of j) in
     let run = weaker (Torn 24 1 (state j.spare).read) (Switches h copied) (state j.spare) (state new) (λ c t. torn_live h copied (state j.spare).read c ready.journal.stands t) torn in
-    other_moves state j.swapped j.current j.spare new (Switches h copied) (OneOrOther bodies copied) (lawful j.current) ready.holds.journal.durable run
+    other_moves state j.swapped j.current j.spare new (Switches h copied) (OneOrOther (member_in j) bodies copied) (lawful j.current) ready.holds.journal.durable run
     (λ c s is. ⊎_elim (λ u. inl (inl u)) (λ u. inr (inr u)) (one_of state j bodies copied c ready s))
     (λ c s is. ⊎_elim (λ u. inl (inr u)) (λ u. inr (inl u)) (one_of state j bodies copied c ready s))
 
 -- the same, where the two have changed places
 pub switched_moves : {D : Type 0} (state : D → State) → ((d : D) → IsDisk (state d)) → (j : Journal D) (new x y : D) (bodies copied : List (List ℕ)) → x ≡ new → y ≡ j.current → IsReady state bodies copied j → EveryImage (Torn 24 1 (state j.spare).read) (state j.spare) (state new)
-    → EveryPair (OneOrOther bodies copied) (state (disk_a j)) (state (disk_b j)) (state (cond (not j.swapped) y x)) (state (cond (not j.swapped) x y))
+    → EveryPair (OneOrOther (member_in j) bodies copied) (state (disk_a j)) (state (disk_b j)) (state (cond (not j.swapped) y x)) (state (cond (not j.swapped) x y))
 switched_moves state lawful j new x y bodies copied x_is y_is ready torn =
-    let Q = OneOrOther bodies copied in
+    let Q = OneOrOther (member_in j) bodies copied in
     let run = turned j.swapped Q (state (disk_a j)) (state (disk_b j)) (switch_moves state lawful j new bodies copied ready torn) in
     subst (λ d. EveryPair Q (state (disk_a j)) (state (disk_b j)) (state (cond (not j.swapped) y d)) (state (cond (not j.swapped) d y))) (sym x_is)
     (subst (λ d. EveryPair Q (state (disk_a j)) (state (disk_b j)) (state (cond (not j.swapped) d new)) (state (cond (not j.swapped) new d))) (sym y_is) run)
@@ -137,15 +138,15 @@ live_journal h bodies end old new j durable is = record {
 pub formatted : {D T E : Type 0} (state : D → State) (a b : D) (result : Result T E) (node nodes : ℕ) (rest more : List ℕ) → 1 ≤ node → node ≤ nodes → nodes ≤ 9
     → IsDurable (state a) → (state a).read ≡ head (record { node = node; nodes = nodes; generation = 1 }) ++ (1 ∷ 0 ∷ rest)
     → OnOk result (IsDurable (state b)) → OnOk result ((state b).read ≡ head (record { node = node; nodes = nodes; generation = 0 }) ++ (0 ∷ 0 ∷ more))
-    → OnOk result (AnyPair (Opens []) (state a) (state b))
+    → OnOk result (AnyPair (Opens (record { node = node; nodes = nodes }) []) (state a) (state b))
 formatted state a b (Err e) node nodes rest more from to most a_durable a_is b_durable b_is = tt
 formatted state a b (Ok x) node nodes rest more from to most a_durable a_is b_durable b_is = λ ca cb left_a left_b.
     let h : Header = record { node = node; nodes = nodes; generation = 1 } in
     let right : IsRight h = record { node_from = from; node_to = to; nodes_to = most; generation_to = omega arith } in
     let j = begun_journal h 1 (state a) rest a_durable a_is in
     let shut : IsShut (state b).read = (head (record { node = node; nodes = nodes; generation = 0 }), refl, (0 ∷ more, b_is)) in
-    subst (λ c. Opens [] c cb) (sym (a_durable ca left_a)) (subst (λ c. Opens [] (state a).read c) (sym (b_durable cb left_b))
-    (inl (record { header = h; right = right; live = 1; is_live = omega arith; stands = j.stands; behind = inl shut })))
+    subst (λ c. Opens (member_of h) [] c cb) (sym (a_durable ca left_a)) (subst (λ c. Opens (member_of h) [] (state a).read c) (sym (b_durable cb left_b))
+    (inl (record { header = h; owner = refl; right = right; live = 1; is_live = omega arith; stands = j.stands; behind = inl shut })))
 
 pub ready : {D : Type 0} (state : D → State) (bodies copied : List (List ℕ)) (j : Journal D) → Holds state bodies copied j → j.stage ≡ Copying → IsReady state bodies copied j
 ready state bodies copied j holds stage =

@@ -11,6 +11,14 @@ pub record Header : Type 0 where
   pub nodes : ℕ
   pub generation : ℕ
 
+-- a node, by its number, and how many nodes there are
+pub record Member : Type 0 where
+  pub node : ℕ
+  pub nodes : ℕ
+
+abbrev pub member_of : Header → Member
+member_of h = record { node = h.node; nodes = h.nodes }
+
 -- the 24 octets before the live gate
 abbrev pub head : Header → List ℕ
 head h = 0x54 ∷ 0x53 ∷ 0x52 ∷ 0x45 ∷ 0x43 ∷ 0 ∷ 0 ∷ 2 ∷ h.node ∷ h.nodes ∷ 0 ∷ 0 ∷ 0 ∷ 0 ∷ 0 ∷ 0 ∷ to_be_bytes w64 h.generation
@@ -68,31 +76,33 @@ Behind generation image = IsShut image ⊎ IsEarlier generation image
 abbrev pub Begins : List ℕ → List ℕ → Type 0
 Begins octets image = (rest : List ℕ) × (image ≡ octets ++ (0 ∷ 0 ∷ rest))
 
--- The first image is that of the disk in use: it is live, and the other is shut or of an earlier generation.
-pub record InUse (bodies : List (List ℕ)) (image other : List ℕ) : Type 0 where
+-- The first image is that of the disk in use: it is live, with the header of this member, and the other is shut or of an earlier
+-- generation.
+pub record InUse (member : Member) (bodies : List (List ℕ)) (image other : List ℕ) : Type 0 where
   pub header : Header
+  pub owner : member_of header ≡ member
   pub right : IsRight header
   pub live : ℕ
   pub is_live : live ≢ 0
   pub stands : Stands header live bodies image
   pub behind : Behind header.generation other
 
--- the pair of images opens to these bodies
-abbrev pub Opens : List (List ℕ) → List ℕ → List ℕ → Type 0
-Opens bodies a b = InUse bodies a b ⊎ InUse bodies b a
+-- the pair of images opens to these bodies, as the journal of this member
+abbrev pub Opens : Member → List (List ℕ) → List ℕ → List ℕ → Type 0
+Opens member bodies a b = InUse member bodies a b ⊎ InUse member bodies b a
 
 -- the pair opens to these bodies, from the disk that is in use: the second where the two are swapped
-abbrev pub OpensFrom : Bool → List (List ℕ) → List ℕ → List ℕ → Type 0
-OpensFrom true bodies a b = InUse bodies b a
-OpensFrom false bodies a b = InUse bodies a b
+abbrev pub OpensFrom : Member → Bool → List (List ℕ) → List ℕ → List ℕ → Type 0
+OpensFrom member true bodies a b = InUse member bodies b a
+OpensFrom member false bodies a b = InUse member bodies a b
 
 -- the pair opens to the bodies before, or to those and the new one
-abbrev pub BeforeOrAfter : Bool → List (List ℕ) → List ℕ → List ℕ → List ℕ → Type 0
-BeforeOrAfter swapped bodies body a b = OpensFrom swapped bodies a b ⊎ OpensFrom swapped (bodies ++ body ∷ []) a b
+abbrev pub BeforeOrAfter : Member → Bool → List (List ℕ) → List ℕ → List ℕ → List ℕ → Type 0
+BeforeOrAfter member swapped bodies body a b = OpensFrom member swapped bodies a b ⊎ OpensFrom member swapped (bodies ++ body ∷ []) a b
 
 -- the pair opens to the bodies of one list or of another
-abbrev pub OneOrOther : List (List ℕ) → List (List ℕ) → List ℕ → List ℕ → Type 0
-OneOrOther bodies others a b = Opens bodies a b ⊎ Opens others a b
+abbrev pub OneOrOther : Member → List (List ℕ) → List (List ℕ) → List ℕ → List ℕ → Type 0
+OneOrOther member bodies others a b = Opens member bodies a b ⊎ Opens member others a b
 
 -- At every moment since the disks were these, every pair of images is P.
 abbrev pub EveryPair : (List ℕ → List ℕ → Type 0) → State → State → State → State → Type 0

@@ -1,7 +1,7 @@
 -- What is true of a journal between two calls.
 use Rattle.std.specs.Prelude.{◌≡◌, ◌≢◌, ◌⊎◌, ◌+◌, ◌<◌, ◌^◌, ℕ, List, length, cond}
 use Rattle.ts_disk.specs.Disk.{State, IsDurable, DeviceFailed}
-use Rattle.ts_journal.specs.Images.{Header, IsRight, Stands, front, IsShut, IsEarlier, EveryPair}
+use Rattle.ts_journal.specs.Images.{Header, Member, member_of, IsRight, Stands, front, IsShut, IsEarlier, EveryPair}
 use Rattle.ts_journal.specs.declared.journal.Journal.{Journal}
 use Rattle.ts_journal.specs.declared.journal.Stage.{Stage}
 use Rattle.ts_journal.specs.declared.journal.Stage.TheVariants.{Live, Closed, Begun, Copying}
@@ -25,6 +25,10 @@ IsSpare Copying h copied end disk = IsJournal (next h) 0 copied end disk × (h.g
 
 abbrev pub header_of : {D : Type 0} → Journal D → Header
 header_of j = record { node = j.node; nodes = j.nodes; generation = j.generation }
+
+-- the node whose journal it is
+abbrev pub member_in : {D : Type 0} → Journal D → Member
+member_in j = member_of (header_of j)
 
 -- These bodies are on the disk in use, and the other disk is as its stage says.
 pub record Holds {D : Type 0} (state : D → State) (bodies copied : List (List ℕ)) (j : Journal D) : Type 0 where

@@ -51,7 +51,7 @@ pub fn format<D: Disk>(a: &mut D, b: &mut D, node: u8, nodes: u8) -> Result<(), 
     ensures second { OnOk result ((D.state b.new).read ≡
         head (record { node = node; nodes = nodes; generation = 0 }) ++ (0 ∷ 0 ∷ drop 26 (D.state b.old).read)) }
     // Each pair of images that a crash may leave opens to no bodies.
-    ensures opens { OnOk result (AnyPair (Opens []) (D.state a.new) (D.state b.new)) }
+    ensures opens { OnOk result (AnyPair (Opens (record { node = node; nodes = nodes }) []) (D.state a.new) (D.state b.new)) }
     ensures fault { IfErr result (λ fault. (fault ≡ Failed)
         × (DeviceFailed (D.state a.old) (D.state a.new) ⊎ DeviceFailed (D.state b.old) (D.state b.new))) }
 {

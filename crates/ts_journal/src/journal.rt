@@ -2,7 +2,7 @@
 ghost use Rattle.std.specs.Prelude.{◌≡◌, ◌⊎◌, ◌++◌, ◌<◌, ◌+◌, ◌^◌, [], ◌∷◌, ℕ, List, true, false, cond, OnOk, OnErr, IfErr};
 ghost use Rattle.ts_disk.specs.declared.fault.DiskFault.TheVariants.{Failed};
 ghost use Rattle.ts_journal.specs.Images.{IsBody, entry, OpensFrom, BeforeOrAfter, OneOrOther};
-ghost use Rattle.ts_journal.specs.Settled.{Holds, IsSettled, EveryMoment, OneFailed};
+ghost use Rattle.ts_journal.specs.Settled.{Holds, IsSettled, member_in, EveryMoment, OneFailed};
 ghost use Rattle.ts_journal.specs.declared.journal.Stage.TheVariants.{Live, Closed, Begun, Copying};
 
 use crate::durable::extend;
@@ -42,7 +42,8 @@ impl<D: Disk> Journal<D> {
         ensures holds { OnOk result ((bodies copied : List (List ℕ)) (body : List ℕ) → IsBody body → octets.now ≡ entry body
             → Holds D.state bodies copied self.old → Holds D.state (bodies ++ body ∷ []) copied self.new) }
         ensures moments { (bodies copied : List (List ℕ)) (body : List ℕ) → IsBody body → octets.now ≡ entry body
-            → Holds D.state bodies copied self.old → EveryMoment D.state (BeforeOrAfter self.old.swapped bodies body) self.old self.new }
+            → Holds D.state bodies copied self.old → EveryMoment D.state (BeforeOrAfter (member_in self.old) self.old.swapped bodies body) self.old self.new }
+        ensures owner { member_in self.new ≡ member_in self.old }
         ensures swapped { self.new.swapped ≡ self.old.swapped }
         ensures generation { self.new.generation ≡ self.old.generation }
         ensures stage { self.new.stage ≡ self.old.stage }
@@ -61,7 +62,8 @@ impl<D: Disk> Journal<D> {
         requires not_last { self.old.generation + 1 < 2 ^ 64 }
         ensures holds { OnOk result ((bodies copied : List (List ℕ)) → Holds D.state bodies copied self.old → Holds D.state bodies copied self.new) }
         ensures moments { (bodies copied : List (List ℕ)) → Holds D.state bodies copied self.old
-            → EveryMoment D.state (OpensFrom self.old.swapped bodies) self.old self.new }
+            → EveryMoment D.state (OpensFrom (member_in self.old) self.old.swapped bodies) self.old self.new }
+        ensures owner { member_in self.new ≡ member_in self.old }
         ensures swapped { self.new.swapped ≡ self.old.swapped }
         ensures generation { self.new.generation ≡ self.old.generation }
         ensures stage { OnOk result (self.new.stage ≡ Begun) }
@@ -79,7 +81,8 @@ impl<D: Disk> Journal<D> {
         requires stage { self.old.stage ≡ Begun }
         ensures holds { OnOk result ((bodies copied : List (List ℕ)) → Holds D.state bodies copied self.old → Holds D.state bodies [] self.new) }
         ensures moments { (bodies copied : List (List ℕ)) → Holds D.state bodies copied self.old
-            → EveryMoment D.state (OpensFrom self.old.swapped bodies) self.old self.new }
+            → EveryMoment D.state (OpensFrom (member_in self.old) self.old.swapped bodies) self.old self.new }
+        ensures owner { member_in self.new ≡ member_in self.old }
         ensures swapped { self.new.swapped ≡ self.old.swapped }
         ensures generation { self.new.generation ≡ self.old.generation }
         ensures stage { OnOk result (self.new.stage ≡ Copying) }
@@ -101,7 +104,8 @@ impl<D: Disk> Journal<D> {
         ensures holds { OnOk result ((bodies copied : List (List ℕ)) (body : List ℕ) → IsBody body → octets.now ≡ entry body
             → Holds D.state bodies copied self.old → Holds D.state bodies (copied ++ body ∷ []) self.new) }
         ensures moments { (bodies copied : List (List ℕ)) → Holds D.state bodies copied self.old
-            → EveryMoment D.state (OpensFrom self.old.swapped bodies) self.old self.new }
+            → EveryMoment D.state (OpensFrom (member_in self.old) self.old.swapped bodies) self.old self.new }
+        ensures owner { member_in self.new ≡ member_in self.old }
         ensures swapped { self.new.swapped ≡ self.old.swapped }
         ensures generation { self.new.generation ≡ self.old.generation }
         ensures stage { self.new.stage ≡ self.old.stage }
@@ -119,8 +123,9 @@ impl<D: Disk> Journal<D> {
         requires stage { self.old.stage ≡ Copying }
         ensures holds { OnOk result ((bodies copied : List (List ℕ)) → Holds D.state bodies copied self.old → Holds D.state copied [] self.new) }
         ensures moments { (bodies copied : List (List ℕ)) → Holds D.state bodies copied self.old
-            → EveryMoment D.state (OneOrOther bodies copied) self.old self.new }
+            → EveryMoment D.state (OneOrOther (member_in self.old) bodies copied) self.old self.new }
         ensures stage { OnOk result (self.new.stage ≡ Live) }
+        ensures owner { member_in self.new ≡ member_in self.old }
         ensures swapped { OnOk result (self.new.swapped ≡ cond self.old.swapped false true) }
         ensures generation { OnOk result (self.new.generation ≡ self.old.generation + 1) }
         ensures stays { OnErr result ((self.new.stage ≡ self.old.stage) × (self.new.swapped ≡ self.old.swapped) × (self.new.generation ≡ self.old.generation)) }

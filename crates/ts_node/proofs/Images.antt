@@ -2,7 +2,7 @@
 use Rattle.std.proofs.Common.{◌≡◌, ◌∙◌, ◌⊎◌, ◌≤◌, ◌++◌, ◌∷◌, ℕ, zero, suc, List, [], Option, Some, None, Result, Err, IfErr, Bool, true, false, is_some, length, take, min, inl, inr, refl, sym, ap, subst, append_assoc, arith, ⊎_elim}
 use Rattle.std.proofs.lemmas.List.{length-take}
 use Rattle.ts_disk.specs.Disk.{State, IsDisk}
-use Rattle.ts_journal.specs.Images.{AnyPair, EveryPair, Opens, OpensFrom}
+use Rattle.ts_journal.specs.Images.{Member, AnyPair, EveryPair, Opens, OpensFrom}
 use Rattle.ts_synod.specs.declared.message.Fact.{Fact}
 use Rattle.ts_synod.specs.Force.{SameForce, command_at, first_some, learned_command, log_of}
 use Rattle.ts_synod.specs.Log.{prefix}
@@ -17,19 +17,19 @@ use Rattle.ts_node.specs.Growing.{IsPart}
 use Rattle.ts_node.specs.Node.{ToEither}
 use Rattle.ts_node.proofs.Prefix.{Extends, prefix_extends}
 
-either : (swapped : Bool) (bodies : List (List ℕ)) (a b : List ℕ) → OpensFrom swapped bodies a b → Opens bodies a b
-either true bodies a b o = inr o
-either false bodies a b o = inl o
+either : (m : Member) (swapped : Bool) (bodies : List (List ℕ)) (a b : List ℕ) → OpensFrom m swapped bodies a b → Opens m bodies a b
+either m true bodies a b o = inr o
+either m false bodies a b o = inl o
 
-pub from_either : {C : Type 0} (octets : C → List ℕ) (swapped : Bool) (facts : List (Fact C)) (a b : List ℕ) → OpensToFrom octets swapped facts a b → OpensTo octets facts a b
-from_either octets swapped facts a b o = (o.0, either swapped o.0 a b o.1, o.2)
+pub from_either : {C : Type 0} (octets : C → List ℕ) (m : Member) (swapped : Bool) (facts : List (Fact C)) (a b : List ℕ) → OpensToFrom octets m swapped facts a b → OpensTo octets m facts a b
+from_either octets m swapped facts a b o = (o.0, either m swapped o.0 a b o.1, o.2)
 
-pub to_either : {C : Type 0} (octets : C → List ℕ) (swapped : Bool) (facts more : List (Fact C)) (a b : List ℕ) → ToBeforeOrAfter octets swapped facts more a b → ToEither octets facts more a b
-to_either octets swapped facts more a b o = ⊎_elim (λ x. inl (from_either octets swapped facts a b x)) (λ y. inr (from_either octets swapped (facts ++ more) a b y)) o
+pub to_either : {C : Type 0} (octets : C → List ℕ) (m : Member) (swapped : Bool) (facts more : List (Fact C)) (a b : List ℕ) → ToBeforeOrAfter octets m swapped facts more a b → ToEither octets m facts more a b
+to_either octets m swapped facts more a b o = ⊎_elim (λ x. inl (from_either octets m swapped facts a b x)) (λ y. inr (from_either octets m swapped (facts ++ more) a b y)) o
 
 -- where nothing is called, the images stay
-pub rests : {C : Type 0} (octets : C → List ℕ) (swapped : Bool) (facts more : List (Fact C)) (a b : State) → IsDisk a → IsDisk b → AnyPair (OpensToFrom octets swapped facts) a b → EveryPair (ToEither octets facts more) a b a b
-rests octets swapped facts more a b da db opens ca cb la lb = inl (from_either octets swapped facts ca cb (opens ca cb (da.only_now ca la) (db.only_now cb lb)))
+pub rests : {C : Type 0} (octets : C → List ℕ) (m k : Member) (swapped : Bool) (facts more : List (Fact C)) (a b : State) → m ≡ k → IsDisk a → IsDisk b → AnyPair (OpensToFrom octets m swapped facts) a b → EveryPair (ToEither octets k facts more) a b a b
+rests octets m k swapped facts more a b same da db opens ca cb la lb = subst (λ x. ToEither octets x facts more ca cb) same (inl (from_either octets m swapped facts ca cb (opens ca cb (da.only_now ca la) (db.only_now cb lb))))
 
 first_stays : {A : Type 0} (x y : Option A) → is_some x ≡ true → first_some x y ≡ x
 first_stays None y h = absurd (cc)

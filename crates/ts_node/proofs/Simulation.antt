@@ -1,5 +1,5 @@
 -- A run of nodes is a run of the world.
-use Rattle.std.proofs.Common.{◌≡◌, ◌≢◌, ◌∙◌, ◌⊎◌, ◌≤◌, ◌==◌, ◌++◌, ◌∷◌, ℕ, List, [], Option, Some, None, Ok, Bool, true, false, nat_le, length, take, inl, inr, refl, sym, ap, subst, append_assoc, ⊎_elim, if◌then◌else◌}
+use Rattle.std.proofs.Common.{◌≡◌, ◌≢◌, ◌∙◌, ◌⊎◌, ◌≤◌, ◌==◌, ◌++◌, ◌∷◌, ℕ, List, [], Option, Some, None, Ok, Bool, true, false, nat_le, length, take, inl, inr, refl, sym, ap, subst, append_assoc, ⊎_elim, if◌then◌else◌, true≢false}
 use Rattle.std.proofs.lemmas.Bool.Decides.{Decides-eqb}
 use Rattle.ts_synod.specs.declared.message.Fact.{Fact}
 use Rattle.ts_synod.specs.declared.message.Fact.TheVariants.{Chosen}
@@ -25,8 +25,9 @@ use Rattle.ts_node.specs.declared.input.Output.{Output}
 use Rattle.ts_node.specs.declared.input.Reply.TheVariants as replies
 use Rattle.ts_node.specs.Inputs.{IsInput, IsReply}
 use Rattle.ts_node.specs.Machine.{store_of}
-use Rattle.ts_node.specs.Node.{Does, config, facts, volatile}
-use Rattle.ts_node.specs.Run.{AreAllowed, Exchange, Group, Happening, IsAllowed, IsStart, Promised, after, after_all, called, handed_in, handed_in_by, refused, reopened, rewritten, stopped}
+use Rattle.ts_journal.specs.Images.{Member}
+use Rattle.ts_node.specs.Node.{Does, config, facts, owner, volatile}
+use Rattle.ts_node.specs.Run.{AreAllowed, Exchange, Follows, Group, Happening, IsAllowed, IsNode, IsStart, IsWorld, Promised, after, after_all, called, events_of, handed_in, handed_in_by, refused, reopened, rewritten, stopped}
 use Rattle.ts_node.proofs.Questions.{tables_are}
 
 same_refl : {C : Type 0} (fs : List (Fact C)) → SameForce fs fs
@@ -38,11 +39,9 @@ same_sym fs gs h = record { used = sym h.used; promised = λ p. sym (h.promised 
 same_trans : {C : Type 0} (fs gs hs : List (Fact C)) → SameForce fs gs → SameForce gs hs → SameForce fs hs
 same_trans fs gs hs h k = record { used = h.used ∙ k.used; promised = λ p. h.promised p ∙ k.promised p; taken = λ p. h.taken p ∙ k.taken p; learned = λ p. h.learned p ∙ k.learned p }
 
--- a node is the world's node of its number, whose facts are of the force of its own
-pub record IsNode {D C M : Type 0} (n i : ℕ) (a : Node D C M) (b : world.Node C) : Type 0 where
-  pub force : SameForce b.facts (facts a)
-  pub volatile : volatile a ≡ b.volatile
-  pub numbered : is_node n i ≡ true → config a ≡ config_of n i
+-- a node that was opened as the member that it was is of the same configuration
+same_config : {D C M : Type 0} (a b : Node D C M) → owner b ≡ owner a → config b ≡ config a
+same_config a b is = ap (λ (m : Member). record { nodes = m.nodes; me = m.node }) is
 
 both_put : {A B : Type 0} (P : ℕ → A → B → Type 0) (f : ℕ → A) (h : ℕ → B) (i : ℕ) (v : A) (u : B) → P i v u → ((j : ℕ) → P j (f j) (h j)) → (j : ℕ) → P j (put f i v j) (put h i u j)
 both_put {A} {B} P f h i v u here there j = go (j == i) refl
@@ -51,11 +50,12 @@ both_put {A} {B} P f h i v u here there j = go (j == i) refl
     go true e = subst (λ k. P k v u) (sym ((Decides-eqb j i).0 e)) here
     go false e = there j
 
--- two runs of the world, one after the other
-events_append : {C O Q : Type 0} (n : ℕ) (store : Store C O (List C) Q (List C)) (es fs : List (Event C Q)) (w : World C O Q (List C)) → after_events n store (es ++ fs) w ≡ after_events n store fs (after_events n store es w)
-events_append n store [] fs w = refl
-events_append n store (e ∷ es) fs w = events_append n store es fs (after_event n store w e)
+-- the world after the event that something is, if it is one
+abbrev with_event : {C O Q : Type 0} → ℕ → Store C O (List C) Q (List C) → World C O Q (List C) → Option (Event C Q) → World C O Q (List C)
+with_event n store w None = w
+with_event n store w (Some e) = after_event n store w e
 
+-- what is submitted in two runs, one after the other
 submitted_append : {C Q : Type 0} (es fs : List (Event C Q)) → submitted (es ++ fs) ≡ submitted es ++ submitted fs
 submitted_append [] fs = refl
 submitted_append (Handle i input ∷ es) fs = ap (λ xs. submitted_by input ++ xs) (submitted_append es fs) ∙ sym (append_assoc (submitted_by input) (submitted es) (submitted fs))
@@ -208,12 +208,12 @@ module _ {C O Q A : Type 0} (store : Store C O (List C) Q (List C)) (is_answer :
     restarted_node a b i v h c f e = record { force = same_trans v.facts (facts a) (facts b) h.force f; volatile = e; numbered = λ t. c ∙ h.numbered t }
 
     abbrev Simulated : Group D C M O Q A → World C O Q (List C) → List C → Type 0
-    Simulated s w commands = (es : List (Event C Q)) × Simulates s (after_events n store es w) × ((c : C) → Has (submitted es) c → Has commands c)
+    Simulated s w commands = (e : Option (Event C Q)) × Simulates s (with_event n store w e) × ((c : C) → Has (submitted (events_of (e ∷ []))) c → Has commands c)
 
     -- a restart of a node of the world
     restart : (s : Group D C M O Q A) (w : World C O Q (List C)) (i : ℕ) (new : Node D C M) (commands : List C) → Simulates s w → is_node n i ≡ true → IsNode n i new (record { facts = (w.nodes i).facts; volatile = world.initial }) → Simulated (record s { nodes = put s.nodes i new }) w commands
     restart s w i new commands sim node here = (
-      Restart i ∷ [],
+      Some (Restart i),
       subst (λ (b : Bool). Simulates (record s { nodes = put s.nodes i new }) (if b then with_restart w i else w)) (sym node)
           (record { nodes = both_put (λ j a b. IsNode n j a b) s.nodes w.nodes i new (record { facts = (w.nodes i).facts; volatile = world.initial }) here sim.nodes; sent = sim.sent; given = sim.given }),
       λ c h. absurd h,
@@ -227,7 +227,7 @@ module _ {C O Q A : Type 0} (store : Store C O (List C) Q (List C)) (is_answer :
         ⊎_elim (λ (old : Has s.given x). let r = sim.given x old in (r.0, has_left w.replies (step.reply ∷ []) r.0 r.1, r.2))
         (elim [ inl e ↦ (step.reply, has_right w.replies (step.reply ∷ []) step.reply (inl refl), subst (λ y. IsGiven y step.reply) e (does.reply, about (config_of n i) (w.nodes i) w.sent input event (subst (λ m. IsInput m input event) sim.sent is))) | inr m ↦ absurd m ])
         (has_cases s.given (record { input = input; reply = output.reply } ∷ []) x k) in (
-          Handle i event ∷ [],
+          Some (Handle i event),
           subst (λ (b : Bool). Simulates (after s (called i input output new)) (if b then with_step w i step else w)) (sym node)
               (record {
                 nodes = both_put (λ j a b. IsNode n j a b) s.nodes w.nodes i new (record { facts = (w.nodes i).facts ++ step.effect.facts; volatile = step.effect.volatile })
@@ -238,20 +238,24 @@ module _ {C O Q A : Type 0} (store : Store C O (List C) Q (List C)) (is_answer :
           λ c k. subst (λ xs. Has (xs ++ []) c) (same_commands s.sent input event is) k,
         )
     happens s w (refused i new) sim (node, same, kept) =
-        ([], one_same s w i new sim (same_node (s.nodes i) new i (w.nodes i) (sim.nodes i) same (subst (SameForce (facts (s.nodes i))) (ap (λ k. k.facts) (sym kept.kept)) (same_refl (facts (s.nodes i)))) kept.volatile), λ c h. absurd h)
+        (None, one_same s w i new sim (same_node (s.nodes i) new i (w.nodes i) (sim.nodes i) same (subst (SameForce (facts (s.nodes i))) (ap (λ k. k.facts) (sym kept.kept)) (same_refl (facts (s.nodes i)))) kept.volatile), λ c h. absurd h)
     happens s w (rewritten i output new) sim (node, same, did) =
-        ([], one_same s w i new sim (same_node (s.nodes i) new i (w.nodes i) (sim.nodes i) same (same_sym (facts new) (facts (s.nodes i)) did.force) did.volatile), λ c h. absurd h)
-    happens s w (reopened i a b new) sim (node, same, opens, opened) =
-        let e = opened.only opens.0 opens.1 in
+        (None, one_same s w i new sim (same_node (s.nodes i) new i (w.nodes i) (sim.nodes i) same (same_sym (facts new) (facts (s.nodes i)) did.force) did.volatile), λ c h. absurd h)
+    happens s w (reopened i a b new) sim (node, opens, opened) =
+        let read = opened.only (owner (s.nodes i)) opens.0 opens.1 in
+        let e = read.0 in
+        let same = same_config (s.nodes i) new read.1 in
         restart s w i new [] sim node (restarted_node (s.nodes i) new i (w.nodes i) (sim.nodes i) same (subst (SameForce (facts (s.nodes i))) (sym e) (same_sym opens.0 (facts (s.nodes i)) opens.2)) opened.restarted)
-    happens s w (stopped i input a b new) sim (node, same, event, is, opens, opened) =
+    happens s w (stopped i input a b new) sim (node, event, is, opens, opened) =
         let step = world.step store (config_of n i) (w.nodes i) w.sent event in
         let more = (world.step store (config (s.nodes i)) (node_with (w.nodes i).facts (volatile (s.nodes i))) s.sent event).effect.facts in
         ⊎_elim
-        (λ before. let e = opened.only (facts (s.nodes i)) before in restart s w i new (handed_in_by input ++ []) sim node (restarted_node (s.nodes i) new i (w.nodes i) (sim.nodes i) same (subst (SameForce (facts (s.nodes i))) (sym e) (same_refl (facts (s.nodes i)))) opened.restarted))
-        (λ after. let e = opened.only (facts (s.nodes i) ++ more) after in
+        (λ before. let read = opened.only (owner (s.nodes i)) (facts (s.nodes i)) before in let e = read.0 in let same = same_config (s.nodes i) new read.1 in restart s w i new (handed_in_by input ++ []) sim node (restarted_node (s.nodes i) new i (w.nodes i) (sim.nodes i) same (subst (SameForce (facts (s.nodes i))) (sym e) (same_refl (facts (s.nodes i)))) opened.restarted))
+        (λ after. let read = opened.only (owner (s.nodes i)) (facts (s.nodes i) ++ more) after in
+        let e = read.0 in
+        let same = same_config (s.nodes i) new read.1 in
         let f = e ∙ ap (λ st. facts (s.nodes i) ++ st.effect.facts) (same_step s w i event sim node) in (
-          Stop i event ∷ [],
+          Some (Stop i event),
           subst (λ (t : Bool). Simulates (record s { nodes = put s.nodes i new }) (if t then with_stop w i step.effect.facts else w)) (sym node)
               (record { nodes = both_put (λ j x y. IsNode n j x y) s.nodes w.nodes i new (record { facts = (w.nodes i).facts ++ step.effect.facts; volatile = world.initial }) (opened_node (s.nodes i) new i (w.nodes i) step.effect.facts (sim.nodes i) same f opened.restarted) sim.nodes; sent = sim.sent; given = sim.given }),
           λ c k. subst (λ xs. Has (xs ++ []) c) (same_commands s.sent input event is) k,
@@ -265,20 +269,49 @@ module _ {C O Q A : Type 0} (store : Store C O (List C) Q (List C)) (is_answer :
     handed_append (reopened i a b new) hs = refl
     handed_append (stopped i input a b new) hs = ap (λ xs. xs ++ handed_in hs) (sym (push_nil (handed_in_by input)))
 
-    -- a whole run
-    all_happen : (s : Group D C M O Q A) (w : World C O Q (List C)) (hs : List (Happening D C M O Q A)) → Simulates s w → AreAllowed octets store is_answer n s hs → Simulated (after_all s hs) w (handed_in hs)
-    all_happen s w [] sim allowed = ([], sim, λ c h. absurd h)
+    -- a whole run, at each of its moments
+    record Run (s : Group D C M O Q A) (w : World C O Q (List C)) (hs : List (Happening D C M O Q A)) : Type 0 where
+      pub moments : List (Option (Event C Q))
+      pub follows : Follows store n s w hs moments
+      pub ends : Simulates (after_all s hs) (after_events n store (events_of moments) w)
+      pub commands : (c : C) → Has (submitted (events_of moments)) c → Has (handed_in hs) c
+
+    is_world : (s : Group D C M O Q A) (w : World C O Q (List C)) → Simulates s w → IsWorld n s w
+    is_world s w sim = record { nodes = sim.nodes; sent = sim.sent }
+
+    first : (s : Group D C M O Q A) (w : World C O Q (List C)) (h : Happening D C M O Q A) (hs : List (Happening D C M O Q A)) → Simulates s w → (one : Simulated (after s h) w (handed_in (h ∷ []))) → Run (after s h) (with_event n store w one.0) hs → Run s w (h ∷ hs)
+    first s w h hs sim (None, after_one, has) rest = record {
+      moments = None ∷ rest.moments;
+      follows = (is_world s w sim, rest.follows);
+      ends = rest.ends;
+      commands = λ c k. subst (λ xs. Has xs c) (sym (handed_append h hs)) (has_right (handed_in (h ∷ [])) (handed_in hs) c (rest.commands c k));
+    }
+    first s w h hs sim (Some e, after_one, has) rest = record {
+      moments = Some e ∷ rest.moments;
+      follows = (is_world s w sim, rest.follows);
+      ends = rest.ends;
+      commands = λ c k. subst (λ xs. Has xs c) (sym (handed_append h hs)) (⊎_elim (λ (x : Has (submitted (e ∷ [])) c). has_left (handed_in (h ∷ [])) (handed_in hs) c (has c x)) (λ (y : Has (submitted (events_of rest.moments)) c). has_right (handed_in (h ∷ [])) (handed_in hs) c (rest.commands c y)) (has_cases (submitted (e ∷ [])) (submitted (events_of rest.moments)) c (subst (λ xs. Has xs c) (submitted_append (e ∷ []) (events_of rest.moments)) k)));
+    }
+
+    all_happen : (s : Group D C M O Q A) (w : World C O Q (List C)) (hs : List (Happening D C M O Q A)) → Simulates s w → AreAllowed octets store is_answer n s hs → Run s w hs
+    all_happen s w [] sim allowed = record { moments = []; follows = is_world s w sim; ends = sim; commands = λ c h. absurd h }
     all_happen s w (h ∷ hs) sim allowed =
         let one = happens s w h sim allowed.0 in
-        let rest = all_happen (after s h) (after_events n store one.0 w) hs one.1 allowed.1 in (
-          one.0 ++ rest.0,
-          subst (Simulates (after_all (after s h) hs)) (sym (events_append n store one.0 rest.0 w)) rest.1,
-          λ c k. subst (λ xs. Has xs c) (sym (handed_append h hs)) (⊎_elim (λ (x : Has (submitted one.0) c). has_left (handed_in (h ∷ [])) (handed_in hs) c (one.2 c x)) (λ (y : Has (submitted rest.0) c). has_right (handed_in (h ∷ [])) (handed_in hs) c (rest.2 c y)) (has_cases (submitted one.0) (submitted rest.0) c (subst (λ xs. Has xs c) (submitted_append one.0 rest.0) k))),
-        )
+        first s w h hs sim one (all_happen (after s h) (with_event n store w one.0) hs one.1 allowed.1)
 
-    starts : (s : Group D C M O Q A) → IsStart n s → Simulates s start_world
+    -- a node at the start
+    starts_as : (s : Group D C M O Q A) → IsStart octets n s → (i : ℕ) (b : Bool) → is_node n i ≡ b → IsNode n i (s.nodes i) (record { facts = []; volatile = world.initial })
+    starts_as s h i true is =
+        let (a, b, opens, opened) = h.formatted i is in
+        let read = opened.only (record { node = i; nodes = n }) [] opens in
+        record { force = subst (SameForce []) (sym read.0) (same_refl []); volatile = opened.restarted; numbered = λ t. ap (λ (m : Member). record { nodes = m.nodes; me = m.node }) read.1 }
+    starts_as s h i false is =
+        let idle = h.others i is in
+        record { force = subst (SameForce []) (sym idle.0) (same_refl []); volatile = idle.1; numbered = λ t. absurd (true≢false (sym t ∙ is)) }
+
+    starts : (s : Group D C M O Q A) → IsStart octets n s → Simulates s start_world
     starts s h = record {
-      nodes = λ i. record { force = subst (SameForce []) (sym (h.kept i)) (same_refl []); volatile = h.restarted i; numbered = h.numbered i };
+      nodes = λ i. starts_as s h i (is_node n i) refl;
       sent = h.sent;
       given = λ x k. absurd (subst (λ xs. Has xs x) h.given k);
     }
@@ -320,24 +353,26 @@ module _ {C O Q A : Type 0} (octets : C → List ℕ) (id : C → List ℕ) (out
   settles w events wanted p o world.PositionsExhausted most is has reply told = absurd reply
 
   -- the theorem
-  pub promised : {D M : Type 0} (start : Group D C M O Q A) (run : List (Happening D C M O Q A)) → n ≤ 9 → IsStart n start → AreAllowed octets (store_of Q id outcome) is_answer n start run
-      → Promised (store_of Q id outcome) is_answer n (handed_in run) (after_all start run)
+  pub promised : {D M : Type 0} (start : Group D C M O Q A) (run : List (Happening D C M O Q A)) → n ≤ 9 → IsStart octets n start → AreAllowed octets (store_of Q id outcome) is_answer n start run
+      → Promised (store_of Q id outcome) is_answer n start run
   promised start run most begins allowed =
       let store = store_of Q id outcome in
       let all = all_happen store is_answer octets n start start_world run (starts store is_answer octets n start begins) allowed in
-      let w = after_run n store all.0 in
-      let sim = all.1 in
-      let agree = agreement n store all.0 most in
-      let verdicts = equal_verdicts n store all.0 most in
+      let events = events_of all.moments in
+      let w = after_run n store events in
+      let sim = all.ends in
+      let agree = agreement n store events most in
+      let verdicts = equal_verdicts n store events most in
       let holds : (i p : ℕ) (c : C) → learned_command p (facts ((after_all start run).nodes i)) ≡ Some c → Has (w.nodes i).facts (Chosen p c) = λ i p c h. learned_is (w.nodes i).facts p c ((sim.nodes i).force.learned p ∙ h) in
       record {
-        events = all.0;
+        moments = all.moments;
+        follows = all.follows;
         learned = λ i p c h. (agree.held i i p c c (holds i p c h) (holds i p c h)).1;
         agreed = λ i j p c d h k. (agree.held i j p c d (holds i p c h) (holds j p d k)).0;
         chosen = agree.chosen;
-        answered = λ at' q k a h. let r = sim.given (record { input = inputs.Ask at' q; reply = replies.Answered k a }) h in answers w all.0 at' q k a r.0 most refl r.1 r.2;
+        answered = λ at' q k a h. let r = sim.given (record { input = inputs.Ask at' q; reply = replies.Answered k a }) h in answers w events at' q k a r.0 most refl r.1 r.2;
         one = verdicts.one;
-        settled = λ wanted p o h. let r = sim.given (record { input = inputs.Outcome wanted; reply = replies.Settled p o }) h in settles w all.0 wanted p o r.0 most refl r.1 r.2.0 (λ other position out is. subst (IsAbout store is_answer (inputs.Outcome wanted)) is r.2.1);
-        submitted_before = λ c p o h. let r = sim.given (record { input = inputs.Submit c; reply = replies.Settled p o }) h in settles w all.0 (id c) p o r.0 most refl r.1 r.2.0 (λ other position out is. subst (IsAbout store is_answer (inputs.Submit c)) is r.2.1);
-        handed = λ p c h. all.2 c (only_submitted n store all.0 p c most h);
+        settled = λ wanted p o h. let r = sim.given (record { input = inputs.Outcome wanted; reply = replies.Settled p o }) h in settles w events wanted p o r.0 most refl r.1 r.2.0 (λ other position out is. subst (IsAbout store is_answer (inputs.Outcome wanted)) is r.2.1);
+        submitted_before = λ c p o h. let r = sim.given (record { input = inputs.Submit c; reply = replies.Settled p o }) h in settles w events (id c) p o r.0 most refl r.1 r.2.0 (λ other position out is. subst (IsAbout store is_answer (inputs.Submit c)) is r.2.1);
+        handed = λ p c h. all.commands c (only_submitted n store events p c most h);
       }

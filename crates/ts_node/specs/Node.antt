@@ -1,7 +1,7 @@
 -- A node on two disks: its facts, which its disks hold, and the world's node that it is.
 use Rattle.std.proofs.Common.{◌≡◌, ◌≤◌, ◌⊎◌, ◌++◌, ◌+◌, ◌^◌, ℕ, List, [], false, true, Result, Ok, Err}
 use Rattle.ts_disk.specs.Disk.{State}
-use Rattle.ts_journal.specs.Images.{AnyPair, EveryPair}
+use Rattle.ts_journal.specs.Images.{Member, AnyPair, EveryPair}
 use Rattle.ts_synod.specs.declared.message.Fact.{Fact}
 use Rattle.ts_synod.specs.declared.message.Message.{Message}
 use Rattle.ts_synod.specs.Config.{Config}
@@ -17,7 +17,7 @@ use Rattle.ts_node.specs.declared.input.NodeFault.{NodeFault}
 use Rattle.ts_node.specs.declared.input.NodeFault.TheVariants as faults
 use Rattle.ts_node.specs.declared.input.Output.{Output}
 use Rattle.ts_node.specs.declared.input.Reply.TheVariants as replies
-use Rattle.ts_record.specs.Kept.{course}
+use Rattle.ts_record.specs.Kept.{course, member}
 use Rattle.ts_record.specs.Rewrite.{Steps}
 use Rattle.ts_record.specs.declared.progress.Progress.{Progress}
 use Rattle.ts_node.specs.Inputs.{IsReply}
@@ -28,6 +28,13 @@ use Rattle.ts_node.specs.Roles.{StandFor, config_of, volatile_of}
 abbrev pub config : {D C M : Type 0} → Node D C M → Config
 config node = config_of node.roles
 
+-- a node of this configuration, as a record's header has it
+abbrev pub member_as : Config → Member
+member_as k = record { node = k.me; nodes = k.nodes }
+
+abbrev pub owner : {D C M : Type 0} → Node D C M → Member
+owner node = member_as (config node)
+
 -- what a restart forgets
 abbrev pub volatile : {D C M : Type 0} → Node D C M → world.Volatile C
 volatile node = volatile_of node.roles
@@ -36,10 +43,11 @@ volatile node = volatile_of node.roles
 abbrev pub facts : {D C M : Type 0} → Node D C M → List (Fact C)
 facts node = node.kept.facts
 
--- Every pair of images that a crash now may leave opens to the facts; the roles are those of a node that has kept them; and the machine
--- took the first of the learned commands.
+-- Every pair of images that a crash now may leave opens to the facts, as the record of this node; the roles are those of a node that has
+-- kept them; and the machine took the first of the learned commands.
 pub record IsWhole {D C M : Type 0} (state : D → State) (octets : C → List ℕ) (commands : M → List C) (node : Node D C M) : Type 0 where
-  pub opens : AnyPair (OpensToFrom octets node.kept.swapped node.kept.facts) (state node.kept.a) (state node.kept.b)
+  pub opens : AnyPair (OpensToFrom octets (member node.kept) node.kept.swapped node.kept.facts) (state node.kept.a) (state node.kept.b)
+  pub whose : member node.kept ≡ owner node
   pub stand : StandFor node.roles node.kept.facts
   pub part : IsPart (commands node.machine) (log_of node.kept.facts)
 
@@ -47,13 +55,13 @@ pub record IsWhole {D C M : Type 0} (state : D → State) (octets : C → List �
 abbrev pub IsSound : {D C M : Type 0} → (D → State) → (C → List ℕ) → (M → List C) → Node D C M → Type 0
 IsSound state octets commands node = node.kept.broken ≡ false → IsWhole state octets commands node
 
--- the pair opens to the facts before, or to those with the new ones
-abbrev pub ToEither : {C : Type 0} → (C → List ℕ) → List (Fact C) → List (Fact C) → List ℕ → List ℕ → Type 0
-ToEither octets before more a b = OpensTo octets before a b ⊎ OpensTo octets (before ++ more) a b
+-- the pair opens to the facts before, or to those with the new ones, as the record of this member
+abbrev pub ToEither : {C : Type 0} → (C → List ℕ) → Member → List (Fact C) → List (Fact C) → List ℕ → List ℕ → Type 0
+ToEither octets whose before more a b = OpensTo octets whose before a b ⊎ OpensTo octets whose (before ++ more) a b
 
 -- at every moment of a call each pair of images opens to the facts before it, or to those with the new ones
 abbrev pub Moments : {D C M : Type 0} → (D → State) → (C → List ℕ) → Node D C M → List (Fact C) → Node D C M → Type 0
-Moments state octets old more new = EveryPair (ToEither octets (facts old) more) (state old.kept.a) (state old.kept.b) (state new.kept.a) (state new.kept.b)
+Moments state octets old more new = EveryPair (ToEither octets (owner old) (facts old) more) (state old.kept.a) (state old.kept.b) (state new.kept.a) (state new.kept.b)
 
 -- one of the two devices failed in a call
 abbrev pub Failed : {D C M : Type 0} → (D → State) → Node D C M → Node D C M → Type 0

@@ -2,7 +2,7 @@
 
 ghost use Rattle.std.specs.Prelude.{◌≤◌, ℕ, List};
 ghost use Rattle.ts_node.specs.Machine.{store_of};
-ghost use Rattle.ts_node.specs.Run.{AreAllowed, Group, Happening, IsStart, Promised, after_all, handed_in};
+ghost use Rattle.ts_node.specs.Run.{AreAllowed, Group, Happening, IsStart, Promised};
 
 use crate::machine::Machine;
 use ts_disk::Disk;
@@ -14,10 +14,11 @@ use ts_synod::Command;
 /// each id is settled at the first position that has it, with the outcome there; and each chosen command was submitted.
 ///
 /// A run is what the contracts of `Node::handle` and `Node::open` allow: each call meets that of `handle`, and each opening that of `open`
-/// on images that a crash may leave. The premises: at most nine nodes, each of which was formatted once with its own number, keeps it when
-/// it is opened, and has a machine of the same basis; and no message that was not sent is delivered.
+/// on images that a crash may leave. At each moment the nodes have the facts, by their force, and the messages of one run of the protocol's
+/// world. The premises: at most nine nodes, each of which was first opened on what `Record::format` left for its own number, and has a machine
+/// of the same basis; and no message that was not sent is delivered.
 pub fn headline<D: Disk, C: Command + Codec, M: Machine<C>>()
-    ensures { (basis : M.Basis) (n : ℕ) (start : Group D C M M.Outcome M.Question M.Answer) (run : List (Happening D C M M.Outcome M.Question M.Answer)) → n ≤ 9 → IsStart n start
+    ensures { (basis : M.Basis) (n : ℕ) (start : Group D C M M.Outcome M.Question M.Answer) (run : List (Happening D C M M.Outcome M.Question M.Answer)) → n ≤ 9 → IsStart C.octets n start
         → AreAllowed C.octets (store_of M.Question M.client_id M.outcome) (M.is_answer basis) n start run
-        → Promised (store_of M.Question M.client_id M.outcome) (M.is_answer basis) n (handed_in run) (after_all start run) }
+        → Promised (store_of M.Question M.client_id M.outcome) (M.is_answer basis) n start run }
 {}

@@ -2,7 +2,7 @@
 
 ghost use Rattle.std.specs.Prelude.{◌≡◌, ◌≤◌, ◌⊎◌, [], ℕ, List, false, true, IfOk, IfErr, OnOk, OnErr, MatchResult, IsErrOf, ◌++◌, length};
 ghost use Rattle.ts_disk.specs.Disk.{State};
-ghost use Rattle.ts_journal.specs.Images.{AnyPair, EveryPair};
+ghost use Rattle.ts_journal.specs.Images.{Member, AnyPair, EveryPair};
 ghost use Rattle.ts_journal.specs.Choice.{IsChosen};
 ghost use Rattle.ts_journal.specs.declared.choice.Choice.{Choice};
 ghost use Rattle.ts_synod.specs.declared.message.Fact.{Fact};
@@ -17,8 +17,8 @@ ghost use Rattle.ts_record.specs.Facts.{AllFit, OpensTo, encodings};
 ghost use Rattle.ts_node.specs.Roles.{IsLatest, facts_in, volatile_after};
 ghost use Rattle.ts_record.specs.Record.{OpensToForce};
 ghost use Rattle.ts_synod.specs.Force.{SameForce};
-ghost use Rattle.ts_record.specs.Opening.{IsFault};
-ghost use Rattle.ts_node.specs.Node.{Compacts, Failed, Handles, IsSound, Moments, config, fault_as, facts, volatile};
+ghost use Rattle.ts_record.specs.Opening.{IsFault, NothingNew};
+ghost use Rattle.ts_node.specs.Node.{Compacts, Failed, Handles, IsSound, Moments, config, fault_as, facts, owner, volatile};
 
 use crate::input::{Input, NodeFault, Output, Reply};
 use crate::machine::Machine;
@@ -52,17 +52,22 @@ impl<D: Disk, C: Command + Codec, M: Machine<C>> Node<D, C, M> {
     /// and the machine back.
     pub fn open(alloc: Global, a: D, b: D, machine: M) -> Result<Node<D, C, M>, Refused<D, M>>
         requires { M.commands machine ≡ [] }
-        // Each pair of images that a crash may leave opens to the facts.
-        ensures opens { IfOk result (λ node. AnyPair (OpensTo C.octets (facts node)) (D.state node.kept.a) (D.state node.kept.b)) }
+        // Each pair of images that a crash may leave opens to the facts, as the record of this node.
+        ensures opens { IfOk result (λ node. AnyPair (OpensTo C.octets (owner node) (facts node)) (D.state node.kept.a) (D.state node.kept.b)) }
         ensures sound { IfOk result (λ node. IsSound D.state C.octets M.commands node) }
         ensures restarted { IfOk result (λ node. volatile node ≡ initial) }
         ensures whole { IfOk result (λ node. node.kept.broken ≡ false) }
         // Which node it is is in the header of the disk in use.
         ensures owner { IfOk result (λ node. (choice : Choice) × IsChosen choice (D.state a).read (D.state b).read
             × (config node ≡ record { nodes = choice.owner.nodes; me = choice.owner.node })) }
-        // Where what is read opens to facts, these are the node's, or memory or a device failed.
-        ensures only { (kept : List (Fact C)) → OpensTo C.octets kept (D.state a).read (D.state b).read
-            → MatchResult result (λ node. facts node ≡ kept) (λ refused. (refused.fault ≡ Memory) ⊎ (refused.fault ≡ DiskFailed)) }
+        // Where what is read opens to facts as the record of a member, these are the node's, and it is that member; or memory or a device
+        // failed.
+        ensures only { (whose : Member) (kept : List (Fact C)) → OpensTo C.octets whose kept (D.state a).read (D.state b).read
+            → MatchResult result (λ node. (facts node ≡ kept) × (owner node ≡ whose)) (λ refused. (refused.fault ≡ Memory) ⊎ (refused.fault ≡ DiskFailed)) }
+        // A crash at any moment within the call leaves nothing that it could not leave before.
+        ensures moments { MatchResult result
+            (λ node. NothingNew (D.state a) (D.state b) (D.state node.kept.a) (D.state node.kept.b))
+            (λ refused. NothingNew (D.state a) (D.state b) (D.state refused.a) (D.state refused.b)) }
         // A fault other than the want of memory is the record's.
         ensures fault { IfErr result (λ refused. IsFault C.octets (D.state a) (D.state b) (D.state refused.a) (D.state refused.b) refused.fault) }
         ensures same { MatchResult result
@@ -150,7 +155,7 @@ impl<D: Disk, C: Command + Codec, M: Machine<C>> Node<D, C, M> {
         requires whole { self.old.kept.broken ≡ false }
         requires sound { IsSound D.state C.octets M.commands self.old }
         ensures step { Compacts self.old result self.new }
-        ensures moments { EveryPair (OpensToForce C.octets (facts self.old)) (D.state self.old.kept.a) (D.state self.old.kept.b) (D.state self.new.kept.a) (D.state self.new.kept.b) }
+        ensures moments { EveryPair (OpensToForce C.octets (owner self.old) (facts self.old)) (D.state self.old.kept.a) (D.state self.old.kept.b) (D.state self.new.kept.a) (D.state self.new.kept.b) }
         ensures sound { IsSound D.state C.octets M.commands self.new }
         ensures config { config self.new ≡ config self.old }
         ensures basis { M.basis self.new.machine ≡ M.basis self.old.machine }
@@ -182,7 +187,7 @@ impl<D: Disk, C: Command + Codec, M: Machine<C>> Node<D, C, M> {
             → Moments D.state C.octets self.old (world.step (store_of M.Question M.client_id M.outcome) (config self.old) (node_with kept (volatile self.old)) sent event).effect.facts self.new }
         // Compaction is no event of the world: it leaves the force of the facts, also where a crash comes within it.
         ensures compacts { self.old.kept.broken ≡ false → input.now ≡ Input.Compact → Compacts self.old result self.new
-            × EveryPair (OpensToForce C.octets (facts self.old)) (D.state self.old.kept.a) (D.state self.old.kept.b) (D.state self.new.kept.a) (D.state self.new.kept.b) }
+            × EveryPair (OpensToForce C.octets (owner self.old) (facts self.old)) (D.state self.old.kept.a) (D.state self.old.kept.b) (D.state self.new.kept.a) (D.state self.new.kept.b) }
         ensures sound { IsSound D.state C.octets M.commands self.new }
         ensures config { config self.new ≡ config self.old }
         ensures basis { M.basis self.new.machine ≡ M.basis self.old.machine }

@@ -2,8 +2,8 @@
 use Rattle.std.proofs.Common.{◌≡◌, ◌⊎◌, inl, inr, ⊎_elim, ◌≤◌, ◌<◌, ◌+◌, ℕ, zero, suc, Bool, true, false, cond, List, [], ◌∷◌, ◌++◌, length, take, get_or, refl, sym, ◌∙◌, ap, subst, arith, length-append}
 use Rattle.std.proofs.lemmas.List.{take_more, append-nil}
 use Rattle.ts_disk.specs.Disk.{State, IsDisk}
-use Rattle.ts_journal.specs.Images.{IsBody, entry, OpensFrom, BeforeOrAfter, OneOrOther, AnyPair}
-use Rattle.ts_journal.specs.Settled.{Holds, EveryMoment, disk_a, disk_b}
+use Rattle.ts_journal.specs.Images.{Member, IsBody, entry, OpensFrom, BeforeOrAfter, OneOrOther, AnyPair}
+use Rattle.ts_journal.specs.Settled.{Holds, member_in, EveryMoment, disk_a, disk_b}
 use Rattle.ts_journal.specs.declared.journal.Journal.{Journal}
 use Rattle.ts_journal.specs.declared.journal.Stage.{Stage}
 use Rattle.ts_journal.specs.declared.journal.Stage.TheVariants.{Live, Closed, Begun, Copying}
@@ -46,17 +46,17 @@ module _ {D C : Type 0} (state : D → State) (lawful : (d : D) → IsDisk (stat
   keeps_as j facts at bodies copied r holds are is way = (bodies, copied, holds, are, subst (IsUnderWay octets facts copied) (sym is) way)
 
   -- the journal's bodies are facts
-  pub from_bodies : (old new : Journal D) (swapped : Bool) (bodies : List (List ℕ)) (facts : List (Fact C)) → AreFacts octets bodies facts → EveryMoment state (OpensFrom swapped bodies) old new → EveryMoment state (OpensToFrom octets swapped facts) old new
-  from_bodies old new swapped bodies facts are run ca cb left_a left_b = (bodies, run ca cb left_a left_b, are)
+  pub from_bodies : (old new : Journal D) (m : Member) (swapped : Bool) (bodies : List (List ℕ)) (facts : List (Fact C)) → AreFacts octets bodies facts → EveryMoment state (OpensFrom m swapped bodies) old new → EveryMoment state (OpensToFrom octets m swapped facts) old new
+  from_bodies old new m swapped bodies facts are run ca cb left_a left_b = (bodies, run ca cb left_a left_b, are)
 
-  pub rest_from : (c : Ledger D C) → Keeps state octets c → EveryMoment state (OpensToFrom octets c.journal.swapped c.facts.items) c.journal c.journal
-  rest_from c keeps = from_bodies c.journal c.journal c.journal.swapped keeps.0 c.facts.items keeps.3 (rests state lawful c.journal keeps.0 keeps.1 keeps.2)
+  pub rest_from : (c : Ledger D C) → Keeps state octets c → EveryMoment state (OpensToFrom octets (member_in c.journal) c.journal.swapped c.facts.items) c.journal c.journal
+  rest_from c keeps = from_bodies c.journal c.journal (member_in c.journal) c.journal.swapped keeps.0 c.facts.items keeps.3 (rests state lawful c.journal keeps.0 keeps.1 keeps.2)
 
-  pub to_force : (old new : Journal D) (swapped : Bool) (facts : List (Fact C)) → EveryMoment state (OpensToFrom octets swapped facts) old new → EveryMoment state (OpensToForce octets facts) old new
-  to_force old new swapped facts run ca cb left_a left_b = let r = run ca cb left_a left_b in (facts, (r.0, opens swapped r.0 ca cb r.1, r.2), force_refl facts)
+  pub to_force : (old new : Journal D) (m : Member) (swapped : Bool) (facts : List (Fact C)) → EveryMoment state (OpensToFrom octets m swapped facts) old new → EveryMoment state (OpensToForce octets m facts) old new
+  to_force old new m swapped facts run ca cb left_a left_b = let r = run ca cb left_a left_b in (facts, (r.0, opens m swapped r.0 ca cb r.1, r.2), force_refl facts)
 
   -- each pair that a crash may leave
-  pub any_from : (c : Ledger D C) → Keeps state octets c → AnyPair (OpensToFrom octets c.journal.swapped c.facts.items) (state (disk_a c.journal)) (state (disk_b c.journal))
+  pub any_from : (c : Ledger D C) → Keeps state octets c → AnyPair (OpensToFrom octets (member_in c.journal) c.journal.swapped c.facts.items) (state (disk_a c.journal)) (state (disk_b c.journal))
   any_from c keeps ca cb left_a left_b = (keeps.0, any state c.journal keeps.0 keeps.1 keeps.2 ca cb left_a left_b, keeps.3)
 
   -- what the first step decides
@@ -89,8 +89,8 @@ module _ {D C : Type 0} (state : D → State) (lawful : (d : D) → IsDisk (stat
   pub all_copied : (facts list : List (Fact C)) (done : ℕ) (copied : List (List ℕ)) → IsUnderWay octets facts copied (copying list done) → done ≡ length list → AreFacts octets copied list
   all_copied facts list done copied way is = subst (AreFacts octets copied) (take_whole done list is) way.3
 
-  pub switches : (old new : Journal D) (facts list : List (Fact C)) (bodies copied : List (List ℕ)) → AreFacts octets bodies facts → AreFacts octets copied list → SameForce list facts → EveryMoment state (OneOrOther bodies copied) old new → EveryMoment state (OpensToForce octets facts) old new
-  switches old new facts list bodies copied are others force run ca cb left_a left_b = ⊎_elim
+  pub switches : (old new : Journal D) (m : Member) (facts list : List (Fact C)) (bodies copied : List (List ℕ)) → AreFacts octets bodies facts → AreFacts octets copied list → SameForce list facts → EveryMoment state (OneOrOther m bodies copied) old new → EveryMoment state (OpensToForce octets m facts) old new
+  switches old new m facts list bodies copied are others force run ca cb left_a left_b = ⊎_elim
       (λ o. (facts, (bodies, o, are), force_refl facts))
       (λ o. (list, (copied, o, others), force))
       (run ca cb left_a left_b)
@@ -115,14 +115,14 @@ module _ {D C : Type 0} (state : D → State) (lawful : (d : D) → IsDisk (stat
   rewrites_more Copying false list later more done is way = ⊎_elim (λ e. absurd (cc e)) (λ e. absurd (cc e)) way
 
   pub moves_facts : (old new : Journal D) (facts more : List (Fact C)) (bodies copied : List (List ℕ)) (text : List ℕ) → AreFacts octets bodies facts → Holds state bodies copied old → AllFit octets more → IsBody (encodings octets more) → text ≡ entry (encodings octets more)
-      → ((bodies copied : List (List ℕ)) (body : List ℕ) → IsBody body → text ≡ entry body → Holds state bodies copied old → EveryMoment state (BeforeOrAfter old.swapped bodies body) old new)
-      → EveryMoment state (ToBeforeOrAfter octets old.swapped facts more) old new
+      → ((bodies copied : List (List ℕ)) (body : List ℕ) → IsBody body → text ≡ entry body → Holds state bodies copied old → EveryMoment state (BeforeOrAfter (member_in old) old.swapped bodies body) old new)
+      → EveryMoment state (ToBeforeOrAfter octets (member_in old) old.swapped facts more) old new
   moves_facts old new facts more bodies copied text are holds fit body is run ca cb left_a left_b = ⊎_elim
       (λ before. inl (bodies, before, are))
       (λ after. inr (bodies ++ encodings octets more ∷ [], after, are_more octets bodies facts more (encodings octets more) are fit refl))
       (run bodies copied (encodings octets more) body is holds ca cb left_a left_b)
 
-  pub rest_moves : (c : Ledger D C) (more : List (Fact C)) → Keeps state octets c → EveryMoment state (ToBeforeOrAfter octets c.journal.swapped c.facts.items more) c.journal c.journal
+  pub rest_moves : (c : Ledger D C) (more : List (Fact C)) → Keeps state octets c → EveryMoment state (ToBeforeOrAfter octets (member_in c.journal) c.journal.swapped c.facts.items more) c.journal c.journal
   rest_moves c more keeps ca cb left_a left_b = inl (rest_from c keeps ca cb left_a left_b)
 
   pub is_facts_body : (more : List (Fact C)) → 0 < length more → length (encodings octets more) ≤ 4194500 → IsBody (encodings octets more)

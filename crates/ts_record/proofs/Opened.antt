@@ -2,7 +2,7 @@
 use Rattle.std.proofs.Common.{◌≡◌, ◌⊎◌, ◌≤◌, inl, inr, ⊎_elim, ◌+◌, ℕ, Bool, true, false, cond, List, [], ◌∷◌, ◌++◌, length, map, take, drop, get_or, Option, Some, refl, sym, ◌∙◌, ap, subst, arith, append_assoc, length-append}
 use Rattle.std.proofs.lemmas.List.{take_at, drop_at}
 use Rattle.std.specs.List.{flat_map, AllByRecursion}
-use Rattle.ts_journal.specs.Images.{Header, head, Block, block, IsWhole, IsBody, Stands, InUse, Opens}
+use Rattle.ts_journal.specs.Images.{Header, Member, member_of, head, Block, block, IsWhole, IsBody, Stands, InUse, Opens}
 use Rattle.ts_journal.specs.Choice.{header_of_owner, IsLive, IsOther, Unchosen, LooksLike}
 use Rattle.ts_journal.specs.declared.choice.Owner.{Owner}
 use Rattle.ts_journal.specs.declared.choice.Look.{Look}
@@ -107,8 +107,8 @@ module _ {C : Type 0} (octets : C → List ℕ) (one_encoding : (c d : C) → 1 
       (met octets image facts more end h live bodies read.0 s are)
 
 -- an image in use is live
-live_of : (bodies : List (List ℕ)) (image other : List ℕ) (u : InUse bodies image other) → IsLive u.header image
-live_of bodies image other u = record {
+live_of : (m : Member) (bodies : List (List ℕ)) (image other : List ℕ) (u : InUse m bodies image other) → IsLive u.header image
+live_of m bodies image other u = record {
   right = u.right;
   live = u.live;
   wide = u.is_live;
@@ -116,25 +116,32 @@ live_of bodies image other u = record {
   is = u.stands.closed.1 ∙ append_assoc (head u.header) (u.live ∷ flat_map block u.stands.blocks) (0 ∷ u.stands.closed.0);
 }
 
-pub not_unchosen : (bodies : List (List ℕ)) (a b : List ℕ) → Unchosen a b → Opens bodies a b → ⊥
-not_unchosen bodies a b none (inl u) = none.first u.header (live_of bodies a b u) u.behind
-not_unchosen bodies a b none (inr u) = none.second u.header (live_of bodies b a u) u.behind
+pub not_unchosen : (m : Member) (bodies : List (List ℕ)) (a b : List ℕ) → Unchosen a b → Opens m bodies a b → ⊥
+not_unchosen m bodies a b none (inl u) = none.first u.header (live_of m bodies a b u) u.behind
+not_unchosen m bodies a b none (inr u) = none.second u.header (live_of m bodies b a u) u.behind
 
 -- the disk that isn't chosen isn't in use
-not_other : (stage : Stage) (k : Header) (bodies : List (List ℕ)) (image other : List ℕ) → IsLive k image → IsOther stage k.generation other → InUse bodies other image → ⊥
-not_other Live k bodies image other live earlier u =
-    let m : IsLive earlier.0 other = record { right = earlier.3; live = earlier.1; wide = earlier.4; rest = earlier.2; is = earlier.6 } in
-    absurd (omega (arith, earlier.5, behind_live k u.header.generation image live u.behind, ap (λ (x : Header). x.generation) (one_header u.header earlier.0 other (live_of bodies other image u) m)))
-not_other Closed k bodies image other live shut u = live_not_shut u.header other (live_of bodies other image u) shut
-not_other Begun k bodies image other live none u = none
-not_other Copying k bodies image other live none u = none
+not_other : (stage : Stage) (k : Header) (m : Member) (bodies : List (List ℕ)) (image other : List ℕ) → IsLive k image → IsOther stage k.generation other → InUse m bodies other image → ⊥
+not_other Live k m bodies image other live earlier u =
+    let l : IsLive earlier.0 other = record { right = earlier.3; live = earlier.1; wide = earlier.4; rest = earlier.2; is = earlier.6 } in
+    absurd (omega (arith, earlier.5, behind_live k u.header.generation image live u.behind, ap (λ (x : Header). x.generation) (one_header u.header earlier.0 other (live_of m bodies other image u) l)))
+not_other Closed k m bodies image other live shut u = live_not_shut u.header other (live_of m bodies other image u) shut
+not_other Begun k m bodies image other live none u = none
+not_other Copying k m bodies image other live none u = none
 
 -- the bodies are on the disk that is chosen
-pub stands_chosen : (swapped : Bool) (owner : Owner) (stage : Stage) (bodies : List (List ℕ)) (a b : List ℕ) → IsLive (header_of_owner owner) (cond swapped b a) → IsOther stage owner.generation (cond swapped a b) → Opens bodies a b → (h : Header) × (live : ℕ) × Stands h live bodies (cond swapped b a)
-stands_chosen true owner stage bodies a b live other (inl u) = absurd (not_other stage (header_of_owner owner) bodies b a live other u)
-stands_chosen true owner stage bodies a b live other (inr u) = (u.header, u.live, u.stands)
-stands_chosen false owner stage bodies a b live other (inl u) = (u.header, u.live, u.stands)
-stands_chosen false owner stage bodies a b live other (inr u) = absurd (not_other stage (header_of_owner owner) bodies a b live other u)
+pub stands_chosen : (swapped : Bool) (owner : Owner) (stage : Stage) (m : Member) (bodies : List (List ℕ)) (a b : List ℕ) → IsLive (header_of_owner owner) (cond swapped b a) → IsOther stage owner.generation (cond swapped a b) → Opens m bodies a b → (h : Header) × (live : ℕ) × Stands h live bodies (cond swapped b a)
+stands_chosen true owner stage m bodies a b live other (inl u) = absurd (not_other stage (header_of_owner owner) m bodies b a live other u)
+stands_chosen true owner stage m bodies a b live other (inr u) = (u.header, u.live, u.stands)
+stands_chosen false owner stage m bodies a b live other (inl u) = (u.header, u.live, u.stands)
+stands_chosen false owner stage m bodies a b live other (inr u) = absurd (not_other stage (header_of_owner owner) m bodies a b live other u)
+
+-- the disk that is chosen is that member's
+pub owner_chosen : (swapped : Bool) (owner : Owner) (stage : Stage) (m : Member) (bodies : List (List ℕ)) (a b : List ℕ) → IsLive (header_of_owner owner) (cond swapped b a) → IsOther stage owner.generation (cond swapped a b) → Opens m bodies a b → member_of (header_of_owner owner) ≡ m
+owner_chosen true owner stage m bodies a b live other (inl u) = absurd (not_other stage (header_of_owner owner) m bodies b a live other u)
+owner_chosen true owner stage m bodies a b live other (inr u) = ap member_of (one_header (header_of_owner owner) u.header b live (live_of m bodies b a u)) ∙ u.owner
+owner_chosen false owner stage m bodies a b live other (inl u) = ap member_of (one_header (header_of_owner owner) u.header a live (live_of m bodies a b u)) ∙ u.owner
+owner_chosen false owner stage m bodies a b live other (inr u) = absurd (not_other stage (header_of_owner owner) m bodies a b live other u)
 
 -- only an image that looks right is live
 pub not_live : (look : Look) (image : List ℕ) → LooksLike image look → ((owner : Owner) → look ≡ Right owner → ⊥) → (h : Header) → IsLive h image → ⊥

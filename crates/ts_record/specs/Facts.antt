@@ -2,7 +2,7 @@
 use Rattle.std.specs.Prelude.{◌≡◌, ◌≤◌, ◌<◌, ◌^◌, ◌%◌, ℕ, List, ◌∷◌, ◌++◌, length, map, drop, Option, MatchOption}
 use Rattle.std.specs.List.{flat_map, AllByRecursion}
 use Rattle.std.specs.Int.{to_be_bytes, w32, w64}
-use Rattle.ts_journal.specs.Images.{Opens}
+use Rattle.ts_journal.specs.Images.{Member, Opens}
 use Rattle.ts_synod.specs.declared.message.Fact.{Fact}
 use Rattle.ts_synod.specs.declared.message.Fact.TheVariants.{Used, Promised, Took, Chosen}
 
@@ -76,6 +76,6 @@ Begins octets rest found = MatchOption found (NoFact octets rest)
 abbrev pub FactOrNot : {C : Type 0} → (C → List ℕ) → ℕ → List ℕ → Option (Fact C × ℕ) → Type 0
 FactOrNot octets kind fields found = Begins octets (kind ∷ fields) found
 
--- the pair of images opens to these facts
-abbrev pub OpensTo : {C : Type 0} → (C → List ℕ) → List (Fact C) → List ℕ → List ℕ → Type 0
-OpensTo octets facts a b = (bodies : List (List ℕ)) × Opens bodies a b × AreFacts octets bodies facts
+-- the pair of images opens to these facts, as the record of this member
+abbrev pub OpensTo : {C : Type 0} → (C → List ℕ) → Member → List (Fact C) → List ℕ → List ℕ → Type 0
+OpensTo octets member facts a b = (bodies : List (List ℕ)) × Opens member bodies a b × AreFacts octets bodies facts

@@ -2,6 +2,7 @@
 -- generation; and how far a rewrite is.
 use Rattle.std.specs.Prelude.{ℕ, List, Bool}
 use Rattle.ts_disk.specs.Disk.{State}
+use Rattle.ts_journal.specs.Images.{Member}
 use Rattle.ts_journal.specs.Settled.{Holds, disk_a, disk_b}
 use Rattle.ts_synod.specs.declared.message.Fact.{Fact}
 use Rattle.ts_record.specs.declared.ledger.Ledger.{Ledger}
@@ -18,6 +19,10 @@ pub record Kept (D C : Type 0) : Type 0 where
   pub generation : ℕ
   pub rewrite : Rewrite C
   pub broken : Bool
+
+-- the node whose record it is
+abbrev pub member : {D C : Type 0} → Kept D C → Member
+member kept = record { node = kept.node; nodes = kept.nodes }
 
 -- all but its disks
 abbrev pub course : {D C : Type 0} → Kept D C → Course C

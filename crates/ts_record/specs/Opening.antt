@@ -1,6 +1,6 @@
--- Why a pair of images is refused.
+-- Why a pair of images is refused, and what a crash within an opening leaves.
 use Rattle.std.specs.Prelude.{◌≡◌, ℕ, List, [], ◌∷◌, take, cond}
-use Rattle.ts_journal.specs.Images.{Header}
+use Rattle.ts_journal.specs.Images.{Header, EveryPair}
 use Rattle.ts_journal.specs.Choice.{IsLive, IsChosen, Unchosen}
 use Rattle.ts_journal.specs.declared.choice.Choice.{Choice}
 use Rattle.ts_disk.specs.Disk.{State}
@@ -37,3 +37,7 @@ IsFault octets old_a old_b new_a new_b GenerationsExhausted = ⊥
 IsFault octets old_a old_b new_a new_b NotFormatted = IsRefused old_a.read old_b.read NotFormatted
 IsFault octets old_a old_b new_a new_b OldVersion = IsRefused old_a.read old_b.read OldVersion
 IsFault octets old_a old_b new_a new_b (Damaged at) = (choice : Choice) × IsChosen choice old_a.read old_b.read × IsUnreadable octets (cond choice.swapped old_b.read old_a.read) at
+
+-- at every moment of a call each pair of images that a crash may leave is one that it could leave before the call
+abbrev pub NothingNew : State → State → State → State → Type 0
+NothingNew old_a old_b new_a new_b = EveryPair (λ a b. old_a.may_leave a × old_b.may_leave b) old_a old_b new_a new_b

@@ -1,6 +1,6 @@
 // A record while facts are appended to it, and while it is rewritten.
 ghost use Rattle.std.specs.Prelude.{◌≡◌, ◌≢◌, ◌≤◌, ◌<◌, ◌⊎◌, ◌++◌, ◌+◌, ◌^◌, ◌∷◌, [], ℕ, List, true, false, length, cond, IfOk, OnOk, OnErr, IfErr, IsErrOf};
-ghost use Rattle.ts_journal.specs.Settled.{EveryMoment, OneFailed};
+ghost use Rattle.ts_journal.specs.Settled.{EveryMoment, member_in, OneFailed};
 ghost use Rattle.ts_journal.specs.declared.journal.Stage.TheVariants.{Live, Closed, Begun, Copying};
 ghost use Rattle.ts_record.specs.declared.fault.Fault.TheVariants.{Memory, DiskFailed};
 ghost use Rattle.ts_record.specs.declared.progress.Progress.TheVariants.{Working, Switched};
@@ -35,7 +35,8 @@ fn shut<D: Disk, C: Codec>(alloc: Global, c: &mut Ledger<D, C>) -> Result<(), Fa
     ensures keeps { OnOk result (Keeps D.state C.octets c.new) }
     ensures course { OnOk result (course_of c.new ≡ on (course_of c.old) (begun (compacted c.old.facts.items))) }
     ensures refused { OnErr result (course_of c.new ≡ course_of c.old) }
-    ensures moments { EveryMoment D.state (OpensToFrom C.octets c.old.journal.swapped c.old.facts.items) c.old.journal c.new.journal }
+    ensures owner { member_in c.new.journal ≡ member_in c.old.journal }
+    ensures moments { EveryMoment D.state (OpensToFrom C.octets (member_in c.old.journal) c.old.journal.swapped c.old.facts.items) c.old.journal c.new.journal }
     ensures facts { c.new.facts ≡ c.old.facts }
     ensures memory { IsErrOf result Fault.Memory → c.new ≡ c.old }
     ensures fault { IfErr result (λ fault. (fault ≡ Memory) ⊎ ((fault ≡ DiskFailed) × OneFailed D.state c.old.journal c.new.journal)) }
@@ -53,7 +54,8 @@ fn begin<D: Disk, C: Codec>(c: &mut Ledger<D, C>) -> Result<(), Fault>
     ensures keeps { OnOk result (Keeps D.state C.octets c.new) }
     ensures course { OnOk result (course_of c.new ≡ on (course_of c.old) (copying c.old.copy.items 0)) }
     ensures refused { OnErr result (course_of c.new ≡ course_of c.old) }
-    ensures moments { EveryMoment D.state (OpensToFrom C.octets c.old.journal.swapped c.old.facts.items) c.old.journal c.new.journal }
+    ensures owner { member_in c.new.journal ≡ member_in c.old.journal }
+    ensures moments { EveryMoment D.state (OpensToFrom C.octets (member_in c.old.journal) c.old.journal.swapped c.old.facts.items) c.old.journal c.new.journal }
     ensures facts { c.new.facts ≡ c.old.facts }
     ensures fault { IfErr result (λ fault. (fault ≡ DiskFailed) × OneFailed D.state c.old.journal c.new.journal) }
 {
@@ -70,7 +72,8 @@ fn copy<D: Disk, C: Codec>(alloc: Global, c: &mut Ledger<D, C>) -> Result<(), Fa
     ensures keeps { OnOk result (Keeps D.state C.octets c.new) }
     ensures course { OnOk result (course_of c.new ≡ on (course_of c.old) (copying c.old.copy.items (c.old.done + 1))) }
     ensures refused { OnErr result (course_of c.new ≡ course_of c.old) }
-    ensures moments { EveryMoment D.state (OpensToFrom C.octets c.old.journal.swapped c.old.facts.items) c.old.journal c.new.journal }
+    ensures owner { member_in c.new.journal ≡ member_in c.old.journal }
+    ensures moments { EveryMoment D.state (OpensToFrom C.octets (member_in c.old.journal) c.old.journal.swapped c.old.facts.items) c.old.journal c.new.journal }
     ensures facts { c.new.facts ≡ c.old.facts }
     ensures memory { IsErrOf result Fault.Memory → c.new ≡ c.old }
     ensures fault { IfErr result (λ fault. (fault ≡ Memory) ⊎ ((fault ≡ DiskFailed) × OneFailed D.state c.old.journal c.new.journal)) }
@@ -89,7 +92,8 @@ fn switch<D: Disk, C: Codec>(alloc: Global, c: &mut Ledger<D, C>) -> Result<(), 
     ensures keeps { OnOk result (Keeps D.state C.octets c.new) }
     ensures course { OnOk result (course_of c.new ≡ switched (course_of c.old) c.old.copy.items) }
     ensures refused { OnErr result (course_of c.new ≡ course_of c.old) }
-    ensures moments { EveryMoment D.state (OpensToForce C.octets c.old.facts.items) c.old.journal c.new.journal }
+    ensures owner { member_in c.new.journal ≡ member_in c.old.journal }
+    ensures moments { EveryMoment D.state (OpensToForce C.octets (member_in c.old.journal) c.old.facts.items) c.old.journal c.new.journal }
     ensures facts { IfErr result (λ fault. c.new.facts ≡ c.old.facts) }
     ensures fault { IfErr result (λ fault. (fault ≡ DiskFailed) × OneFailed D.state c.old.journal c.new.journal) }
 {
@@ -108,8 +112,9 @@ pub(crate) fn step<D: Disk, C: Codec>(
     ensures keeps { OnOk result (Keeps D.state C.octets c.new) }
     ensures steps { IfOk result (λ answer. Steps (course_of c.old) answer (course_of c.new)) }
     ensures refused { OnErr result (course_of c.new ≡ course_of c.old) }
-    ensures moments { EveryMoment D.state (OpensToForce C.octets c.old.facts.items) c.old.journal c.new.journal }
-    ensures from { (IsLast (rewrite_of c.old) → ⊥) → EveryMoment D.state (OpensToFrom C.octets c.old.journal.swapped c.old.facts.items) c.old.journal c.new.journal }
+    ensures owner { member_in c.new.journal ≡ member_in c.old.journal }
+    ensures moments { EveryMoment D.state (OpensToForce C.octets (member_in c.old.journal) c.old.facts.items) c.old.journal c.new.journal }
+    ensures from { (IsLast (rewrite_of c.old) → ⊥) → EveryMoment D.state (OpensToFrom C.octets (member_in c.old.journal) c.old.journal.swapped c.old.facts.items) c.old.journal c.new.journal }
     ensures facts { IfErr result (λ fault. c.new.facts ≡ c.old.facts) }
     ensures memory { IsErrOf result Fault.Memory → c.new ≡ c.old }
     ensures fault { IfErr result (λ fault. (fault ≡ Memory) ⊎ ((fault ≡ DiskFailed) × OneFailed D.state c.old.journal c.new.journal)) }
@@ -144,7 +149,8 @@ pub(crate) fn append<D: Disk, C: Codec>(
     ensures swapped { c.new.journal.swapped ≡ c.old.journal.swapped }
     ensures generation { c.new.journal.generation ≡ c.old.journal.generation }
     ensures refused { OnErr result (course_of c.new ≡ course_of c.old) }
-    ensures moments { EveryMoment D.state (ToBeforeOrAfter C.octets c.old.journal.swapped c.old.facts.items facts.now) c.old.journal c.new.journal }
+    ensures owner { member_in c.new.journal ≡ member_in c.old.journal }
+    ensures moments { EveryMoment D.state (ToBeforeOrAfter C.octets (member_in c.old.journal) c.old.journal.swapped c.old.facts.items facts.now) c.old.journal c.new.journal }
     ensures facts { IfErr result (λ fault. c.new.facts.items ≡ c.old.facts.items) }
     ensures memory { IsErrOf result Fault.Memory → (c.new.journal ≡ c.old.journal) × (c.new.copy.items ≡ c.old.copy.items) × (c.new.done ≡ c.old.done) }
     ensures fault { IfErr result (λ fault. (fault ≡ Memory) ⊎ ((fault ≡ DiskFailed) × OneFailed D.state c.old.journal c.new.journal)) }

@@ -4,7 +4,7 @@ ghost use Rattle.ts_disk.specs.Disk.{IsDurable, DeviceFailed};
 ghost use Rattle.ts_journal.specs.Choice.{IsChosen, Unchosen};
 ghost use Rattle.ts_record.specs.declared.fault.Fault.TheVariants.{Memory, DiskFailed, NotFormatted, OldVersion, Damaged};
 ghost use Rattle.ts_record.specs.Blocks.{IsRead};
-ghost use Rattle.ts_record.specs.Opening.{BeginsOld, IsRefused, IsFault};
+ghost use Rattle.ts_record.specs.Opening.{BeginsOld, IsRefused, IsFault, NothingNew};
 ghost use Rattle.ts_record.specs.Record.{EitherFailed};
 
 use crate::blocks::{Contents, read_blocks};
@@ -59,6 +59,7 @@ pub(crate) fn opened<D: Disk, C: Codec>(
 ) -> Result<Found<C>, Fault>
     ensures durable_a { OnOk result (IsDurable (D.state a.new)) }
     ensures durable_b { OnOk result (IsDurable (D.state b.new)) }
+    ensures moments { NothingNew (D.state a.old) (D.state b.old) (D.state a.new) (D.state b.new) }
     ensures same_a { (D.state a.new).read ≡ (D.state a.old).read }
     ensures same_b { (D.state b.new).read ≡ (D.state b.old).read }
     ensures chosen { IfOk result (λ found. IsChosen found.choice (D.state a.old).read (D.state b.old).read) }

@@ -1,17 +1,17 @@
 // A record of facts on two disks.
 ghost use Rattle.std.specs.Prelude.{◌≡◌, ◌≤◌, ◌⊎◌, ◌++◌, ◌∷◌, [], ◌^◌, ◌+◌, ℕ, List, false, true, length, IfOk, OnOk, OnErr, IfErr, MatchResult, IsErrOf, drop, cond};
 ghost use Rattle.ts_disk.specs.Disk.{IsDurable, DeviceFailed};
-ghost use Rattle.ts_journal.specs.Images.{head, AnyPair, EveryPair};
+ghost use Rattle.ts_journal.specs.Images.{head, Member, AnyPair, EveryPair};
 ghost use Rattle.ts_record.specs.declared.fault.Fault.TheVariants.{Memory, DiskFailed, Broken, GenerationsExhausted};
 ghost use Rattle.ts_record.specs.Facts.{AllFit, encodings, OpensTo};
 ghost use Rattle.ts_journal.specs.Choice.{header_of_owner, IsLive, IsOther, IsChosen};
 ghost use Rattle.ts_journal.specs.declared.choice.Choice.{Choice};
 ghost use Rattle.ts_synod.specs.declared.message.Fact.{Fact};
 ghost use Rattle.ts_record.specs.Blocks.{IsRead};
-ghost use Rattle.ts_record.specs.Opening.{IsFault};
+ghost use Rattle.ts_record.specs.Opening.{IsFault, NothingNew};
 ghost use Rattle.ts_record.specs.Record.{ToBeforeOrAfter, OpensToFrom, OpensToForce, EitherFailed};
 ghost use Rattle.ts_record.specs.Rewrite.{idle, with_more, IsLast, Steps};
-ghost use Rattle.ts_record.specs.Kept.{course};
+ghost use Rattle.ts_record.specs.Kept.{course, member};
 ghost use Rattle.ts_synod.specs.Force.{SameForce};
 
 use crate::blocks::Contents;
@@ -71,7 +71,7 @@ fn record_of<D: Disk, C: Codec>(
     ensures nodes { result.nodes ≡ found.choice.owner.nodes }
     ensures generation { result.generation ≡ found.choice.owner.generation }
     ensures rewrite { result.rewrite ≡ idle }
-    ensures opens { AnyPair (OpensToFrom C.octets result.swapped result.facts) (D.state result.a) (D.state result.b) }
+    ensures opens { AnyPair (OpensToFrom C.octets (member result) result.swapped result.facts) (D.state result.a) (D.state result.b) }
 {
     let Found { choice, contents } = found;
     let Contents { facts, end } = contents;
@@ -109,7 +109,7 @@ impl<D: Disk, C: Codec> Record<D, C> {
         ensures second { OnOk result ((D.state b.new).read ≡
             head (record { node = node; nodes = nodes; generation = 0 }) ++ (0 ∷ 0 ∷ drop 26 (D.state b.old).read)) }
         // Each pair of images that a crash may leave opens to no facts.
-        ensures opens { OnOk result (AnyPair (OpensTo C.octets []) (D.state a.new) (D.state b.new)) }
+        ensures opens { OnOk result (AnyPair (OpensTo C.octets (record { node = node; nodes = nodes }) []) (D.state a.new) (D.state b.new)) }
         ensures fault { IfErr result (λ fault. (fault ≡ DiskFailed) × EitherFailed (D.state a.old) (D.state b.old) (D.state a.new) (D.state b.new)) }
     {
         format(a, b, node, nodes)?;
@@ -119,7 +119,7 @@ impl<D: Disk, C: Codec> Record<D, C> {
     /// Opens the record on two disks, which are synced and read first. Refused, it gives the disks back.
     pub fn open(alloc: Global, a: D, b: D) -> Result<Record<D, C>, Refused<D>>
         // Each pair of images that a crash may leave opens to the facts, from the disk in use.
-        ensures opens { IfOk result (λ opened. AnyPair (OpensToFrom C.octets opened.swapped opened.facts) (D.state opened.a) (D.state opened.b)) }
+        ensures opens { IfOk result (λ opened. AnyPair (OpensToFrom C.octets (member opened) opened.swapped opened.facts) (D.state opened.a) (D.state opened.b)) }
         // The disk in use is the one of the greatest generation among those that are live.
         ensures chosen { IfOk result (λ opened. (choice : Choice) × IsChosen choice (D.state a).read (D.state b).read
             × (opened.swapped ≡ choice.swapped) × (opened.generation ≡ choice.owner.generation)) }
@@ -134,9 +134,14 @@ impl<D: Disk, C: Codec> Record<D, C> {
         ensures same { MatchResult result
             (λ opened. ((D.state opened.a).read ≡ (D.state a).read) × ((D.state opened.b).read ≡ (D.state b).read))
             (λ refused. ((D.state refused.a).read ≡ (D.state a).read) × ((D.state refused.b).read ≡ (D.state b).read)) }
-        // Where what is read opens to facts, these are the record's, or memory or a device failed.
-        ensures only { (facts : List (Fact C)) → OpensTo C.octets facts (D.state a).read (D.state b).read
-            → MatchResult result (λ opened. opened.facts ≡ facts) (λ refused. (refused.fault ≡ Memory) ⊎ (refused.fault ≡ DiskFailed)) }
+        // Where what is read opens to facts as the record of a member, these are the record's, and it is that member's; or memory or
+        // a device failed.
+        ensures only { (owner : Member) (facts : List (Fact C)) → OpensTo C.octets owner facts (D.state a).read (D.state b).read
+            → MatchResult result (λ opened. (opened.facts ≡ facts) × (member opened ≡ owner)) (λ refused. (refused.fault ≡ Memory) ⊎ (refused.fault ≡ DiskFailed)) }
+        // At every moment of the call a crash leaves nothing that it could not leave before.
+        ensures moments { MatchResult result
+            (λ opened. NothingNew (D.state a) (D.state b) (D.state opened.a) (D.state opened.b))
+            (λ refused. NothingNew (D.state a) (D.state b) (D.state refused.a) (D.state refused.b)) }
         ensures fault { IfErr result (λ refused. IsFault C.octets (D.state a) (D.state b) (D.state refused.a) (D.state refused.b) refused.fault) }
     {
         let mut a = a;
@@ -215,16 +220,18 @@ impl<D: Disk, C: Codec> Record<D, C> {
         ensures swapped { self.new.swapped ≡ self.old.swapped }
         ensures generation { self.new.generation ≡ self.old.generation }
 
+        ensures owner { member self.new ≡ member self.old }
+
         // At a fault the facts stay, and so do the disk in use, its generation and the rewrite.
         ensures refused { OnErr result (course self.new ≡ course self.old) }
 
         // At every moment each pair of images opens to the facts before, or to those and all of the new ones, and from the
         // disk in use.
         ensures moments { self.old.broken ≡ false
-            → EveryPair (ToBeforeOrAfter C.octets self.old.swapped self.old.facts facts.now) (D.state self.old.a) (D.state self.old.b) (D.state self.new.a) (D.state self.new.b) }
+            → EveryPair (ToBeforeOrAfter C.octets (member self.old) self.old.swapped self.old.facts facts.now) (D.state self.old.a) (D.state self.old.b) (D.state self.new.a) (D.state self.new.b) }
 
         // Afterwards each pair of images opens to the facts, from the disk in use.
-        ensures opens { OnOk result (AnyPair (OpensToFrom C.octets self.new.swapped self.new.facts) (D.state self.new.a) (D.state self.new.b)) }
+        ensures opens { OnOk result (AnyPair (OpensToFrom C.octets (member self.new) self.new.swapped self.new.facts) (D.state self.new.a) (D.state self.new.b)) }
 
         ensures fault { IfErr result (λ fault. (fault ≡ Memory) ⊎ (fault ≡ DiskFailed) ⊎ (fault ≡ Broken)) }
         ensures memory { IsErrOf result Fault.Memory → self.new ≡ self.old }
@@ -252,19 +259,21 @@ impl<D: Disk, C: Codec> Record<D, C> {
     pub fn compact(&mut self, alloc: Global) -> Result<Progress, Fault>
         ensures steps { IfOk result (λ answer. Steps (course self.old) answer (course self.new)) }
 
+        ensures owner { member self.new ≡ member self.old }
+
         // At a fault the facts stay, and so do the disk in use, its generation and the rewrite.
         ensures refused { OnErr result (course self.new ≡ course self.old) }
 
         // At every moment each pair of images opens to facts of the same force.
         ensures moments { self.old.broken ≡ false
-            → EveryPair (OpensToForce C.octets self.old.facts) (D.state self.old.a) (D.state self.old.b) (D.state self.new.a) (D.state self.new.b) }
+            → EveryPair (OpensToForce C.octets (member self.old) self.old.facts) (D.state self.old.a) (D.state self.old.b) (D.state self.new.a) (D.state self.new.b) }
 
         // Before the last step each pair opens to the facts, from the disk in use.
         ensures from { self.old.broken ≡ false → (IsLast self.old.rewrite → ⊥)
-            → EveryPair (OpensToFrom C.octets self.old.swapped self.old.facts) (D.state self.old.a) (D.state self.old.b) (D.state self.new.a) (D.state self.new.b) }
+            → EveryPair (OpensToFrom C.octets (member self.old) self.old.swapped self.old.facts) (D.state self.old.a) (D.state self.old.b) (D.state self.new.a) (D.state self.new.b) }
 
         // Afterwards each pair of images opens to the facts, from the disk in use.
-        ensures opens { OnOk result (AnyPair (OpensToFrom C.octets self.new.swapped self.new.facts) (D.state self.new.a) (D.state self.new.b)) }
+        ensures opens { OnOk result (AnyPair (OpensToFrom C.octets (member self.new) self.new.swapped self.new.facts) (D.state self.new.a) (D.state self.new.b)) }
 
         // The facts to be copied are of the force of all.
         ensures force { OnOk result (SameForce self.new.facts self.old.facts) }

@@ -1,3 +1,4 @@
+use Rattle.ts_journal.specs.Settled.{member_in}
 use Rattle.std.proofs.Common.{[], ap}
 use Rattle.ts_record.specs.Rewrite.{begun, copying, rewrite_at}
 use Rattle.ts_record.proofs.Ledgers.{from_bodies, under, keeps_as, starts_copying}
@@ -7,7 +8,7 @@ pub returns-in_err-begin-clause-moments : goal.returns-in_err-begin-clause-momen
 returns-in_err-begin-clause-moments g c =
     let old = c.args.c.now in
     let k = c.requires.keeps in
-    from_bodies g.D.Disk.state g.D.Disk.lawful g.C.Codec.octets old.journal c.begin.new.self old.journal.swapped k.0 old.facts.items k.3 (c.begin.ensures.moments k.0 k.1 k.2)
+    from_bodies g.D.Disk.state g.D.Disk.lawful g.C.Codec.octets old.journal c.begin.new.self (member_in old.journal) old.journal.swapped k.0 old.facts.items k.3 (c.begin.ensures.moments k.0 k.1 k.2)
 
 pub returns-clause-keeps : goal.returns-clause-keeps
 returns-clause-keeps g c =
@@ -22,4 +23,4 @@ pub returns-clause-moments : goal.returns-clause-moments
 returns-clause-moments g c =
     let old = c.args.c.now in
     let k = c.requires.keeps in
-    from_bodies g.D.Disk.state g.D.Disk.lawful g.C.Codec.octets old.journal c.begin.new.self old.journal.swapped k.0 old.facts.items k.3 (c.begin.ensures.moments k.0 k.1 k.2)
+    from_bodies g.D.Disk.state g.D.Disk.lawful g.C.Codec.octets old.journal c.begin.new.self (member_in old.journal) old.journal.swapped k.0 old.facts.items k.3 (c.begin.ensures.moments k.0 k.1 k.2)

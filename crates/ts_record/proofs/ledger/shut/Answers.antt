@@ -1,3 +1,4 @@
+use Rattle.ts_journal.specs.Settled.{member_in}
 use Rattle.std.proofs.Common.{◌∙◌, ap}
 use Rattle.ts_record.specs.Compacted.{compacted}
 use Rattle.ts_record.specs.Rewrite.{begun, rewrite_at}
@@ -11,7 +12,7 @@ pub returns-in_err-shut-clause-moments : goal.returns-in_err-shut-clause-moments
 returns-in_err-shut-clause-moments g c =
     let old = c.args.c.now in
     let k = c.requires.keeps in
-    from_bodies g.D.Disk.state g.D.Disk.lawful g.C.Codec.octets old.journal c.shut.new.self old.journal.swapped k.0 old.facts.items k.3 (c.shut.ensures.moments k.0 k.1 k.2)
+    from_bodies g.D.Disk.state g.D.Disk.lawful g.C.Codec.octets old.journal c.shut.new.self (member_in old.journal) old.journal.swapped k.0 old.facts.items k.3 (c.shut.ensures.moments k.0 k.1 k.2)
 
 pub returns-clause-keeps : goal.returns-clause-keeps
 returns-clause-keeps g c =
@@ -25,4 +26,4 @@ pub returns-clause-moments : goal.returns-clause-moments
 returns-clause-moments g c =
     let old = c.args.c.now in
     let k = c.requires.keeps in
-    from_bodies g.D.Disk.state g.D.Disk.lawful g.C.Codec.octets old.journal c.shut.new.self old.journal.swapped k.0 old.facts.items k.3 (c.shut.ensures.moments k.0 k.1 k.2)
+    from_bodies g.D.Disk.state g.D.Disk.lawful g.C.Codec.octets old.journal c.shut.new.self (member_in old.journal) old.journal.swapped k.0 old.facts.items k.3 (c.shut.ensures.moments k.0 k.1 k.2)

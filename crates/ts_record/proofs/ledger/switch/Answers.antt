@@ -1,3 +1,4 @@
+use Rattle.ts_journal.specs.Settled.{member_in}
 use Rattle.std.proofs.Common.{[], ap, sym, subst}
 use Rattle.ts_record.specs.Facts.{AreFacts}
 use Rattle.ts_record.specs.Rewrite.{idle, copying, rewrite_at}
@@ -10,7 +11,7 @@ returns-in_err-switch-clause-moments g c =
     let k = c.requires.keeps in
     let list = old.copy.items in
     let way = under g.D.Disk.state g.D.Disk.lawful g.C.Codec.octets old k (copying list old.done) (ap (λ s. rewrite_at s list old.done) c.requires.copying) in
-    switches g.D.Disk.state g.D.Disk.lawful g.C.Codec.octets old.journal c.switch.new.self old.facts.items list k.0 k.1 k.3
+    switches g.D.Disk.state g.D.Disk.lawful g.C.Codec.octets old.journal c.switch.new.self (member_in old.journal) old.facts.items list k.0 k.1 k.3
     (all_copied g.D.Disk.state g.D.Disk.lawful g.C.Codec.octets old.facts.items list old.done k.1 way c.requires.none_left) way.0 (c.switch.ensures.moments k.0 k.1 k.2)
 
 pub returns-clause-keeps : goal.returns-clause-keeps
@@ -30,5 +31,5 @@ returns-clause-moments g c =
     let k = c.requires.keeps in
     let list = old.copy.items in
     let way = under g.D.Disk.state g.D.Disk.lawful g.C.Codec.octets old k (copying list old.done) (ap (λ s. rewrite_at s list old.done) c.requires.copying) in
-    switches g.D.Disk.state g.D.Disk.lawful g.C.Codec.octets old.journal c.switch.new.self old.facts.items list k.0 k.1 k.3
+    switches g.D.Disk.state g.D.Disk.lawful g.C.Codec.octets old.journal c.switch.new.self (member_in old.journal) old.facts.items list k.0 k.1 k.3
     (all_copied g.D.Disk.state g.D.Disk.lawful g.C.Codec.octets old.facts.items list old.done k.1 way c.requires.none_left) way.0 (c.switch.ensures.moments k.0 k.1 k.2)

@@ -2,7 +2,8 @@ use Rattle.std.proofs.Common.{◌≡◌, ◌∙◌, ◌++◌, Err, inl, inr, tru
 use Rattle.ts_synod.specs.Force.{log_of}
 use Rattle.ts_record.specs.Record.{ToBeforeOrAfter}
 use Rattle.ts_node.specs.Growing.{IsPart}
-use Rattle.ts_node.specs.Node.{IsWhole, fault_as}
+use Rattle.ts_record.specs.Kept.{member}
+use Rattle.ts_node.specs.Node.{IsWhole, ToEither, fault_as, member_as}
 use Rattle.ts_node.specs.Roles.{StandFor, facts_in}
 use Rattle.ts_node.proofs.Images.{cause, log_extends, part_extends, to_either}
 use Rattle.ts_node.proofs.node.Node.commit.Goals as goal
@@ -10,12 +11,16 @@ use Rattle.ts_node.proofs.node.Node.commit.Goals as goal
 pub returns-in-Ok-clause-moments : goal.returns-in-Ok-clause-moments
 returns-in-Ok-clause-moments g c = λ ca cb a b.
     let kept = c.args.self.now.kept in
-    to_either g.C.Codec.octets kept.swapped kept.facts (facts_in c.args.plan.change) ca cb (subst (λ more. ToBeforeOrAfter g.C.Codec.octets kept.swapped kept.facts more ca cb) c.facts.ensures (c.append.ensures.moments c.requires.whole ca cb a b))
+    let more = facts_in c.args.plan.change in
+    let run = subst (λ fs. ToBeforeOrAfter g.C.Codec.octets (member kept) kept.swapped kept.facts fs ca cb) c.facts.ensures (c.append.ensures.moments c.requires.whole ca cb a b) in
+    subst (λ m. ToEither g.C.Codec.octets m kept.facts more ca cb) (c.requires.sound c.requires.whole).whose (to_either g.C.Codec.octets (member kept) kept.swapped kept.facts more ca cb run)
 
 pub returns-in-Err-clause-moments : goal.returns-in-Err-clause-moments
 returns-in-Err-clause-moments g c = λ ca cb a b.
     let kept = c.args.self.now.kept in
-    to_either g.C.Codec.octets kept.swapped kept.facts (facts_in c.args.plan.change) ca cb (subst (λ more. ToBeforeOrAfter g.C.Codec.octets kept.swapped kept.facts more ca cb) c.facts.ensures (c.append.ensures.moments c.requires.whole ca cb a b))
+    let more = facts_in c.args.plan.change in
+    let run = subst (λ fs. ToBeforeOrAfter g.C.Codec.octets (member kept) kept.swapped kept.facts fs ca cb) c.facts.ensures (c.append.ensures.moments c.requires.whole ca cb a b) in
+    subst (λ m. ToEither g.C.Codec.octets m kept.facts more ca cb) (c.requires.sound c.requires.whole).whose (to_either g.C.Codec.octets (member kept) kept.swapped kept.facts more ca cb run)
 
 pub returns-in-Ok-clause-sound : goal.returns-in-Ok-clause-sound
 returns-in-Ok-clause-sound g c = λ whole.
@@ -26,6 +31,7 @@ returns-in-Ok-clause-sound g c = λ whole.
     let commands = g.M.Machine.commands old.machine in
     record {
       opens = c.in-Ok.ensures.opens;
+      whose = c.append.ensures.owner ∙ w.whose ∙ ap member_as (sym c.keep.ensures.config);
       stand = subst (StandFor c.keep.new.self) (sym e) (c.keep.ensures.stand old.kept.facts w.stand);
       part = subst (λ fs. IsPart commands (log_of fs)) (sym e) (part_extends (log_of old.kept.facts) (log_of (old.kept.facts ++ more)) commands (log_extends old.kept.facts more) w.part);
     }

@@ -1,9 +1,13 @@
-use Rattle.std.proofs.Common.{◌∙◌, ◌++◌, ap, subst}
+use Rattle.std.proofs.Common.{◌∙◌, ◌++◌, List, ap, subst, sym}
+use Rattle.ts_journal.specs.Images.{EveryPair, Member}
+use Rattle.ts_synod.specs.declared.message.Fact.{Fact}
 use Rattle.ts_synod.specs.Laws.{node_with}
 use Rattle.ts_synod.specs.Node.{step}
 use Rattle.ts_node.specs.Growing.{IsPart}
 use Rattle.ts_node.specs.Machine.{store_of}
-use Rattle.ts_node.specs.Node.{Moments, config, facts, volatile}
+use Rattle.ts_record.specs.Kept.{member}
+use Rattle.ts_node.specs.Node.{ToEither, config, facts, member_as, owner, volatile}
+use Rattle.ts_node.specs.Roles.{config_of}
 use Rattle.ts_node.proofs.Fits.{an_event, no_failure, plan_fits}
 use Rattle.ts_node.proofs.Images.{rests}
 use Rattle.ts_node.proofs.node.Node.take.Goals as goal
@@ -12,7 +16,7 @@ pub returns-in-Err-clause-moments : goal.returns-in-Err-clause-moments
 returns-in-Err-clause-moments g c = λ sent event is.
     let kept = c.args.self.now.kept in
     let w = c.requires.sound c.requires.whole in
-    rests g.C.Codec.octets kept.swapped kept.facts _ (g.D.Disk.state kept.a) (g.D.Disk.state kept.b) (g.D.Disk.lawful kept.a) (g.D.Disk.lawful kept.b) w.opens
+    rests g.C.Codec.octets (member kept) (owner c.args.self.now) kept.swapped kept.facts _ (g.D.Disk.state kept.a) (g.D.Disk.state kept.b) w.whose (g.D.Disk.lawful kept.a) (g.D.Disk.lawful kept.b) w.opens
 
 pub returns-in-Err-clause-failed : goal.returns-in-Err-clause-failed
 returns-in-Err-clause-failed g c = λ is.
@@ -27,7 +31,7 @@ pub commit-requires-clause-sound : goal.commit-requires-clause-sound
 commit-requires-clause-sound g c = λ whole.
     let w = c.requires.sound c.requires.whole in
     let stand = c.plan_input.ensures.same.stand c.args.self.now.kept.facts w.stand in
-    record { opens = w.opens; stand = stand; part = subst (IsPart (g.M.Machine.commands c.plan_input.new.machine)) stand.log c.plan_input.ensures.part }
+    record { opens = w.opens; whose = w.whose ∙ ap member_as (sym c.plan_input.ensures.same.config); stand = stand; part = subst (IsPart (g.M.Machine.commands c.plan_input.new.machine)) stand.log c.plan_input.ensures.part }
 
 pub commit-requires-clause-fit : goal.commit-requires-clause-fit
 commit-requires-clause-fit g c =
@@ -48,14 +52,22 @@ returns-in-Err-commit-clause-moments g c = λ sent event is.
     let old = c.args.self.now in
     let w = c.requires.sound c.requires.whole in
     let made = c.in-Ok.ensures.step (facts old) sent event w.stand is in
-    subst (λ more. Moments g.D.Disk.state g.C.Codec.octets old more c.commit.new.self) made.0.facts c.commit.ensures.moments
+    let state = g.D.Disk.state in
+    let new = c.commit.new.self in
+    let pairs = λ (m : Member) (more : List (Fact g.row.C.Denot)). EveryPair (ToEither g.C.Codec.octets m old.kept.facts more) (state old.kept.a) (state old.kept.b) (state new.kept.a) (state new.kept.b) in
+    subst (λ m. pairs m (step (store_of g.row.M-Question.Denot g.M.Machine.client_id g.M.Machine.outcome) (config old) (node_with (facts old) (volatile old)) sent event).effect.facts) (ap member_as c.plan_input.ensures.same.config)
+    (subst (pairs (member_as (config_of c.plan_input.new.self))) made.0.facts c.commit.ensures.moments)
 
 pub returns-in-Ok-commit-clause-moments : goal.returns-in-Ok-commit-clause-moments
 returns-in-Ok-commit-clause-moments g c = λ sent event is.
     let old = c.args.self.now in
     let w = c.requires.sound c.requires.whole in
     let made = c.in-Ok.ensures.step (facts old) sent event w.stand is in
-    subst (λ more. Moments g.D.Disk.state g.C.Codec.octets old more c.commit.new.self) made.0.facts c.commit.ensures.moments
+    let state = g.D.Disk.state in
+    let new = c.commit.new.self in
+    let pairs = λ (m : Member) (more : List (Fact g.row.C.Denot)). EveryPair (ToEither g.C.Codec.octets m old.kept.facts more) (state old.kept.a) (state old.kept.b) (state new.kept.a) (state new.kept.b) in
+    subst (λ m. pairs m (step (store_of g.row.M-Question.Denot g.M.Machine.client_id g.M.Machine.outcome) (config old) (node_with (facts old) (volatile old)) sent event).effect.facts) (ap member_as c.plan_input.ensures.same.config)
+    (subst (pairs (member_as (config_of c.plan_input.new.self))) made.0.facts c.commit.ensures.moments)
 
 pub returns-in-Ok-commit-clause-step : goal.returns-in-Ok-commit-clause-step
 returns-in-Ok-commit-clause-step g c = λ sent event is.
