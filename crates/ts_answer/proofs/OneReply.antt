@@ -33,7 +33,7 @@ use Rattle.std.proofs.lemmas.Bool.{leb-true}
 use Rattle.ts_search.proofs.Takes.{length_map}
 use Rattle.ts_answer.specs.Asked.{chain_of, question_of, search_of}
 use Rattle.ts_store.specs.declared.outcome.Outcome.{Outcome}
-use Rattle.ts_node.specs.Run.{Group, Promised}
+use Rattle.ts_node.specs.Run.{Group, Happening, Promised}
 use Rattle.ts_answer.specs.Laws.{AskTheSame, Headline, trust_store}
 use Rattle.ts_answer.specs.Machine.{IsAnswer}
 use Rattle.ts_answer.specs.Parts.{Unreadable, first_part, first_unreadable}
@@ -156,8 +156,8 @@ one_answer_of good commands q p a b fits same x y =
 
 -- ---- the headline
 
-pub the_headline : {D M : Type 0} (good : Check) (n : ℕ) (submitted : List Command) (s : Group D Command M Outcome Asked Answered) → Promised trust_store (IsAnswer good) n submitted s → Headline good n submitted s
-the_headline good n submitted s promised = record {
+pub the_headline : {D M : Type 0} (good : Check) (n : ℕ) (start : Group D Command M Outcome Asked Answered) (run : List (Happening D Command M Outcome Asked Answered)) → Promised trust_store (IsAnswer good) n start run → Headline good n start run
+the_headline good n start run promised = record {
   promised = promised;
   equal = λ x y q p k a b fits same first second.
       let f = promised.answered x q k a first in

@@ -3,7 +3,7 @@ use Rattle.std.specs.Prelude.{◌≡◌, ℕ, List, Option}
 use Rattle.ts_synod.specs.Lists.{Has}
 use Rattle.ts_synod.specs.Store.{Store}
 use Rattle.ts_node.specs.Machine.{store_of}
-use Rattle.ts_node.specs.Run.{Exchange, Group, Promised}
+use Rattle.ts_node.specs.Run.{Exchange, Group, Happening, Promised, after_all}
 use Rattle.ts_node.specs.declared.input.Input.TheVariants.{Ask}
 use Rattle.ts_node.specs.declared.input.Reply.TheVariants as replies
 use Rattle.ts_search.specs.View.{Check}
@@ -26,11 +26,12 @@ trust_store = store_of Asked id_of outcome_after
 abbrev pub answered : Option ℕ → Asked → ℕ → Answered → Exchange Command Outcome Asked Answered
 answered at' q k a = record { input = Ask at' q; reply = replies.Answered k a }
 
--- The headline, of a group of nodes after a run.
+-- The headline, of a run of a group of nodes.
 -- `promised`: no two nodes have learned different commands at one position, and what is learned is chosen; every answer given at k is the one
 -- of path validation or of the search (RFC 5280 6.1, 6.3) over the store that the first k chosen commands make; each id is settled at its
--- first position among the chosen commands, with the outcome there; each chosen command was submitted.
+-- first position among the chosen commands, with the outcome there; each chosen command was submitted. What is chosen is so in a run of the
+-- protocol's world that the group follows at each moment.
 -- `equal`: questions that ask the same at k got equal answers.
-pub record Headline {D M : Type 0} (good : Check) (n : ℕ) (submitted : List Command) (s : Group D Command M Outcome Asked Answered) : Type 0 where
-  pub promised : Promised trust_store (IsAnswer good) n submitted s
-  pub equal : (x y : Option ℕ) (q p : Asked) (k : ℕ) (a b : Answered) → Fits q → AskTheSame q p → Has s.given (answered x q k a) → Has s.given (answered y p k b) → a ≡ b
+pub record Headline {D M : Type 0} (good : Check) (n : ℕ) (start : Group D Command M Outcome Asked Answered) (run : List (Happening D Command M Outcome Asked Answered)) : Type 0 where
+  pub promised : Promised trust_store (IsAnswer good) n start run
+  pub equal : (x y : Option ℕ) (q p : Asked) (k : ℕ) (a b : Answered) → Fits q → AskTheSame q p → Has (after_all start run).given (answered x q k a) → Has (after_all start run).given (answered y p k b) → a ≡ b

@@ -1,7 +1,7 @@
 //! Laws about the definitions that the clauses of this crate cite, and the headline.
 
 ghost use Rattle.std.specs.Prelude.{◌≡◌, ◌≤◌, ℕ, List};
-ghost use Rattle.ts_node.specs.Run.{AreAllowed, Group, Happening, IsStart, after_all, handed_in};
+ghost use Rattle.ts_node.specs.Run.{AreAllowed, Group, Happening, IsStart};
 ghost use Rattle.ts_search.specs.View.{Check};
 ghost use Rattle.ts_question.specs.Question.{Asked, Fits};
 ghost use Rattle.ts_question.specs.Reply.{Answered};
@@ -27,12 +27,12 @@ pub fn one_answer()
 /// by the first k chosen commands, so equal questions at k get equal verdicts.
 ///
 /// A run is what the contracts of `ts_node::Node::handle` and `Node::open` allow, with rewrites of the record between any two events. The
-/// premises: at most nine nodes, each of which was formatted once with its own number and keeps it; one check of signatures at all of them; no
-/// message that was not sent is delivered; and each disk keeps to the laws of `ts_disk::Disk`.
+/// premises: at most nine nodes, each of which was first opened on what `Record::format` left for its own number and the same count of nodes;
+/// one check of signatures at all of them; no message that was not sent is delivered; and each disk keeps to the laws of `ts_disk::Disk`.
 pub fn headline<D: Disk, S: SignatureCheck + Drop>()
-    ensures { (check : S) (n : ℕ) (start : Group D Submitted (Held S) Outcome Asked Answered) (run : List (Happening D Submitted (Held S) Outcome Asked Answered)) → n ≤ 9 → IsStart n start
+    ensures { (check : S) (n : ℕ) (start : Group D Submitted (Held S) Outcome Asked Answered) (run : List (Happening D Submitted (Held S) Outcome Asked Answered)) → n ≤ 9 → IsStart octets_of n start
         → AreAllowed octets_of trust_store (IsAnswer (S.accepts check)) n start run
-        → Headline (S.accepts check) n (handed_in run) (after_all start run) }
+        → Headline (S.accepts check) n start run }
 {
     ts_node::headline::<D, Command, Answers<S>>();
 }

@@ -12,7 +12,7 @@
 //! | Item | Clauses |
 //! |---|---|
 //! | `Machine` | what the world's store is: an id of each command, an outcome of each after others, and which answers are right after the first k commands |
-//! | `Node::open` | `opens`, `only`: the facts are those that the disks open to; `restarted`: the world's node after a restart; `owner`: which node; `fault`: the record's faults and no others, but for the want of memory; `same`, `machine` |
+//! | `Node::open` | `opens`, `only`: the facts are those that the disks open to, and the node is the one whose record they are; `restarted`: the world's node after a restart; `moments`: a crash within the call leaves nothing new; `owner`: which node; `fault`: the record's faults and no others, but for the want of memory; `same`, `machine` |
 //! | `Node::handle` | `step`: facts, volatile part, messages and reply are those of the world's step, for each world's node whose facts are of the force of this one's; `moments`: at every moment each pair of images opens to the facts before, or to those and the step's; `compacts`: a compaction leaves the force of the facts, and the rest; `failed`, `broken`: broken after a device's failure; `sound`, `config`, `basis` |
 //! | `Node::close` | the two disks and the machine |
 //!

@@ -20,7 +20,7 @@ use Rattle.ts_node.specs.declared.input.Output.{Output}
 use Rattle.ts_node.specs.declared.input.NodeFault.{NodeFault}
 use Rattle.ts_node.specs.declared.input.NodeFault.TheVariants.{DiskFailed, Broken}
 use Rattle.ts_node.specs.Inputs.{IsInput}
-use Rattle.ts_node.specs.Node.{Compacts, Failed, Handles, Moments, config, facts, volatile}
+use Rattle.ts_node.specs.Node.{Compacts, Failed, Handles, Moments, config, facts, owner, volatile}
 use Rattle.ts_store.specs.Octets.{octets_of}
 use Rattle.ts_wire.specs.declared.frame.Frame.{Frame}
 use Rattle.ts_wire.specs.declared.frame.Frame.TheVariants as frames
@@ -41,7 +41,7 @@ module _ {D M B : Type 0} (state : D → State) (store : Store Command Outcome (
     pub moments : old.kept.broken ≡ false → (kept : List (Fact Command)) (sent : List (Message Command)) (event : world.Input Command Asked) → SameForce kept (facts old) → IsInput sent input event
         → Moments state octets_of old (step_of old kept sent event).effect.facts new
     pub compacts : old.kept.broken ≡ false → input ≡ inputs.Compact → Compacts old result new
-        × EveryPair (OpensToForce octets_of (facts old)) (state old.kept.a) (state old.kept.b) (state new.kept.a) (state new.kept.b)
+        × EveryPair (OpensToForce octets_of (owner old) (facts old)) (state old.kept.a) (state old.kept.b) (state new.kept.a) (state new.kept.b)
     pub same_config : config new ≡ config old
     pub same_basis : basis new.machine ≡ basis old.machine
     pub whole : OnOk result (new.kept.broken ≡ false)
