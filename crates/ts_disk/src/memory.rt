@@ -69,6 +69,7 @@ impl MemDisk {
         ensures octets { (state_of self.new).read ≡ (state_of self.old).read }
         ensures failures { (state_of self.new).failures ≡ (state_of self.old).failures }
         ensures images { (image : List ℕ) → (state_of self.new).may_leave image → (state_of self.old).may_leave image }
+        ensures kept { (image : List ℕ) → (state_of self.old).may_leave image → (state_of self.new).may_leave image }
         ensures calls { calls_of self.new ≡ calls_of self.old }
         ensures plan { plan_of self.new ≡ record {
           made = (plan_of self.old).made;
@@ -84,6 +85,7 @@ impl MemDisk {
         ensures octets { (state_of self.new).read ≡ (state_of self.old).read }
         ensures failures { (state_of self.new).failures ≡ (state_of self.old).failures }
         ensures images { (image : List ℕ) → (state_of self.new).may_leave image → (state_of self.old).may_leave image }
+        ensures kept { (image : List ℕ) → (state_of self.old).may_leave image → (state_of self.new).may_leave image }
         ensures calls { calls_of self.new ≡ calls_of self.old }
         ensures plan { plan_of self.new ≡ record {
           made = (plan_of self.old).made;

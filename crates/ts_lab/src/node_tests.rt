@@ -15,10 +15,10 @@ crl Y issuer CN=R this 20260501000000Z next 20260701000000Z signer 61 number=1
 crl Y2 issuer CN=R this 20260501000000Z next 20260701000000Z signer 61 number=2
 crl Y6 issuer CN=R this 20260501000000Z next 20260701000000Z signer 61 entry=2:6 number=1
 crl C issuer CN=R this 20260501000000Z next 20260701000000Z signer 61 critical=1.2.3
-crl D8 issuer CN=R this 20260501000000Z next 20260701000000Z signer 61 entry=2:8 number=2 base=1
-crl D1 issuer CN=R this 20260501000000Z next 20260701000000Z signer 61 entry=2:8 number=1 base=1
-crl D2 issuer CN=R this 20260501000000Z next 20260701000000Z signer 61 entry=2:1 number=2 base=1
-crl D0 issuer CN=R this 20260501000000Z next 20260701000000Z signer 61 base=1
+crl Removes issuer CN=R this 20260501000000Z next 20260701000000Z signer 61 entry=2:8 number=2 base=1
+crl Equal issuer CN=R this 20260501000000Z next 20260701000000Z signer 61 entry=2:8 number=1 base=1
+crl Adds issuer CN=R this 20260501000000Z next 20260701000000Z signer 61 entry=2:1 number=2 base=1
+crl Unnumbered issuer CN=R this 20260501000000Z next 20260701000000Z signer 61 base=1
 ";
 
 /// How many lines that makes.
@@ -65,7 +65,7 @@ const AGREED: [(&str, &str); 7] = [
     // Refused commands keep their positions.
     (
         "nodes 1\nsubmit 1 01 load Y2\nsettle\nsubmit 1 02 load Y\nsettle\noutcome 1 02\nsubmit 1 03 load C\nsettle\noutcome 1 03\n\
-         submit 1 04 withdraw R\nsettle\noutcome 1 04\nsubmit 1 05 load D0\nsettle\noutcome 1 05\nshow\n",
+         submit 1 04 withdraw R\nsettle\noutcome 1 04\nsubmit 1 05 load Unnumbered\nsettle\noutcome 1 05\nshow\n",
         "submit 1 started 1 17\nsettle 4\nsubmit 1 started 2 33\nsettle 4\noutcome 2 refused OlderCrl\nsubmit 1 started 3 49\n\
          settle 4\noutcome 3 refused CriticalCrlExtension\nsubmit 1 started 4 65\nsettle 4\noutcome 4 refused NoAnchor\n\
          submit 1 started 5 81\nsettle 4\noutcome 5 refused DeltaCrl\nnode 1 prefix 5 01 02 03 04 05\n",
@@ -80,14 +80,14 @@ const STATUSES: [(&[&str], &str, &str); 14] = [
     (&["X0"], " hard", "ask 2 invalid 1 Undetermined"),
     (&["X0"], "", "ask 2 valid -"),
     (&["Y6"], " hard", "ask 2 invalid 1 Revoked 6"),
-    (&["Y6", "D8"], " hard", "ask 3 invalid 1 Revoked 6"),
-    (&["Y6", "D8"], " hard deltas", "ask 3 valid -"),
-    (&["Y6", "D1"], " hard", "ask 3 invalid 1 Revoked 6"),
-    (&["Y6", "D1"], " hard deltas", "ask 3 invalid 1 Revoked 6"),
-    (&["Y", "D2"], " hard", "ask 3 valid -"),
-    (&["Y", "D2"], " hard deltas", "ask 3 invalid 1 Revoked 1"),
-    (&["Y", "D0"], " hard", "ask 3 valid -"),
-    (&["Y", "D0"], " hard deltas", "ask 3 valid -"),
+    (&["Y6", "Removes"], " hard", "ask 3 invalid 1 Revoked 6"),
+    (&["Y6", "Removes"], " hard deltas", "ask 3 valid -"),
+    (&["Y6", "Equal"], " hard", "ask 3 invalid 1 Revoked 6"),
+    (&["Y6", "Equal"], " hard deltas", "ask 3 invalid 1 Revoked 6"),
+    (&["Y", "Adds"], " hard", "ask 3 valid -"),
+    (&["Y", "Adds"], " hard deltas", "ask 3 invalid 1 Revoked 1"),
+    (&["Y", "Unnumbered"], " hard", "ask 3 valid -"),
+    (&["Y", "Unnumbered"], " hard deltas", "ask 3 valid -"),
 ];
 
 /// One node, to which R is added, and what that prints.

@@ -1,6 +1,6 @@
 //! A node on two disks.
 
-ghost use Rattle.std.specs.Prelude.{◌≡◌, ◌≤◌, ◌⊎◌, [], ℕ, List, false, true, IfOk, IfErr, OnOk, OnErr, MatchResult, IsErrOf, ◌++◌, length};
+ghost use Rattle.std.specs.Prelude.{◌≡◌, ◌≤◌, ◌⊎◌, ◌+◌, ◌^◌, [], ℕ, List, false, true, IfOk, IfErr, OnOk, OnErr, MatchResult, IsErrOf, ◌++◌, length};
 ghost use Rattle.ts_disk.specs.Disk.{State};
 ghost use Rattle.ts_journal.specs.Images.{Member, AnyPair, EveryPair};
 ghost use Rattle.ts_journal.specs.Choice.{IsChosen};
@@ -155,6 +155,7 @@ impl<D: Disk, C: Command + Codec, M: Machine<C>> Node<D, C, M> {
         requires whole { self.old.kept.broken ≡ false }
         requires sound { IsSound D.state C.octets M.commands self.old }
         ensures step { Compacts self.old result self.new }
+        ensures exhausted { self.old.kept.generation + 1 ≡ 2 ^ 64 → IsErrOf result NodeFault.GenerationsExhausted }
         ensures moments { EveryPair (OpensToForce C.octets (owner self.old) (facts self.old)) (D.state self.old.kept.a) (D.state self.old.kept.b) (D.state self.new.kept.a) (D.state self.new.kept.b) }
         ensures sound { IsSound D.state C.octets M.commands self.new }
         ensures config { config self.new ≡ config self.old }
@@ -188,6 +189,8 @@ impl<D: Disk, C: Command + Codec, M: Machine<C>> Node<D, C, M> {
         // Compaction is no event of the world: it leaves the force of the facts, also where a crash comes within it.
         ensures compacts { self.old.kept.broken ≡ false → input.now ≡ Input.Compact → Compacts self.old result self.new
             × EveryPair (OpensToForce C.octets (owner self.old) (facts self.old)) (D.state self.old.kept.a) (D.state self.old.kept.b) (D.state self.new.kept.a) (D.state self.new.kept.b) }
+        // At the last generation there is no next one to rewrite the record in.
+        ensures exhausted { self.old.kept.broken ≡ false → input.now ≡ Input.Compact → self.old.kept.generation + 1 ≡ 2 ^ 64 → IsErrOf result NodeFault.GenerationsExhausted }
         ensures sound { IsSound D.state C.octets M.commands self.new }
         ensures config { config self.new ≡ config self.old }
         ensures basis { M.basis self.new.machine ≡ M.basis self.old.machine }

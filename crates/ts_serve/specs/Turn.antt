@@ -1,5 +1,5 @@
 -- A server: a node, and an outbox of its messages. What it does with one request.
-use Rattle.std.specs.Prelude.{◌≡◌, List, [], ◌∷◌, ◌++◌, map, take, length, true, false, Result, OnOk, IsErrOf}
+use Rattle.std.specs.Prelude.{◌≡◌, ◌+◌, ◌^◌, List, [], ◌∷◌, ◌++◌, map, take, length, true, false, Result, OnOk, IsErrOf}
 use Rattle.ts_disk.specs.Disk.{State}
 use Rattle.ts_journal.specs.Images.{EveryPair}
 use Rattle.ts_synod.specs.declared.message.Fact.{Fact}
@@ -18,7 +18,7 @@ use Rattle.ts_node.specs.declared.input.Input.{Input}
 use Rattle.ts_node.specs.declared.input.Input.TheVariants as inputs
 use Rattle.ts_node.specs.declared.input.Output.{Output}
 use Rattle.ts_node.specs.declared.input.NodeFault.{NodeFault}
-use Rattle.ts_node.specs.declared.input.NodeFault.TheVariants.{DiskFailed, Broken}
+use Rattle.ts_node.specs.declared.input.NodeFault.TheVariants.{DiskFailed, Broken, GenerationsExhausted}
 use Rattle.ts_node.specs.Inputs.{IsInput}
 use Rattle.ts_node.specs.Node.{Compacts, Failed, Handles, Moments, config, facts, owner, volatile}
 use Rattle.ts_store.specs.Octets.{octets_of}
@@ -42,6 +42,7 @@ module _ {D M B : Type 0} (state : D → State) (store : Store Command Outcome (
         → Moments state octets_of old (step_of old kept sent event).effect.facts new
     pub compacts : old.kept.broken ≡ false → input ≡ inputs.Compact → Compacts old result new
         × EveryPair (OpensToForce octets_of (owner old) (facts old)) (state old.kept.a) (state old.kept.b) (state new.kept.a) (state new.kept.b)
+    pub exhausted : old.kept.broken ≡ false → input ≡ inputs.Compact → old.kept.generation + 1 ≡ 2 ^ 64 → IsErrOf result GenerationsExhausted
     pub same_config : config new ≡ config old
     pub same_basis : basis new.machine ≡ basis old.machine
     pub whole : OnOk result (new.kept.broken ≡ false)
