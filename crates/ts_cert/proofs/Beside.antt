@@ -3,10 +3,8 @@ use Rattle.std.proofs.Common.{◌≡◌, ℕ, List, [], ◌++◌, Ok, sym, ap, s
 use Rattle.ts_der.specs.Element.{Tlv, Fits, encode}
 use Rattle.ts_der.proofs.Unique.{one-element}
 use Rattle.ts_shape.specs.Fields.{Within}
-use Rattle.ts_cert.specs.Certificate.{Algorithm}
-use Rattle.ts_cert.specs.Reading.{algorithm_of}
-use Rattle.ts_cert.specs.Encoding.{IsAlgorithm}
-use Rattle.ts_cert.proofs.KeyParts.{algorithm-value}
+use Rattle.ts_field.specs.Algorithm.{Algorithm, algorithm_of, IsAlgorithm}
+use Rattle.ts_field.proofs.Algorithms.{algorithm-value}
 
 pub beside : (e : Tlv) (a : Algorithm) (octets : List ℕ) → Fits 0x30 e.content → e.whole ≡ encode 0x30 e.content → Within 0x30 IsAlgorithm octets a → e.whole ≡ a.whole → algorithm_of e ≡ Ok a
 beside e a octets fits encoded within same =

@@ -13,7 +13,6 @@ use Rattle.ts_der.specs.Element.{Place, Tlv, encode, inside, encoded_at}
 use Rattle.ts_der.specs.Reading.{begins_with, element_at, end_at}
 use Rattle.ts_der.proofs.OctetLists.{AreOctets-back}
 use Rattle.ts_der.proofs.Laws.{bind_ok, ok_is, element-only}
-use Rattle.ts_der.proofs.Unique.{one-element}
 use Rattle.ts_shape.specs.declared.fault.CertRule.TheVariants.{Der, AlgorithmMismatch}
 use Rattle.ts_shape.specs.declared.fault.CertFault.{CertFault}
 use Rattle.ts_shape.specs.Fault.{der, breaks}
@@ -31,16 +30,18 @@ use Rattle.ts_ext.proofs.Unlocated.{optional-sees, explicit_extensions-see}
 use Rattle.ts_ext.proofs.ValidExtensions.{AllOctets, explicit-octets}
 use Rattle.ts_name.specs.Canon.{Attr}
 use Rattle.ts_name.specs.NameEncoding.{IsName}
-use Rattle.ts_cert.specs.declared.time.Validity.{Validity}
+use Rattle.ts_field.specs.Algorithm.{Algorithm, IsAlgorithm, algorithm_of, algorithm_at}
+use Rattle.ts_field.proofs.Algorithms.{algorithm-value, algorithm-part, one-algorithm}
 use Rattle.ts_cert.specs.declared.version.Version.{Version}
-use Rattle.ts_cert.specs.Certificate.{Algorithm, KeyInfo, Tbs, Certificate}
+use Rattle.ts_cert.specs.Certificate.{KeyInfo, Tbs, Certificate}
 use Rattle.ts_cert.specs.Rules.{OptionalFields, all_located, LocatedTbs, extensions_fault}
-use Rattle.ts_cert.specs.Encoding.{IsAlgorithm, IsValidity, IsKeyInfo, IsUniqueIdentifier, IsTbs, IsSigned, IsCertificate, version_octets}
+use Rattle.ts_cert.specs.Encoding.{IsValidity, IsKeyInfo, IsUniqueIdentifier, IsTbs, IsSigned, IsCertificate, version_octets}
 use Rattle.ts_cert.specs.Version.{version_at}
-use Rattle.ts_cert.specs.Reading.{algorithm_of, algorithm_at, validity_at, key_at, unique_identifier_of, optional_fields_at, tbs_of, Unagreed, signed_of, agreed, unless_broken, whole_of, certificate_of}
+use Rattle.ts_cert.specs.Reading.{validity_at, key_at, unique_identifier_of, optional_fields_at, tbs_of, Unagreed, signed_of, agreed, unless_broken, whole_of, certificate_of}
 use Rattle.ts_cert.proofs.FieldRules.{Has, KeepsRules, rules-kept, rules-again}
-use Rattle.ts_cert.proofs.KeyParts.{algorithm-value, algorithm-part, key-part, unique_identifier-format}
+use Rattle.ts_cert.proofs.KeyParts.{key-part, unique_identifier-format}
 use Rattle.ts_cert.proofs.Periods.{validity-part, version-found, version-again}
+use Rattle.ts_cert.specs.declared.validity.Validity.{Validity}
 
 -- ---- what is signed
 
@@ -355,15 +356,6 @@ signed-again e c is =
     (fields.0.optional_fields, read ∙ (ap (λ (f : Tbs). Ok (made f (encode 0x30 t.content))) fields.2 ∙ ap (λ (o : List ℕ). Ok (made c.tbsCertificate o)) (sym t.encoded)), fields.3)
 
 -- ---- certificates
-
--- no two algorithm identifiers have the same octets
-pub one-algorithm : (w v : List ℕ) (a b : Algorithm) → Within 0x30 IsAlgorithm w a → Within 0x30 IsAlgorithm v b → a.whole ≡ b.whole → a ≡ b
-one-algorithm w v a b is other same =
-    let both : encode 0x30 is.content ++ [] ≡ encode 0x30 other.content ++ [] = ap (λ (o : List ℕ). o ++ []) (sym is.value.whole ∙ (same ∙ other.value.whole)) in
-    let content = one-element 0x30 0x30 is.content other.content [] [] is.fits other.fits both in
-    let first = algorithm-value.again (encoded_at 0 0x30 is.content) a refl is.value in
-    let second = algorithm-value.again (encoded_at 0 0x30 is.content) b refl (subst (λ (c : List ℕ). IsAlgorithm c b) (sym content.1) other.value) in
-    ok_is {A = Algorithm} {E = Fault} a b (sym first ∙ second)
 
 agreed-ok : (s : Unagreed) (c : Certificate) → agreed s ≡ Ok c → (s.certificate.tbsCertificate.signature.whole ≡ s.certificate.signatureAlgorithm.whole) × (s.certificate ≡ c)
 unfolding agreed

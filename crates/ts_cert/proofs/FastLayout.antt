@@ -6,11 +6,12 @@ use Rattle.ts_der.specs.Element.{encode}
 use Rattle.ts_der.specs.Stands.{HavePart, between, HasElement}
 use Rattle.ts_shape.specs.Fields.{Within, IsInteger, IsBits}
 use Rattle.ts_name.specs.NameEncoding.{IsName}
+use Rattle.ts_field.specs.Algorithm.{IsAlgorithm}
 use Rattle.ts_cert.specs.declared.layout.Layout.{Layout}
 use Rattle.ts_cert.specs.declared.version.Version.TheVariants.{V3}
 use Rattle.ts_cert.specs.Certificate.{Tbs, Certificate}
 use Rattle.ts_cert.specs.Layout.{Spans, IsRepeated, IsVersion3, AreValidExplicit, AreLaidOut}
-use Rattle.ts_cert.specs.Encoding.{IsAlgorithm, IsValidity, IsKeyInfo, IsTbs, IsSigned, IsCertificate, version_octets}
+use Rattle.ts_cert.specs.Encoding.{IsValidity, IsKeyInfo, IsTbs, IsSigned, IsCertificate, version_octets}
 use Rattle.ts_cert.proofs.Spanned.{one-part, joined}
 
 -- the parts of what is signed, one after another

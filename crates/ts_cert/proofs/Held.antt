@@ -23,13 +23,14 @@ use Rattle.ts_shape.proofs.Parts.{Value, Part}
 use Rattle.ts_ext.specs.Extension.{Extension, Located, unlocated, located_in, all_located_of, AreExtensions, AreExplicit}
 use Rattle.ts_ext.proofs.ExtensionParts.{extensions-format}
 use Rattle.ts_ext.proofs.Unlocated.{extensions-see}
+use Rattle.ts_field.specs.Algorithm.{IsAlgorithm}
 use Rattle.ts_cert.specs.declared.layout.Layout.{Layout}
 use Rattle.ts_cert.specs.Certificate.{Certificate}
 use Rattle.ts_cert.specs.CertView.{certificate_in, no_certificate}
 use Rattle.ts_cert.specs.Layout.{Lies, AreLaidOut, Holds, HoldsIfAny}
 use Rattle.ts_cert.specs.Reading.{certificate_of}
 use Rattle.ts_cert.specs.AllLocated.{all_located_within}
-use Rattle.ts_cert.specs.Encoding.{IsAlgorithm, IsValidity, IsKeyInfo, IsUniqueIdentifier, IsCertificate}
+use Rattle.ts_cert.specs.Encoding.{IsValidity, IsKeyInfo, IsUniqueIdentifier, IsCertificate}
 use Rattle.ts_shape.specs.declared.fault.CertFault.{CertFault}
 use Rattle.ts_cert.proofs.Certificates.{certificate-again}
 use Rattle.ts_cert.proofs.Spanned.{part-ordered, part-between}

@@ -1,103 +1,48 @@
 -- What reading a certificate refuses is the first rule of the table that is broken.
 use Rattle.std.proofs.Common.{◌≡◌, ◌≢◌, ◌<◌, ◌≤◌, ltb, inl, inr, ℕ, ◌+◌, Bool, true, false, not, ◌||◌, cond, eqb, List, [], ◌∷◌, length, take, drop, Option, Some, None, Result, Ok, Err, refl, sym, ap, subst, ◌∙◌, arith}
-use Rattle.std.specs.Prelude.{option_map, is_some, ok_or, ℤ, nat_lt}
+use Rattle.std.specs.Prelude.{option_map, nat_lt}
 use Rattle.std.proofs.lemmas.Bool.{eqb-true, lt-ltb}
 use Rattle.std.proofs.lemmas.List.{length-take-le, length-drop}
 use Rattle.std.proofs.lemmas.Slice.Eq.{bytes_eq-Decides}
 use Rattle.std.specs.Str.{bytes_eq}
 use Rattle.ts_der.proofs.Headers.{HasHeader, has_header}
-use Rattle.ts_der.specs.declared.fault.DerFault.TheVariants.{WrongTag, TimeForm, DefaultEncoded, TooLarge}
+use Rattle.ts_der.specs.declared.fault.DerFault.TheVariants.{DefaultEncoded, TooLarge}
 use Rattle.ts_der.specs.declared.fault.Fault.{Fault}
 use Rattle.ts_der.specs.Answer.{◌>>=◌, Answers, refusal}
 use Rattle.ts_der.specs.Rules.{first_broken}
 use Rattle.ts_der.specs.Element.{Place, Tlv, inside, encode, length_octets}
 use Rattle.ts_der.specs.Header.{tag_of, header_size, length_of, header_rules}
-use Rattle.ts_der.specs.Reading.{fault_at, is_end, element_of, behind, next_at, element_at, optional_at, value_at, end_at, begins_with, located}
+use Rattle.ts_der.specs.Reading.{element_of, behind, element_at, optional_at, value_at, end_at, begins_with}
 use Rattle.ts_der.specs.BitString.{bits_rules}
 use Rattle.ts_der.specs.Integer.{integer_rules}
-use Rattle.ts_time.specs.Reading.{utc_in, general_in, utc_value, general_value}
 use Rattle.ts_shape.specs.declared.fault.CertRule.{CertRule}
 use Rattle.ts_shape.specs.declared.fault.CertRule.TheVariants.{Der, Version as VersionRule, AlgorithmMismatch}
 use Rattle.ts_shape.specs.declared.fault.CertFault.{CertFault}
 use Rattle.ts_shape.specs.Fault.{der, breaks}
-use Rattle.ts_shape.specs.Fields.{oid_at, integer_at, bits_at, optional_of}
+use Rattle.ts_shape.specs.Fields.{integer_at, bits_at, optional_of}
 use Rattle.ts_name.specs.Names.{name_at}
 use Rattle.ts_shape.specs.Rows.{object_identifier, integer, bit_string}
 use Rattle.ts_name.specs.NameRows.{name}
-use Rattle.ts_cert.specs.declared.time.Time.{Time}
-use Rattle.ts_cert.specs.declared.time.TimeForm.TheVariants.{Utc, General}
+use Rattle.ts_field.specs.Time.{time_at}
+use Rattle.ts_field.specs.Algorithm.{algorithm_of, algorithm_at}
+use Rattle.ts_field.specs.Table.{algorithm_identifier, time, from_front}
+use Rattle.ts_field.proofs.Judging.{algorithm-judged, algorithm-reads, time-reads}
 use Rattle.ts_cert.specs.declared.version.Version.{Version}
 use Rattle.ts_cert.specs.declared.version.Version.TheVariants.{V1, V2, V3}
 use Rattle.ts_cert.specs.Version.{version_named, number_of, not_default, version_of, version_if, version_at}
-use Rattle.ts_cert.specs.Time.{time_of, time_at, validity_of}
-use Rattle.ts_cert.specs.Reading.{parameters_at, algorithm_of, algorithm_at, validity_at, key_of, key_at, unique_identifier_of, optional_fields_at, tbs_of, Unagreed, signed_of, agreed, unless_broken, whole_of, certificate_of}
 use Rattle.ts_cert.specs.Certificate.{Certificate}
 use Rattle.ts_cert.specs.Rules.{OptionalFields, LocatedTbs, extensions_fault}
-use Rattle.ts_cert.specs.Table.{algorithm_identifier, time, validity, subject_public_key_info, is_version, version_rules, version_number, default_rules, version, unique_identifier, tbs_certificate, certificate, nth, from_front, signature_element, signature_algorithm_element, algorithms_fault, fields_fault, certificate_fault}
+use Rattle.ts_cert.specs.Table.{validity, subject_public_key_info, is_version, version_rules, version_number, default_rules, version, unique_identifier, tbs_certificate, certificate, nth, signature_element, signature_algorithm_element, algorithms_fault, fields_fault, certificate_fault}
 use Rattle.ts_shape.specs.Shape.{any, optional, tagged, no_other, Shape, nothing, plain, ◌then◌, ◌or_else◌, header_fault, row_fault, judge, der_rules, no_rules, one_rule}
 use Rattle.ts_shape.proofs.OptionalParts.{optional-judged}
 use Rattle.ts_ext.specs.Extension.{explicit_extensions, explicit_all_located_of}
 use Rattle.ts_ext.proofs.ExtensionParts.{explicit_all_located-judged}
 use Rattle.ts_cert.proofs.KeyParts.{unique_identifier-format}
-use Rattle.ts_shape.proofs.Judging.{Judged, refusal-judged, bind, no_more, no_less, Headed, next-judged, element-judged, Reads, within-reads, then-judged, end-judged, under, ends, value-judged, Whatever, oid-reads, integer-reads, bits-reads, next-reads, regroup}
+use Rattle.ts_shape.proofs.Judging.{Judged, refusal-judged, bind, no_more, no_less, Headed, element-judged, Reads, within-reads, then-judged, end-judged, under, ends, value-judged, Whatever, integer-reads, bits-reads, regroup}
 use Rattle.ts_name.proofs.NameJudging.{name-reads}
+use Rattle.ts_cert.specs.Reading.{validity_of, validity_at, key_of, key_at, unique_identifier_of, optional_fields_at, tbs_of, Unagreed, signed_of, agreed, unless_broken, whole_of, certificate_of}
 
--- ---- algorithm identifiers
-
-parameters-judged : {B : Type 0} (others : Shape) (here : Place) (f : Option (List ℕ) × Place → Result B CertFault) (Q : B → Type 0)
-    → ((x : Option (List ℕ)) (after : Place) → Judged (f (x, after)) (judge others after) Q)
-    → Judged (der (parameters_at here) >>= f) (judge (optional any then others) here) Q
-unfolding parameters_at
-parameters-judged {B} others here f Q k = by_end (is_end here.rest)
-  where
-    regrouped : (r : Result (Tlv × Place) Fault) → (der (r >>= λ e. Ok (Some e.0.whole, e.1)) >>= f) ≡ (der r >>= λ x. Ok x.0.whole >>= λ v. f (Some v, x.1))
-    regrouped (Ok x) = refl
-    regrouped (Err d) = refl
-
-    by_end : (b : Bool) → Judged (der (cond {A = Result (Option (List ℕ) × Place) Fault} b (Ok (None, here)) (next_at here >>= λ e. Ok (Some e.0.whole, e.1))) >>= f)
-        (cond (not (not b)) (judge others here) (header_fault here or_else row_fault (optional any) (element_of here) or_else judge others (behind here))) Q
-    by_end true = k None here
-    by_end false =
-        subst (λ r. Judged r (header_fault here or_else row_fault (optional any) (element_of here) or_else judge others (behind here)) Q) (sym (regrouped (next_at here)))
-        (next-judged (optional any) here (λ e. Ok e.whole) (λ x v. f (Some v, x.1)) (judge others (behind here)) (λ v. Unit {0}) Q (refl, tt) (λ v h p. k (Some v) (behind here)))
-
-pub algorithm-judged : (e : Tlv) → Judged (der (algorithm_of e)) (judge (object_identifier then optional any then nothing) (inside e) or_else None) (λ a. a.whole ≡ e.whole)
-unfolding algorithm_of
-algorithm-judged e =
-    no_more _ _ _
-    (under (oid_at (inside e)) _ _ _
-    (then-judged object_identifier (optional any then nothing) (inside e) (λ here. der (oid_at here)) _ Whatever _ refl oid-reads (λ oid p.
-    under (parameters_at (behind (inside e))) _ _ _
-    (parameters-judged nothing (behind (inside e)) _ _ (λ parameters after. ends after _ _ (λ h. refl))))))
-
-pub algorithm-reads : Reads algorithm_identifier (λ here. der (algorithm_at here)) (λ e a. a.whole ≡ e.whole)
-unfolding algorithm_at
-algorithm-reads = within-reads 0x30 (object_identifier then optional any then nothing) no_rules algorithm_of (λ e a. a.whole ≡ e.whole) algorithm-judged
-
--- ---- times
-
--- a moment, if octets name one
-moment-judged : (at : ℕ) (o : Option ℤ) (form : ℤ → Time)
-    → Judged (der (located at (ok_or o TimeForm) >>= λ m. Ok (form m))) (option_map (breaks at) (cond (not (is_some o)) (Some (Der TimeForm)) None)) (λ t. Unit {0})
-moment-judged at None form = refl
-moment-judged at (Some m) form = (refl, tt)
-
-pub time-judged : (e : Tlv) → Judged (der (time_of e)) (row_fault time e) (λ t. Unit {0})
-unfolding time_of
-time-judged e = by_tag (eqb e.tag 0x17) (eqb e.tag 0x18)
-  where
-    by_tag : (b c : Bool)
-        → Judged (der (cond b (located e.at (utc_value e.content) >>= λ m. Ok (record { form = Utc; moment = m })) (cond c (located e.at (general_value e.content) >>= λ m. Ok (record { form = General; moment = m })) (Err (fault_at e.at WrongTag)))))
-        (cond b (option_map (breaks e.at) (one_rule (Der TimeForm) (λ c. not (is_some (utc_in c))) e.content))
-        (cond c (option_map (breaks e.at) (one_rule (Der TimeForm) (λ c. not (is_some (general_in c))) e.content)) (Some (breaks e.at (Der WrongTag)))))
-        (λ (t : Time). Unit {0})
-    by_tag true c = moment-judged e.at (utc_in e.content) (λ m. record { form = Utc; moment = m })
-    by_tag false true = moment-judged e.at (general_in e.content) (λ m. record { form = General; moment = m })
-    by_tag false false = refl
-
-pub time-reads : Reads time (λ here. der (time_at here)) Whatever
-unfolding time_at
-time-reads = next-reads time time_of Whatever time-judged
+-- ---- periods
 
 validity-judged : (e : Tlv) → Judged (der (validity_of e)) (judge (time then time then nothing) (inside e) or_else None) (λ v. Unit {0})
 unfolding validity_of

@@ -11,9 +11,8 @@ use Rattle.ts_der.proofs.Lengths.{length_octets-short}
 use Rattle.ts_der.proofs.Standing.{encoded-out}
 use Rattle.ts_shape.specs.Fields.{Within}
 use Rattle.ts_der.proofs.Lanes.{between-at}
-use Rattle.ts_cert.specs.Certificate.{Algorithm}
+use Rattle.ts_field.specs.Algorithm.{Algorithm, IsAlgorithm}
 use Rattle.ts_cert.specs.Layout.{Spans}
-use Rattle.ts_cert.specs.Encoding.{IsAlgorithm}
 
 -- an octet between two bounds that are one
 same : (low high r : List ℕ) → lie_between low high r ≡ true → (i octet : ℕ) → get_or low i 0 ≡ octet → get_or high i 0 ≡ octet → i < length low → get_or r i 0 ≡ octet

@@ -4,9 +4,10 @@ use Rattle.std.proofs.Props.{props}
 use Rattle.ts_name.specs.Canon.{Attr}
 use Rattle.ts_shape.specs.declared.fault.CertFault.{CertFault}
 use Rattle.ts_ext.specs.Extension.{Extension}
-use Rattle.ts_cert.specs.declared.time.Validity.{Validity}
+use Rattle.ts_field.specs.Algorithm.{Algorithm}
 use Rattle.ts_cert.specs.declared.version.Version.{Version}
-use Rattle.ts_cert.specs.Certificate.{Algorithm, KeyInfo, Certificate}
+use Rattle.ts_cert.specs.Certificate.{KeyInfo, Certificate}
+use Rattle.ts_cert.specs.declared.validity.Validity.{Validity}
 
 pub octets-one : (a b : List ℕ) → IsProp (a ≡ b)
 octets-one a b = Prim.hlevel props

@@ -8,8 +8,8 @@ use Rattle.ts_shape.specs.Fields.{Within}
 use Rattle.ts_der.proofs.Standing.{part-taken, encoded-out}
 use Rattle.ts_der.proofs.Lengths.{length_octets-short}
 use Rattle.ts_time.specs.Text.{IsUtc}
-use Rattle.ts_cert.specs.declared.time.TimeForm.TheVariants.{Utc}
-use Rattle.ts_cert.specs.Encoding.{IsTime}
+use Rattle.ts_field.specs.declared.time.TimeForm.TheVariants.{Utc}
+use Rattle.ts_field.specs.Time.{IsTime}
 use Rattle.ts_cert.specs.Layout.{Spans, IsRepeated, IsVersion3}
 
 -- an element whose content encodes a value

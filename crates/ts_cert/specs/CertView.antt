@@ -1,14 +1,16 @@
 -- What contracts see of a certificate.
 use Rattle.std.specs.Prelude.{ℕ, List, [], None, pos}
 use Rattle.std.specs.Result.{result_unwrap_or}
+use Rattle.ts_field.specs.declared.time.Time.{Time}
+use Rattle.ts_field.specs.declared.time.TimeForm.TheVariants.{Utc}
+use Rattle.ts_field.specs.Algorithm.{Algorithm}
+use Rattle.ts_field.specs.View.{algorithm_in}
 use Rattle.ts_cert.specs.declared.certificate.Cert.{Cert}
 use Rattle.ts_cert.specs.declared.parts.Parts.{Parts}
-use Rattle.ts_cert.specs.declared.time.Time.{Time}
-use Rattle.ts_cert.specs.declared.time.TimeForm.TheVariants.{Utc}
 use Rattle.ts_cert.specs.declared.version.Version.TheVariants.{V1}
-use Rattle.ts_cert.specs.Certificate.{Algorithm, Certificate}
+use Rattle.ts_cert.specs.Certificate.{Certificate}
 use Rattle.ts_cert.specs.Reading.{Unagreed, certificate_of}
-use Rattle.ts_cert.specs.View.{algorithm_in, optional_fields_in, fields_in}
+use Rattle.ts_cert.specs.View.{optional_fields_in, fields_in}
 
 -- ---- the parts, while they are read
 

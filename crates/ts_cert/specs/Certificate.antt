@@ -3,13 +3,8 @@ use Rattle.std.specs.Prelude.{ℕ, List, [], Option, unwrap_or}
 use Rattle.ts_name.specs.Canon.{Attr}
 use Rattle.ts_ext.specs.Extension.{Extension}
 use Rattle.ts_cert.specs.declared.version.Version.{Version}
-use Rattle.ts_cert.specs.declared.time.Validity.{Validity}
-
--- AlgorithmIdentifier (4.1.1.2): the content of the algorithm's OBJECT IDENTIFIER, the parameters as a whole element, and all of it
-pub record Algorithm : Type 0 where
-  pub algorithm : List ℕ
-  pub parameters : Option (List ℕ)
-  pub whole : List ℕ
+use Rattle.ts_field.specs.Algorithm.{Algorithm}
+use Rattle.ts_cert.specs.declared.validity.Validity.{Validity}
 
 -- SubjectPublicKeyInfo (4.1.2.7): the octets of the key are those of a BIT STRING of whole octets
 pub record KeyInfo : Type 0 where

@@ -1,29 +1,19 @@
 -- The one encoding of a certificate (RFC 5280 4.1, as restated in Appendix A.1), from its parts up to the whole.
-use Rattle.std.specs.Prelude.{◌≡◌, ℕ, ◌≤◌, List, [], ◌∷◌, ◌++◌, length, Option, Some, None, unwrap_or, ℤ}
+use Rattle.std.specs.Prelude.{◌≡◌, ℕ, ◌≤◌, List, [], ◌∷◌, ◌++◌, length, None}
 use Rattle.ts_der.specs.BitString.{bits_of, IsBitString}
 use Rattle.ts_der.specs.Element.{encode}
 use Rattle.ts_name.specs.NameEncoding.{IsName}
-use Rattle.ts_shape.specs.Fields.{Within, IfAny, IsAny, IsOid, IsInteger, IsBits}
+use Rattle.ts_shape.specs.Fields.{Within, IfAny, IsInteger, IsBits}
 use Rattle.ts_shape.specs.Repeats.{first_repeated}
-use Rattle.ts_time.specs.Text.{IsUtc, IsGeneral}
 use Rattle.ts_ext.specs.declared.known.Holder.TheVariants.{Certificate as CertificateHolder}
 use Rattle.ts_ext.specs.Extension.{AreExplicit}
 use Rattle.ts_ext.specs.ValueRules.{AreValid}
+use Rattle.ts_field.specs.Algorithm.{IsAlgorithm}
+use Rattle.ts_field.specs.Time.{IsTime}
 use Rattle.ts_cert.specs.declared.version.Version.{Version}
 use Rattle.ts_cert.specs.declared.version.Version.TheVariants.{V1, V2, V3}
-use Rattle.ts_cert.specs.declared.time.TimeForm.{TimeForm}
-use Rattle.ts_cert.specs.declared.time.TimeForm.TheVariants.{Utc, General}
-use Rattle.ts_cert.specs.declared.time.Time.{Time}
-use Rattle.ts_cert.specs.declared.time.Validity.{Validity}
-use Rattle.ts_cert.specs.Certificate.{Algorithm, KeyInfo, Tbs, all_extensions, Certificate}
-
--- Time ::= CHOICE { utcTime UTCTime, generalTime GeneralizedTime } (4.1.2.5)
-abbrev pub IsTimeIn : TimeForm → List ℕ → ℤ → Type 0
-IsTimeIn Utc octets moment = Within 0x17 IsUtc octets moment
-IsTimeIn General octets moment = Within 0x18 IsGeneral octets moment
-
-abbrev pub IsTime : List ℕ → Time → Type 0
-IsTime octets t = IsTimeIn t.form octets t.moment
+use Rattle.ts_cert.specs.declared.validity.Validity.{Validity}
+use Rattle.ts_cert.specs.Certificate.{KeyInfo, Tbs, all_extensions, Certificate}
 
 -- version [0] EXPLICIT Version DEFAULT v1, Version ::= INTEGER { v1(0), v2(1), v3(2) } (4.1.2.1): the default is absent
 abbrev pub version_octets : Version → List ℕ
@@ -36,19 +26,6 @@ abbrev pub IsUniqueIdentifier : List ℕ → ℕ × List ℕ → Type 0
 IsUniqueIdentifier content u = (content ≡ u.0 ∷ u.1) × IsBitString content (bits_of u.0 u.1)
 
 -- ---- sequences
-
--- parameters ANY DEFINED BY algorithm OPTIONAL
-abbrev pub AreParameters : Option (List ℕ) → Type 0
-AreParameters None = Unit {0}
-AreParameters (Some octets) = IsAny octets
-
--- AlgorithmIdentifier ::= SEQUENCE { algorithm OBJECT IDENTIFIER, parameters } (4.1.1.2)
-pub record IsAlgorithm (content : List ℕ) (a : Algorithm) : Type 0 where
-  pub oid : List ℕ
-  pub algorithm : Within 0x06 IsOid oid a.algorithm
-  pub parameters : AreParameters a.parameters
-  pub fields : content ≡ oid ++ unwrap_or a.parameters []
-  pub whole : a.whole ≡ encode 0x30 content
 
 -- Validity ::= SEQUENCE { notBefore Time, notAfter Time } (4.1.2.5)
 pub record IsValidity (content : List ℕ) (v : Validity) : Type 0 where

@@ -5,7 +5,6 @@ pub mod View
 pub mod Encoding
 pub mod Rules
 pub mod Version
-pub mod Time
 pub mod Layout
 pub mod CertView
 pub mod Reading

@@ -1,11 +1,7 @@
--- What contracts see of the times that a certificate keeps.
-use Rattle.ts_cert.specs.declared.time.Time.{Time}
-use Rattle.ts_cert.specs.declared.time.Validity.{Validity}
-use Rattle.ts_cert.specs.declared.time.Stamp.{Stamp}
-use Rattle.ts_cert.specs.declared.time.Period.{Period}
-
-abbrev pub time_in : Stamp → Time
-time_in s = record { form = s.form; moment = s.seconds }
+-- What contracts see of the period of validity that a certificate keeps (RFC 5280 4.1.2.5).
+use Rattle.ts_field.specs.View.{time_in}
+use Rattle.ts_cert.specs.declared.validity.Validity.{Validity}
+use Rattle.ts_cert.specs.declared.validity.Period.{Period}
 
 abbrev pub validity_in : Period → Validity
 validity_in p = record { not_before = time_in p.not_before; not_after = time_in p.not_after }

@@ -7,33 +7,27 @@ use Rattle.ts_der.specs.declared.fault.Fault.{Fault}
 use Rattle.ts_der.specs.Answer.{◌>>=◌}
 use Rattle.ts_der.specs.BitString.{bits_rules, bit_parts}
 use Rattle.ts_der.specs.Element.{Place, Tlv, inside}
-use Rattle.ts_der.specs.Reading.{is_end, next_at, element_at, value_at, end_at}
+use Rattle.ts_der.specs.Reading.{element_at, value_at, end_at}
 use Rattle.ts_shape.specs.declared.fault.CertRule.TheVariants.{Der, AlgorithmMismatch}
 use Rattle.ts_shape.specs.declared.fault.CertFault.{CertFault}
 use Rattle.ts_shape.specs.Fault.{der, breaks}
-use Rattle.ts_shape.specs.Fields.{within, oid_at, integer_at, bits_at, optional_of}
+use Rattle.ts_shape.specs.Fields.{within, integer_at, bits_at, optional_of}
 use Rattle.ts_name.specs.Names.{name_at}
 use Rattle.ts_ext.specs.Extension.{unlocated, explicit_all_located_of}
-use Rattle.ts_cert.specs.declared.time.Validity.{Validity}
-use Rattle.ts_cert.specs.Certificate.{Algorithm, KeyInfo, Certificate}
+use Rattle.ts_field.specs.Algorithm.{algorithm_of, algorithm_at}
+use Rattle.ts_field.specs.Time.{time_at}
+use Rattle.ts_cert.specs.declared.validity.Validity.{Validity}
+use Rattle.ts_cert.specs.Certificate.{KeyInfo, Certificate}
 use Rattle.ts_cert.specs.Rules.{OptionalFields, LocatedTbs, extensions_fault}
 use Rattle.ts_cert.specs.Version.{version_at}
-use Rattle.ts_cert.specs.Time.{validity_of}
 
--- parameters ANY DEFINED BY algorithm OPTIONAL: the element that is left, if any is
-unfoldable pub parameters_at : Place → Result (Option (List ℕ) × Place) Fault
-parameters_at here = if is_end here.rest then Ok (None, here) else (next_at here >>= λ e. Ok (Some e.0.whole, e.1))
-
--- AlgorithmIdentifier ::= SEQUENCE { algorithm OBJECT IDENTIFIER, parameters }
-unfoldable pub algorithm_of : Tlv → Result Algorithm Fault
-algorithm_of e = do
-  algorithm ← oid_at (inside e)
-  parameters ← parameters_at algorithm.1
-  done ← end_at parameters.1
-  Ok (record { algorithm = algorithm.0; parameters = parameters.0; whole = e.whole })
-
-unfoldable pub algorithm_at : Place → Result (Algorithm × Place) Fault
-algorithm_at = within 0x30 algorithm_of
+-- Validity ::= SEQUENCE { notBefore Time, notAfter Time } (4.1.2.5)
+unfoldable pub validity_of : Tlv → Result Validity Fault
+validity_of e = do
+  before ← time_at (inside e)
+  after ← time_at before.1
+  done ← end_at after.1
+  Ok (record { not_before = before.0; not_after = after.0 })
 
 unfoldable pub validity_at : Place → Result (Validity × Place) Fault
 validity_at = within 0x30 validity_of

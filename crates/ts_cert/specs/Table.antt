@@ -1,31 +1,23 @@
 -- The table of a certificate (RFC 5280 4.1, as restated in Appendix A.1), and the first rule that octets break.
-use Rattle.std.specs.Prelude.{ℕ, zero, suc, ◌==◌, ◌||◌, not, nat_lt, Bool, false, List, [], ◌∷◌, length, Option, Some, None, is_some, Result, Ok, Err, if◌then◌else◌}
+use Rattle.std.specs.Prelude.{ℕ, zero, suc, ◌==◌, ◌||◌, not, nat_lt, Bool, false, List, [], ◌∷◌, length, Option, Some, None, Result, Ok, Err, if◌then◌else◌}
 use Rattle.std.specs.Str.{bytes_eq}
-use Rattle.ts_der.specs.declared.fault.DerFault.TheVariants.{TooLarge, DefaultEncoded, TimeForm}
+use Rattle.ts_der.specs.declared.fault.DerFault.TheVariants.{TooLarge, DefaultEncoded}
 use Rattle.ts_der.specs.Element.{Place, Tlv, inside, encode}
 use Rattle.ts_der.specs.Reading.{begins_with, element_of, behind}
 use Rattle.ts_der.specs.BitString.{bits_rules}
 use Rattle.ts_der.specs.Integer.{integer_rules}
-use Rattle.ts_time.specs.Reading.{utc_in, general_in}
 use Rattle.ts_shape.specs.declared.fault.CertRule.TheVariants.{Der, Version, AlgorithmMismatch}
 use Rattle.ts_shape.specs.declared.fault.CertFault.{CertFault}
 use Rattle.ts_shape.specs.Fault.{breaks}
-use Rattle.ts_shape.specs.Shape.{ContentRules, Row, any, optional, tagged, no_other, nothing, ◌then◌, ◌or_else◌, judge, der_rules, no_rules, one_rule, primitive, sequence, ◌or◌}
-use Rattle.ts_shape.specs.Rows.{object_identifier, integer, bit_string}
+use Rattle.ts_shape.specs.Shape.{ContentRules, Row, optional, tagged, no_other, nothing, ◌then◌, ◌or_else◌, judge, der_rules, no_rules, one_rule, primitive, sequence}
+use Rattle.ts_shape.specs.Rows.{integer, bit_string}
 use Rattle.ts_name.specs.NameRows.{name}
 use Rattle.ts_ext.specs.Extension.{explicit_extensions}
+use Rattle.ts_field.specs.Table.{time, algorithm_identifier, from_front}
 use Rattle.ts_cert.specs.Rules.{extensions_fault}
 use Rattle.ts_cert.specs.Reading.{Unagreed, signed_of}
 
 -- ---- certificates
-
--- UTCTime in its one form (4.1.2.5.1)
-abbrev pub utc_time : Row
-utc_time = primitive 0x17 (one_rule (Der TimeForm) (λ c. not (is_some (utc_in c))))
-
--- GeneralizedTime in its one form (4.1.2.5.2)
-abbrev pub generalized_time : Row
-generalized_time = primitive 0x18 (one_rule (Der TimeForm) (λ c. not (is_some (general_in c))))
 
 -- whether a content is v1(0), v2(1) or v3(2)
 abbrev pub is_version : List ℕ → Bool
@@ -47,14 +39,6 @@ default_rules = one_rule (Der DefaultEncoded) (λ c. bytes_eq c (encode 0x02 (0 
 -- [0] EXPLICIT Version DEFAULT v1 (4.1.2.1)
 abbrev pub version : Row
 version = tagged 0xA0 (version_number then nothing) default_rules no_other
-
--- AlgorithmIdentifier ::= SEQUENCE { algorithm OBJECT IDENTIFIER, parameters ANY DEFINED BY algorithm OPTIONAL } (4.1.1.2)
-abbrev pub algorithm_identifier : Row
-algorithm_identifier = sequence (object_identifier then optional any then nothing)
-
--- Time ::= CHOICE { utcTime UTCTime, generalTime GeneralizedTime } (4.1.2.5)
-abbrev pub time : Row
-time = utc_time or generalized_time
 
 -- Validity ::= SEQUENCE { notBefore Time, notAfter Time } (4.1.2.5)
 abbrev pub validity : Row
@@ -99,10 +83,6 @@ abbrev pub certificate : Row
 certificate = sequence (tbs_certificate then algorithm_identifier then bit_string then nothing)
 
 -- ---- the first rule that is broken
-
--- the input, from its first octet on
-abbrev pub from_front : List ℕ → Place
-from_front octets = record { rest = octets; at = 0 }
 
 -- the element after this many others
 abbrev pub nth : ℕ → Place → Tlv

@@ -1,20 +1,16 @@
 -- What contracts see of the parts that a certificate lends: octets, without where they lie in memory.
 use Rattle.std.specs.Prelude.{map, option_map}
-use Rattle.std.specs.Option.{option_copied}
 use Rattle.ts_der.specs.BitsView.{parts_of}
 use Rattle.ts_name.specs.NameView.{rdns_in}
 use Rattle.ts_ext.specs.Extension.{unlocated}
-use Rattle.ts_cert.specs.declared.algorithm.AlgorithmIdentifier.{AlgorithmIdentifier}
+use Rattle.ts_field.specs.View.{algorithm_in}
 use Rattle.ts_cert.specs.declared.key.SubjectPublicKeyInfo.{SubjectPublicKeyInfo}
 use Rattle.ts_cert.specs.declared.optional_fields.OptionalFields.{OptionalFields as Late}
 use Rattle.ts_cert.specs.declared.tbs.TbsCertificate.{TbsCertificate}
 use Rattle.ts_cert.specs.Period.{validity_in}
 use Rattle.ts_cert.specs.AllLocated.{all_located_within}
-use Rattle.ts_cert.specs.Certificate.{Algorithm, KeyInfo, Tbs}
+use Rattle.ts_cert.specs.Certificate.{KeyInfo, Tbs}
 use Rattle.ts_cert.specs.Rules.{OptionalFields, LocatedTbs}
-
-abbrev pub algorithm_in : AlgorithmIdentifier → Algorithm
-algorithm_in a = record { algorithm = a.algorithm.now; parameters = option_copied a.parameters; whole = a.whole.now }
 
 abbrev pub key_in : SubjectPublicKeyInfo → KeyInfo
 key_in k = record { algorithm = algorithm_in k.algorithm; subjectPublicKey = k.subject_public_key.now }

@@ -5,21 +5,22 @@ ghost use Rattle.std.specs.Option.{option_copied};
 ghost use Rattle.ts_der.specs.Answer.{Answers, refusal};
 ghost use Rattle.ts_name.specs.NameView.{rdns_in};
 ghost use Rattle.ts_name.specs.Sameness.{canon_name};
+ghost use Rattle.ts_field.specs.View.{algorithm_in};
 ghost use Rattle.ts_cert.specs.Certificate.{Certificate};
 ghost use Rattle.ts_cert.specs.Reading.{certificate_of};
 ghost use Rattle.ts_cert.specs.Encoding.{IsCertificate};
 ghost use Rattle.ts_cert.specs.Table.{certificate_fault};
-ghost use Rattle.ts_cert.specs.View.{algorithm_in, key_in};
+ghost use Rattle.ts_cert.specs.View.{key_in};
 ghost use Rattle.ts_cert.specs.Layout.{AreLaidOut};
 
-use crate::algorithm::AlgorithmIdentifier;
 use crate::key::SubjectPublicKeyInfo;
 use crate::layout::Layout;
 use crate::part::{algorithm_from, bits_from, integer_from, key_from, name_from, validity_from};
 use crate::reading::read_cert;
-use crate::time::Validity;
+use crate::validity::Validity;
 use crate::version::Version;
 use ts_der::Integer;
+use ts_field::AlgorithmIdentifier;
 use ts_name::Name;
 use ts_shape::CertFault;
 

@@ -8,13 +8,14 @@ ghost use Rattle.ts_der.specs.Integer.{is_shortest};
 ghost use Rattle.ts_der.specs.Stands.{HavePart};
 ghost use Rattle.ts_shape.specs.Fields.{Within, IsOid, IsInteger, IsBits};
 ghost use Rattle.ts_name.specs.NameEncoding.{IsName};
+ghost use Rattle.ts_field.specs.Algorithm.{AreParameters, IsAlgorithm};
+ghost use Rattle.ts_field.specs.Time.{IsTime};
 ghost use Rattle.ts_cert.specs.Layout.{Spans, AreLaidOut, AreValidExplicit, IsRepeated, IsVersion3};
-ghost use Rattle.ts_cert.specs.Encoding.{AreParameters, IsTime, IsAlgorithm, IsValidity, IsKeyInfo};
+ghost use Rattle.ts_cert.specs.Encoding.{IsValidity, IsKeyInfo};
 
-use crate::fields::{BIT_STRING, INTEGER, OBJECT_IDENTIFIER, SEQUENCE};
+use crate::fields::{BIT_STRING, INTEGER, OBJECT_IDENTIFIER, SEQUENCE, UTC_TIME};
 use crate::layout::Layout;
 use crate::optional_reading::EXTENSIONS;
-use crate::time::UTC_TIME;
 use crate::version::{VERSION, Version};
 use ts_der::{Bounds, Element, are_equal, bounds_at, lie_between};
 use ts_ext::are_sound_extensions;

@@ -3,6 +3,7 @@
 use super::*;
 use crate::tests::{ABSENT, Times, Values, refusal, values};
 use ts_der::DerFault;
+use ts_field::TimeForm;
 use ts_shape::CertRule;
 
 /// A root with a key of RSA: serial number 1234, CN=R, 2026-01-01 to the end of 2049, signed with SHA-256.

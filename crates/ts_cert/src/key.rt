@@ -6,9 +6,9 @@ ghost use Rattle.ts_shape.specs.Steps.{Takes};
 ghost use Rattle.ts_cert.specs.Reading.{key_of, key_at};
 ghost use Rattle.ts_cert.specs.View.{key_in};
 
-use crate::algorithm::{AlgorithmIdentifier, next_algorithm};
-use crate::fields::{SEQUENCE, next_bits};
+use crate::fields::SEQUENCE;
 use ts_der::{Element, Fault, Reader};
+use ts_field::{AlgorithmIdentifier, next_algorithm, next_bits};
 
 /// The subject's public key and its algorithm, as they lie in the source (RFC 5280 4.1.2.7).
 #[derive(Clone, Copy, Debug)]

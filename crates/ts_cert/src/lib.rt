@@ -29,13 +29,11 @@ mod stated_tests;
 mod tbs;
 #[cfg(test)]
 mod tests;
-mod time;
+mod validity;
 mod version;
 
-pub use algorithm::{AlgorithmIdentifier, next_algorithm, read_algorithm};
 pub use certificate::{Cert, MAX_CERTIFICATE};
-pub use fields::{next_bits, next_integer, next_name};
 pub use key::SubjectPublicKeyInfo;
 pub use owned::{OwnedCert, OwnedCertFault};
-pub use time::{Stamp, Time, TimeForm, Validity, next_time, read_time};
+pub use validity::Validity;
 pub use version::Version;

@@ -7,19 +7,21 @@ ghost use Rattle.ts_shape.specs.Fields.{Within, IsInteger, IsBits};
 ghost use Rattle.ts_name.specs.NameEncoding.{IsName};
 ghost use Rattle.ts_name.specs.NameView.{rdns_in};
 ghost use Rattle.ts_ext.specs.Extension.{Extension, AreExplicit, unlocated};
-ghost use Rattle.ts_cert.specs.declared.time.Validity.{Validity as Period};
-ghost use Rattle.ts_cert.specs.Certificate.{Algorithm, KeyInfo};
+ghost use Rattle.ts_field.specs.Algorithm.{Algorithm, IsAlgorithm};
+ghost use Rattle.ts_field.specs.View.{algorithm_in};
+ghost use Rattle.ts_cert.specs.declared.validity.Validity.{Validity as Period};
+ghost use Rattle.ts_cert.specs.Certificate.{KeyInfo};
 ghost use Rattle.ts_cert.specs.Layout.{Holds, HoldsIfAny};
-ghost use Rattle.ts_cert.specs.Encoding.{IsAlgorithm, IsValidity, IsKeyInfo, IsUniqueIdentifier};
+ghost use Rattle.ts_cert.specs.Encoding.{IsValidity, IsKeyInfo, IsUniqueIdentifier};
 ghost use Rattle.ts_cert.specs.AllLocated.{all_located_within};
-ghost use Rattle.ts_cert.specs.View.{algorithm_in, key_in};
+ghost use Rattle.ts_cert.specs.View.{key_in};
 
-use crate::algorithm::{AlgorithmIdentifier, next_algorithm};
-use crate::fields::{SEQUENCE, next_bits, next_integer};
+use crate::fields::SEQUENCE;
 use crate::key::{SubjectPublicKeyInfo, next_key};
 use crate::optional_reading::{EXTENSIONS, next_unique_id};
-use crate::time::{Validity, next_validity};
+use crate::validity::{Validity, next_validity};
 use ts_der::{Bits, Element, Integer, Reader};
+use ts_field::{AlgorithmIdentifier, next_algorithm, next_bits, next_integer};
 use ts_name::Name;
 
 /// The INTEGER that begins at an offset.

@@ -1,7 +1,7 @@
 //! The parts of a certificate, each read.
 
-use crate::algorithm::AlgorithmIdentifier;
 use crate::tbs::TbsCertificate;
+use ts_field::AlgorithmIdentifier;
 
 /// The parts of a certificate while it is read from front to back (RFC 5280 4.1).
 #[derive(Clone, Copy)]

@@ -5,14 +5,14 @@ ghost use Rattle.ts_der.specs.View.{now};
 ghost use Rattle.ts_cert.specs.Reading.{tbs_of};
 ghost use Rattle.ts_cert.specs.View.{tbs_in};
 
-use crate::algorithm::{AlgorithmIdentifier, next_algorithm};
-use crate::fields::{next_integer, next_name, next_name_beside};
+use crate::fields::next_name_beside;
 use crate::key::{SubjectPublicKeyInfo, next_key};
 use crate::optional_fields::OptionalFields;
 use crate::optional_reading::read_late_fields;
-use crate::time::{Period, next_validity};
+use crate::validity::{Period, next_validity};
 use crate::version::{Version, next_version};
 use ts_der::{Element, Integer};
+use ts_field::{AlgorithmIdentifier, next_algorithm, next_integer, next_name};
 use ts_name::Name;
 use ts_shape::CertFault;
 

@@ -2,6 +2,7 @@
 
 use super::*;
 use ts_der::DerFault;
+use ts_field::TimeForm;
 use ts_shape::{CertFault, CertRule};
 
 /// Serial number 2, issuer CN=R, subject CN=L, 2026-01-01 to 2027-01-01, with a key of one octet.

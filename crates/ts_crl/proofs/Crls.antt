@@ -10,8 +10,8 @@ use Rattle.ts_shape.specs.declared.fault.CertRule.TheVariants.{AlgorithmMismatch
 use Rattle.ts_shape.specs.declared.fault.CertFault.{CertFault}
 use Rattle.ts_shape.specs.Fault.{breaks}
 use Rattle.ts_shape.specs.Shape.{◌or_else◌}
-use Rattle.ts_cert.specs.Certificate.{Algorithm}
-use Rattle.ts_cert.proofs.Certificates.{one-algorithm}
+use Rattle.ts_field.specs.Algorithm.{Algorithm}
+use Rattle.ts_field.proofs.Algorithms.{one-algorithm}
 use Rattle.ts_crl.specs.List.{LocatedList, CertificateList, unlocated_list}
 use Rattle.ts_crl.specs.Reading.{shape_of}
 use Rattle.ts_crl.specs.Encoding.{IsCertificateList}

@@ -14,12 +14,12 @@ use Rattle.ts_shape.specs.Items.{some_of, items_at}
 use Rattle.ts_shape.specs.Repeats.{first_repeated}
 use Rattle.ts_shape.specs.Shape.{◌or_else◌}
 use Rattle.ts_shape.proofs.ItemParts.{some-walked}
-use Rattle.ts_cert.specs.declared.time.Time.{Time}
-use Rattle.ts_cert.specs.Time.{time_at}
 use Rattle.ts_ext.specs.declared.known.Holder.TheVariants.{Entry}
 use Rattle.ts_ext.specs.declared.known.Known.TheVariants.{CertificateIssuer}
 use Rattle.ts_ext.specs.Extension.{Extension, Located, unlocated}
 use Rattle.ts_ext.specs.ValueRules.{value_fault, values_fault}
+use Rattle.ts_field.specs.declared.time.Time.{Time}
+use Rattle.ts_field.specs.Time.{time_at}
 use Rattle.ts_crl.specs.declared.extension_rule.ExtensionRule.{ExtensionRule}
 use Rattle.ts_crl.specs.declared.extension_rule.ExtensionRule.TheVariants.{OldVersion, Repeated, Values}
 use Rattle.ts_crl.specs.Findings.{Findings, findings_of, joined, found_among, found_in, found_if_any}

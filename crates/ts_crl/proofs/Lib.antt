@@ -14,5 +14,4 @@ pub mod Crls
 pub mod Judging
 pub mod OneEncoding
 mod Lending
-pub mod SameNames
 mod Magnitudes

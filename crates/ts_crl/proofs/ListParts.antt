@@ -24,13 +24,12 @@ use Rattle.ts_name.proofs.NameParts.{name-part}
 use Rattle.ts_shape.proofs.OptionalParts.{begins-if-any, optional-found, optional-again}
 use Rattle.ts_shape.proofs.Parts.{took, element-took, der-ok}
 use Rattle.ts_shape.proofs.Endings.{end-ok, end-again}
-use Rattle.ts_cert.specs.declared.time.Time.{Time}
-use Rattle.ts_cert.specs.Certificate.{Algorithm}
-use Rattle.ts_cert.specs.Reading.{algorithm_of, algorithm_at}
-use Rattle.ts_cert.specs.Time.{time_at}
-use Rattle.ts_cert.proofs.KeyParts.{algorithm-value, algorithm-part}
-use Rattle.ts_cert.proofs.Periods.{time-part}
 use Rattle.ts_ext.specs.Extension.{Extension, AreExtensions}
+use Rattle.ts_field.specs.declared.time.Time.{Time}
+use Rattle.ts_field.specs.Algorithm.{Algorithm, algorithm_of, algorithm_at}
+use Rattle.ts_field.specs.Time.{time_at}
+use Rattle.ts_field.proofs.Algorithms.{algorithm-value, algorithm-part}
+use Rattle.ts_field.proofs.Times.{time-part}
 use Rattle.ts_crl.specs.declared.version.ListVersion.{ListVersion}
 use Rattle.ts_crl.specs.declared.version.ListVersion.TheVariants.{V1, V2}
 use Rattle.ts_crl.specs.List.{LocatedExtensions, LocatedEntry, LocatedTbsList, LocatedList, RevokedCertificate, TbsCertList, CertificateList, unlocated_extensions, unlocated_entry, said_tbs, unlocated_list}

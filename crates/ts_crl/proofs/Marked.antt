@@ -14,7 +14,7 @@ use Rattle.ts_der.specs.Rules.{value_unless}
 use Rattle.ts_der.proofs.Laws.{bind_ok, ok_is}
 use Rattle.ts_shape.specs.Fields.{integer_at, optional_of, within}
 use Rattle.ts_shape.specs.Items.{each, tagged_as, of_tag, first_then, upto_from, items_at}
-use Rattle.ts_cert.specs.Time.{time_at}
+use Rattle.ts_field.specs.Time.{time_at}
 use Rattle.ts_crl.specs.declared.entry.Entry.{Entry}
 use Rattle.ts_crl.specs.Entries.{has_serial}
 use Rattle.ts_crl.specs.EntryView.{entry_as, entry_in as said_in}

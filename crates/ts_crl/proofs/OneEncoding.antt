@@ -1,19 +1,18 @@
 -- No two lists of octets are the fields of one list.
 use Rattle.std.proofs.Common.{◌≡◌, ℕ, List, Option, Some, None, refl, sym, ◌∙◌}
 use Rattle.ts_shape.specs.Fields.{Within, IsInteger}
+use Rattle.ts_shape.proofs.OneEncoding.{One, one-within, one-if-any, one-items}
 use Rattle.ts_name.specs.NameEncoding.{IsName}
-use Rattle.ts_cert.specs.declared.time.Time.{Time}
-use Rattle.ts_cert.proofs.OneEncoding.{One, one-within, one-algorithm, one-name, one-time, one-if-any, one-items, one-extension, one-explicit}
-use Rattle.ts_ext.specs.Extension.{IsExtension, AreExtensions}
+use Rattle.ts_ext.specs.Extension.{AreExtensions}
+use Rattle.ts_ext.proofs.OneExtension.{one-extensions, one-explicit}
+use Rattle.ts_field.specs.declared.time.Time.{Time}
+use Rattle.ts_field.proofs.OneEncoding.{one-algorithm, one-name, one-time}
 use Rattle.ts_crl.specs.List.{TbsCertList}
 use Rattle.ts_crl.specs.Encoding.{IsTimeIfAny, IsRevokedCertificate, AreRevoked, IsTbsCertList}
 
 one-time-if-any : (x : Option Time) (c d : List ℕ) → IsTimeIfAny c x → IsTimeIfAny d x → c ≡ d
 one-time-if-any None c d a b = a ∙ sym b
 one-time-if-any (Some t) c d a b = one-time t.form c d t.moment a b
-
-one-extensions : One AreExtensions
-one-extensions c d xs a b = one-items (Within 0x30 IsExtension) (one-within 0x30 IsExtension one-extension) xs c d a.1 b.1
 
 one-entry : One IsRevokedCertificate
 one-entry c d e a b =

@@ -17,14 +17,13 @@ use Rattle.ts_shape.specs.Shape.{optional, Shape, ◌then◌, ◌or_else◌, hea
 use Rattle.ts_shape.proofs.Judging.{Judged, bind}
 use Rattle.ts_shape.proofs.OptionalParts.{begins-within, begins-other}
 use Rattle.ts_shape.proofs.Parts.{took}
-use Rattle.ts_cert.specs.declared.time.Time.{Time}
-use Rattle.ts_cert.specs.declared.time.TimeForm.{TimeForm}
-use Rattle.ts_cert.specs.declared.time.TimeForm.TheVariants.{Utc, General}
-use Rattle.ts_cert.specs.Encoding.{IsTimeIn}
-use Rattle.ts_cert.specs.Table.{time}
-use Rattle.ts_cert.specs.Time.{time_of, time_at}
-use Rattle.ts_cert.proofs.Judging.{time-reads}
-use Rattle.ts_cert.proofs.Periods.{time-part}
+use Rattle.ts_field.specs.declared.time.Time.{Time}
+use Rattle.ts_field.specs.declared.time.TimeForm.{TimeForm}
+use Rattle.ts_field.specs.declared.time.TimeForm.TheVariants.{Utc, General}
+use Rattle.ts_field.specs.Time.{IsTimeIn, time_of, time_at}
+use Rattle.ts_field.specs.Table.{time}
+use Rattle.ts_field.proofs.Judging.{time-reads}
+use Rattle.ts_field.proofs.Times.{time-part}
 use Rattle.ts_crl.specs.Reading.{or_general, next_update_at}
 use Rattle.ts_crl.specs.Encoding.{IsTimeIfAny}
 

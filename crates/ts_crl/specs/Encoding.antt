@@ -5,9 +5,10 @@ use Rattle.ts_der.specs.Element.{encode}
 use Rattle.ts_name.specs.NameEncoding.{IsName}
 use Rattle.ts_shape.specs.Fields.{Within, IfAny, IsInteger, IsBits}
 use Rattle.ts_shape.specs.Items.{AreItems}
-use Rattle.ts_cert.specs.declared.time.Time.{Time}
-use Rattle.ts_cert.specs.Encoding.{IsTime, IsAlgorithm}
 use Rattle.ts_ext.specs.Extension.{AreExtensions}
+use Rattle.ts_field.specs.declared.time.Time.{Time}
+use Rattle.ts_field.specs.Time.{IsTime}
+use Rattle.ts_field.specs.Algorithm.{IsAlgorithm}
 use Rattle.ts_crl.specs.declared.version.ListVersion.{ListVersion}
 use Rattle.ts_crl.specs.declared.version.ListVersion.TheVariants.{V1, V2}
 use Rattle.ts_crl.specs.declared.extension_rule.ExtensionRule.TheVariants.{Repeated, Values}

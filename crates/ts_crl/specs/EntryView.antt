@@ -3,10 +3,10 @@ use Rattle.std.specs.Prelude.{List, map, option_map}
 use Rattle.ts_der.specs.Element.{inside}
 use Rattle.ts_der.specs.View.{now}
 use Rattle.ts_shape.specs.Items.{items_at}
-use Rattle.ts_cert.specs.Period.{time_in}
 use Rattle.ts_ext.specs.declared.extension.Extension.{Extension as Lent}
 use Rattle.ts_ext.specs.Extension.{Extension, Located, unlocated, located_in}
 use Rattle.ts_ext.specs.ExtensionView.{located_as}
+use Rattle.ts_field.specs.View.{time_in}
 use Rattle.ts_crl.specs.declared.extension_list.ExtensionList.{ExtensionList}
 use Rattle.ts_crl.specs.declared.placed.Placed.{Placed}
 use Rattle.ts_crl.specs.declared.entry.Entry.{Entry}

@@ -1,9 +1,9 @@
 -- A list of revoked certificates (RFC 5280 5.1): what its octets say, in the standard's field names.
 use Rattle.std.specs.Prelude.{ℕ, List, Option, map, option_map}
 use Rattle.ts_name.specs.Canon.{Attr}
-use Rattle.ts_cert.specs.declared.time.Time.{Time}
-use Rattle.ts_cert.specs.Certificate.{Algorithm}
 use Rattle.ts_ext.specs.Extension.{Extension, Located, unlocated}
+use Rattle.ts_field.specs.declared.time.Time.{Time}
+use Rattle.ts_field.specs.Algorithm.{Algorithm}
 use Rattle.ts_crl.specs.declared.version.ListVersion.{ListVersion}
 
 -- a member of revokedCertificates (5.1.2.6): the serial number is the content of its INTEGER

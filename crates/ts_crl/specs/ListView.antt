@@ -1,8 +1,7 @@
 -- What contracts see of a list.
 use Rattle.std.specs.Prelude.{option_map}
 use Rattle.ts_name.specs.NameView.{rdns_in}
-use Rattle.ts_cert.specs.Period.{time_in}
-use Rattle.ts_cert.specs.View.{algorithm_in}
+use Rattle.ts_field.specs.View.{time_in, algorithm_in}
 use Rattle.ts_crl.specs.declared.crl.Crl.{Crl}
 use Rattle.ts_crl.specs.declared.tbs.TbsCertList.{TbsCertList}
 use Rattle.ts_crl.specs.EntryView.{placed_in, revoked_in}

@@ -1,8 +1,8 @@
 -- What contracts see of a list that is kept.
 use Rattle.std.specs.Prelude.{ℕ, List, [], None, pos}
 use Rattle.std.specs.Result.{result_unwrap_or}
-use Rattle.ts_cert.specs.declared.time.TimeForm.TheVariants.{Utc}
-use Rattle.ts_cert.specs.Certificate.{Algorithm}
+use Rattle.ts_field.specs.declared.time.TimeForm.TheVariants.{Utc}
+use Rattle.ts_field.specs.Algorithm.{Algorithm}
 use Rattle.ts_crl.specs.declared.version.ListVersion.TheVariants.{V1}
 use Rattle.ts_crl.specs.List.{CertificateList}
 use Rattle.ts_crl.specs.Table.{crl_of}

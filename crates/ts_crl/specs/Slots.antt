@@ -1,22 +1,12 @@
 -- The slot of a list (RFC 5280 6.3.3 (c)): its issuer, its issuing distribution point and its authority key identifier.
-use Rattle.std.specs.Prelude.{ℕ, ◌==◌, ◌&&◌, Bool, true, false, List, Option, Some, None, option_map}
+use Rattle.std.specs.Prelude.{ℕ, ◌&&◌, Bool, true, false, List, Option, Some, None, option_map}
 use Rattle.std.specs.List.{find}
 use Rattle.std.specs.Str.{bytes_eq}
-use Rattle.std.specs.Cmp.Lexicographic.{pointwise}
-use Rattle.ts_name.specs.Canon.{Attr, CanonAttr}
-use Rattle.ts_name.specs.Sameness.{canon_name}
+use Rattle.ts_name.specs.Sameness.{is_same_name}
 use Rattle.ts_ext.specs.declared.known.Known.{Known}
 use Rattle.ts_ext.specs.declared.known.Known.TheVariants.{IssuingDistributionPoint, AuthorityKeyIdentifier}
 use Rattle.ts_crl.specs.List.{CertificateList}
 use Rattle.ts_crl.specs.Values.{is_known, extensions_of}
-
--- whether two attributes in canonical form are one
-abbrev pub is_same_attr : CanonAttr → CanonAttr → Bool
-is_same_attr a b = bytes_eq a.kind b.kind && (a.tag == b.tag && bytes_eq a.value b.value)
-
--- whether two names are the same: their canonical forms are equal (7.1)
-unfoldable pub is_same_name : List (List Attr) → List (List Attr) → Bool
-is_same_name a b = pointwise (pointwise is_same_attr) (canon_name a) (canon_name b)
 
 -- the octets of an extension's value, where the extension is there
 abbrev pub octets_of : Known → CertificateList → Option (List ℕ)

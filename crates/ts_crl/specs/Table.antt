@@ -10,9 +10,9 @@ use Rattle.ts_shape.specs.Fault.{breaks}
 use Rattle.ts_shape.specs.Shape.{ContentRules, Row, Shape, optional, tagged, no_other, items, nothing, ◌then◌, ◌or_else◌, judge, der_rules, no_rules, one_rule, primitive, sequence}
 use Rattle.ts_shape.specs.Rows.{integer, bit_string}
 use Rattle.ts_name.specs.NameRows.{name}
-use Rattle.ts_cert.specs.Table.{algorithm_identifier, time, from_front}
 use Rattle.ts_ext.specs.Extension.{extensions as extension_items}
 use Rattle.ts_ext.specs.Table.{list_rules}
+use Rattle.ts_field.specs.Table.{algorithm_identifier, time, from_front}
 use Rattle.ts_crl.specs.Fault.{ListFault, broken}
 use Rattle.ts_crl.specs.List.{CertificateList, LocatedList, unlocated_list}
 use Rattle.ts_crl.specs.Profile.{profile_fault}

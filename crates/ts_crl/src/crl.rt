@@ -3,8 +3,8 @@
 ghost use Rattle.std.specs.Prelude.{◌≡◌, ◌↔◌, None, false, map, option_map, IfOk, IsOkAnd};
 ghost use Rattle.ts_der.specs.Answer.{refusal};
 ghost use Rattle.ts_name.specs.NameView.{rdns_in};
-ghost use Rattle.ts_cert.specs.View.{algorithm_in};
 ghost use Rattle.ts_ext.specs.ExtensionView.{extensions_in};
+ghost use Rattle.ts_field.specs.View.{algorithm_in};
 ghost use Rattle.ts_crl.specs.Entries.{first_entry, has_entry};
 ghost use Rattle.ts_crl.specs.EntryView.{entry_in, entries_in};
 ghost use Rattle.ts_ext.specs.NameViews.{authority_key_in, issuing_point_in};
@@ -25,11 +25,11 @@ use crate::rules::placed_fault;
 use crate::shape::read_shape;
 use crate::values::{base_if_any, value_if_any};
 use crate::version::ListVersion;
-use ts_cert::{AlgorithmIdentifier, Stamp, Time};
 use ts_der::Integer;
 use ts_ext::{
     AuthorityKeyIdentifier, CrlNumber, Ext, Extensions, Holder, IssuingDistributionPoint, Known,
 };
+use ts_field::{AlgorithmIdentifier, Stamp, Time};
 use ts_name::Name;
 
 /// The greatest number of octets that a list may have in this profile.

@@ -9,9 +9,9 @@ ghost use Rattle.ts_crl.specs.Reading.{entry_of};
 
 use crate::placed::{Placed, next_extensions_if_any};
 use crate::values::value_if_any;
-use ts_cert::{Stamp, Time, next_integer, next_time};
 use ts_der::{Element, Fault, Integer};
 use ts_ext::{Ext, Extensions, Holder, InvalidityDate, Known, ReasonCode};
+use ts_field::{Stamp, Time, next_integer, next_time};
 use ts_shape::{FromElement, tagged_as};
 
 const SEQUENCE: u8 = 0x30;

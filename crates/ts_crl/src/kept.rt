@@ -22,8 +22,8 @@ use crate::revoked::Revoked;
 use crate::tbs::{TbsCertList, stamp_if_any};
 use crate::update::next_update;
 use crate::version::next_version;
-use ts_cert::{Stamp, next_algorithm, next_bits, next_time, read_algorithm};
 use ts_der::{Element, Fault, Reader};
+use ts_field::{Stamp, next_algorithm, next_bits, next_time, read_algorithm};
 use ts_name::Name;
 use ts_shape::{CertFault, tagged_as};
 

@@ -21,9 +21,9 @@ use crate::extension_rule::ExtensionRule;
 use crate::findings::Findings;
 use crate::placed::Placed;
 use crate::rules::rule_fault;
-use ts_cert::{next_integer, next_time};
 use ts_der::{DerFault, Element, Fault, Reader};
 use ts_ext::{Extension, Holder};
+use ts_field::{next_integer, next_time};
 use ts_shape::{CertFault, FromElement, tagged_as};
 
 const SEQUENCE: u8 = 0x30;

@@ -3,11 +3,12 @@
 ghost use Rattle.std.specs.List.{find};
 ghost use Rattle.std.specs.Prelude.{◌≡◌, option_map, IfOk};
 ghost use Rattle.ts_name.specs.NameView.{rdns_in};
+ghost use Rattle.ts_name.specs.Sameness.{is_same_name};
 ghost use Rattle.ts_ext.specs.ExtensionView.{extensions_in};
 ghost use Rattle.ts_crl.specs.EntryView.{extension_as};
 ghost use Rattle.ts_crl.specs.ListView.{crl_in};
 ghost use Rattle.ts_crl.specs.Profile.{is_delta as is_delta_list};
-ghost use Rattle.ts_crl.specs.Slots.{is_same_name, octets_of, is_same_value as are_same_value, have_same_values as have_same_values_of, is_same_slot as are_one_slot};
+ghost use Rattle.ts_crl.specs.Slots.{octets_of, is_same_value as are_same_value, have_same_values as have_same_values_of, is_same_slot as are_one_slot};
 ghost use Rattle.ts_crl.specs.Values.{is_known};
 
 use crate::crl::Crl;

@@ -3,7 +3,7 @@
 ghost use Rattle.std.specs.Prelude.{◌≡◌, option_map};
 ghost use Rattle.ts_der.specs.Answer.{Answers};
 ghost use Rattle.ts_der.specs.View.{now};
-ghost use Rattle.ts_cert.specs.Period.{time_in};
+ghost use Rattle.ts_field.specs.View.{time_in};
 ghost use Rattle.ts_crl.specs.ListView.{tbs_in};
 ghost use Rattle.ts_crl.specs.Reading.{tbs_of};
 
@@ -12,8 +12,8 @@ use crate::placed::{Placed, next_wrapped_if_any};
 use crate::revoked::Revoked;
 use crate::update::next_update;
 use crate::version::{ListVersion, next_version};
-use ts_cert::{AlgorithmIdentifier, Stamp, Time, next_algorithm, next_name, next_time};
 use ts_der::Element;
+use ts_field::{AlgorithmIdentifier, Stamp, Time, next_algorithm, next_name, next_time};
 use ts_name::Name;
 use ts_shape::CertFault;
 

@@ -2,8 +2,8 @@
 
 use super::*;
 use std::alloc::Global;
-use ts_cert::TimeForm;
 use ts_der::{DerFault, Integer};
+use ts_field::TimeForm;
 use ts_shape::{CertFault, CertRule};
 
 /// Made by openssl: three entries, of serial numbers 5, 4095 and 4096, a key identifier and the number 10.

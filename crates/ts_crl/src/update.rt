@@ -2,11 +2,11 @@
 
 ghost use Rattle.ts_shape.specs.Fields.{optional_of};
 ghost use Rattle.ts_shape.specs.Steps.{Takes};
-ghost use Rattle.ts_cert.specs.Time.{time_of};
+ghost use Rattle.ts_field.specs.Time.{time_of};
 ghost use Rattle.ts_crl.specs.Reading.{next_update_at};
 
-use ts_cert::{Time, read_time};
 use ts_der::{Fault, Reader};
+use ts_field::{Time, read_time};
 
 const UTC_TIME: u8 = 0x17;
 

@@ -20,3 +20,4 @@ pub mod OneEncoding
 pub mod UriPoints
 pub mod FastItems
 pub mod ValidLists
+pub mod OneExtension

@@ -4,12 +4,12 @@ use Rattle.std.specs.Prelude.{IfOk, IfErr, OnOk, is_ok, unwrap_or}
 use Rattle.std.specs.declared.vec.Vec.{Vec}
 use Rattle.std.specs.declared.alloc.Global.{Global}
 use Rattle.std.proofs.lemmas.Slice.Eq.{bytes_eq-Decides}
+use Rattle.ts_field.specs.declared.time.Time.{Time}
 use Rattle.sha2.specs.Sha256.{sha256}
 use Rattle.ts_der.specs.declared.fault.DerFault.TheVariants.{TimeForm}
 use Rattle.ts_shape.specs.declared.fault.CertRule.TheVariants.{Der}
 use Rattle.ts_shape.specs.declared.fault.CertFault.{CertFault}
 use Rattle.ts_time.specs.Civil.{IsInYears}
-use Rattle.ts_cert.specs.declared.time.Time.{Time}
 use Rattle.ts_shape.specs.Fault.{breaks}
 use Rattle.ts_cert.specs.Certificate.{Certificate, all_extensions}
 use Rattle.ts_cert.specs.Reading.{unless_broken, certificate_of}

@@ -4,11 +4,11 @@ use Rattle.std.specs.Prelude.{IfOk, OnOk, option_map, unwrap_or, map}
 use Rattle.std.specs.declared.vec.Vec.{Vec}
 use Rattle.std.specs.declared.alloc.Global.{Global}
 use Rattle.std.proofs.lemmas.Slice.Eq.{bytes_eq-Decides}
+use Rattle.ts_field.specs.declared.time.Time.{Time}
 use Rattle.sha2.specs.Sha256.{sha256}
 use Rattle.ts_shape.specs.declared.fault.CertFault.{CertFault}
 use Rattle.ts_shape.specs.Shape.{◌or_else◌}
 use Rattle.ts_time.specs.Civil.{IsInYears}
-use Rattle.ts_cert.specs.declared.time.Time.{Time}
 use Rattle.ts_crl.specs.Fault.{ListFault, broken}
 use Rattle.ts_crl.specs.List.{LocatedList, CertificateList, unlocated_list}
 use Rattle.ts_crl.specs.Profile.{profile_fault}

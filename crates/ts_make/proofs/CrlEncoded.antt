@@ -3,6 +3,8 @@ use Rattle.std.proofs.Common.{ℕ, ◌<◌, ◌^◌, ◌≤◌, true, List, [], 
 use Rattle.std.specs.Prelude.{map}
 use Rattle.std.proofs.lemmas.List.{append-nil}
 use Rattle.std.specs.List.{flat_map}
+use Rattle.ts_field.specs.declared.time.Time.{Time}
+use Rattle.ts_field.specs.Time.{IsTime}
 use Rattle.sha2.specs.Sha256.{sha256}
 use Rattle.ts_der.specs.declared.oid.OidRef.{OidRef}
 use Rattle.ts_der.specs.Element.{encode}
@@ -10,8 +12,6 @@ use Rattle.ts_der.specs.ObjectIdentifier.{is_oid, series_of, subidentifier}
 use Rattle.ts_sig.specs.StandIn.{algorithm_identifier}
 use Rattle.ts_shape.specs.Fields.{Within, IfAny}
 use Rattle.ts_shape.specs.Items.{AreItems}
-use Rattle.ts_cert.specs.declared.time.Time.{Time}
-use Rattle.ts_cert.specs.Encoding.{IsTime}
 use Rattle.ts_ext.specs.Extension.{Extension, IsExtension, AreExtensions}
 use Rattle.ts_crl.specs.declared.version.ListVersion.TheVariants.{V2}
 use Rattle.ts_crl.specs.List.{RevokedCertificate, TbsCertList, CertificateList}

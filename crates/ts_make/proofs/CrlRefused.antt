@@ -10,13 +10,13 @@ use Rattle.ts_shape.specs.declared.fault.CertRule.TheVariants.{Der}
 use Rattle.ts_shape.specs.Fault.{breaks}
 use Rattle.ts_shape.specs.Fields.{optional_of}
 use Rattle.ts_name.proofs.NameParts.{name-part}
+use Rattle.ts_field.specs.Time.{time_of}
+use Rattle.ts_field.proofs.Algorithms.{algorithm-part}
+use Rattle.ts_field.proofs.Times.{time-part}
 use Rattle.sha2.specs.Sha256.{sha256}
 use Rattle.ts_sig.specs.StandIn.{algorithm_identifier}
 use Rattle.ts_time.specs.Civil.{IsInYears}
 use Rattle.ts_time.specs.Reading.{numbers_in, general_in}
-use Rattle.ts_cert.specs.Time.{time_of}
-use Rattle.ts_cert.proofs.KeyParts.{algorithm-part}
-use Rattle.ts_cert.proofs.Periods.{time-part}
 use Rattle.ts_crl.specs.declared.version.ListVersion.TheVariants.{V2}
 use Rattle.ts_crl.specs.Fault.{broken}
 use Rattle.ts_crl.specs.Reading.{next_update_at, tbs_of, signed_of, whole_of, shape_of}

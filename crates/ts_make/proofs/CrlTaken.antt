@@ -13,13 +13,13 @@ use Rattle.ts_der.specs.Reading.{end_at}
 use Rattle.ts_der.proofs.Laws.{next-only}
 use Rattle.ts_shape.specs.Items.{each, alone, of_tag, tagged_as}
 use Rattle.ts_shape.specs.Shape.{◌or_else◌}
-use Rattle.ts_cert.specs.declared.time.Time.{Time}
 use Rattle.ts_ext.specs.declared.known.Holder.TheVariants.{List as ListHolder}
 use Rattle.ts_ext.specs.declared.known.Known.TheVariants.{IssuingDistributionPoint}
 use Rattle.ts_ext.specs.Ext.{ExtValue, issuingDistributionPoint, ext_of}
 use Rattle.ts_ext.specs.Extension.{Extension}
 use Rattle.ts_ext.specs.Known.{known_at, list_extension, identifier_of}
 use Rattle.ts_ext.specs.Points.{ListScope, issuing_point_of}
+use Rattle.ts_field.specs.declared.time.Time.{Time}
 use Rattle.ts_crl.specs.Entries.{entries_of}
 use Rattle.ts_crl.specs.Fault.{ListFault, noNextUpdate, criticalCrlExtension, indirect, relativeName, deltaCrl}
 use Rattle.ts_crl.specs.List.{CertificateList, unlocated_list}

@@ -1,12 +1,13 @@
 -- What is made is the encoding of the certificate that the description says.
 use Rattle.std.proofs.Common.{ℕ, ◌≤◌, List, [], ◌++◌, length, refl, arith, length-append}
+use Rattle.ts_field.specs.declared.time.Time.{Time}
+use Rattle.ts_field.specs.Time.{IsTime}
 use Rattle.sha2.specs.Sha256.{sha256}
 use Rattle.ts_der.specs.Element.{encode}
 use Rattle.ts_sig.specs.StandIn.{algorithm_identifier}
 use Rattle.ts_cert.specs.declared.version.Version.TheVariants.{V3}
-use Rattle.ts_cert.specs.declared.time.Time.{Time}
 use Rattle.ts_shape.specs.Fields.{Within}
-use Rattle.ts_cert.specs.Encoding.{IsTime, IsTbs, IsSigned, version_octets}
+use Rattle.ts_cert.specs.Encoding.{IsTbs, IsSigned, version_octets}
 use Rattle.ts_make.specs.declared.description.CertText.{CertText}
 use Rattle.ts_make.specs.Serial.{serial_content}
 use Rattle.ts_make.specs.Sayable.{IsSayable}

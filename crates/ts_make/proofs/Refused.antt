@@ -10,6 +10,12 @@ use Rattle.ts_der.proofs.Laws.{element-only, next-only}
 use Rattle.ts_shape.specs.declared.fault.CertRule.TheVariants.{Der}
 use Rattle.ts_shape.specs.declared.fault.CertFault.{CertFault}
 use Rattle.ts_shape.specs.Fields.{within}
+use Rattle.ts_field.specs.declared.time.TimeForm.{TimeForm}
+use Rattle.ts_field.specs.declared.time.TimeForm.TheVariants.{Utc, General}
+use Rattle.ts_field.specs.declared.time.Time.{Time}
+use Rattle.ts_field.specs.Time.{IsTimeIn, IsTime, time_of, time_at}
+use Rattle.ts_field.proofs.Algorithms.{algorithm-part}
+use Rattle.ts_cert.specs.Reading.{validity_of, validity_at, tbs_of, signed_of, whole_of, certificate_of}
 use Rattle.sha2.specs.Sha256.{sha256}
 use Rattle.ts_sig.specs.StandIn.{algorithm_identifier}
 use Rattle.ts_time.specs.Civil.{IsInYears}
@@ -17,16 +23,10 @@ use Rattle.ts_time.specs.Reading.{numbers_in, general_in}
 use Rattle.ts_time.proofs.CivilLemmas.{IsInYears-wider}
 use Rattle.ts_time.proofs.ReadingLemmas.{utc_in-only, general_in-only}
 use Rattle.ts_cert.specs.declared.version.Version.TheVariants.{V3}
-use Rattle.ts_cert.specs.declared.time.TimeForm.{TimeForm}
-use Rattle.ts_cert.specs.declared.time.TimeForm.TheVariants.{Utc, General}
-use Rattle.ts_cert.specs.declared.time.Time.{Time}
 use Rattle.ts_shape.specs.Fault.{breaks}
-use Rattle.ts_cert.specs.Encoding.{IsTimeIn, IsTime, version_octets}
-use Rattle.ts_cert.specs.Time.{time_of, time_at, validity_of}
-use Rattle.ts_cert.specs.Reading.{validity_at, tbs_of, signed_of, whole_of, certificate_of}
+use Rattle.ts_cert.specs.Encoding.{version_octets}
 use Rattle.ts_shape.proofs.FieldParts.{integer-part}
 use Rattle.ts_name.proofs.NameParts.{name-part}
-use Rattle.ts_cert.proofs.KeyParts.{algorithm-part}
 use Rattle.ts_cert.proofs.Periods.{version-again}
 use Rattle.ts_make.specs.declared.description.CertText.{CertText}
 use Rattle.ts_make.specs.Serial.{serial_content}

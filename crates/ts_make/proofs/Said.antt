@@ -1,12 +1,12 @@
 -- The certificate that a description says, and the forms of its times.
 use Rattle.std.proofs.Common.{ℕ, ◌≤◌, ℤ, inl, inr, List, ◌++◌, length, None, refl, arith}
+use Rattle.ts_field.specs.declared.time.TimeForm.TheVariants.{Utc, General}
+use Rattle.ts_field.specs.declared.time.Time.{Time}
+use Rattle.ts_field.specs.Time.{IsTime}
 use Rattle.sha2.specs.Sha256.{sha256}
 use Rattle.ts_time.specs.Civil.{IsInYears}
 use Rattle.ts_cert.specs.declared.version.Version.TheVariants.{V3}
-use Rattle.ts_cert.specs.declared.time.TimeForm.TheVariants.{Utc, General}
-use Rattle.ts_cert.specs.declared.time.Time.{Time}
 use Rattle.ts_cert.specs.Certificate.{Tbs, Certificate}
-use Rattle.ts_cert.specs.Encoding.{IsTime}
 use Rattle.ts_make.specs.declared.description.CertText.{CertText}
 use Rattle.ts_make.specs.Serial.{serial_content}
 use Rattle.ts_make.specs.Description.{rdns_in, stand_in, Says}

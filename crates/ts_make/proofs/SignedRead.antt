@@ -8,7 +8,8 @@ use Rattle.ts_der.specs.Element.{Place, encode, encoded_at}
 use Rattle.ts_der.proofs.Laws.{element-only}
 use Rattle.ts_shape.specs.Fields.{Within}
 use Rattle.ts_shape.proofs.Endings.{end-again}
-use Rattle.ts_cert.specs.Certificate.{Algorithm, Certificate}
+use Rattle.ts_field.specs.Algorithm.{Algorithm}
+use Rattle.ts_cert.specs.Certificate.{Certificate}
 use Rattle.ts_cert.specs.Rules.{OptionalFields, extensions_fault}
 use Rattle.ts_cert.specs.Encoding.{IsSigned}
 use Rattle.ts_cert.specs.Reading.{agreed, unless_broken, whole_of, certificate_of}

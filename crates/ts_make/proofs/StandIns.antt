@@ -3,9 +3,10 @@ use Rattle.std.proofs.Common.{◌≡◌, ℕ, ◌≤◌, true, List, ◌∷◌, 
 use Rattle.std.proofs.lemmas.List.{append-nil}
 use Rattle.ts_der.specs.Element.{Fits, encode, length_octets}
 use Rattle.ts_der.specs.ObjectIdentifier.{series_of, subidentifier, is_oid}
+use Rattle.ts_field.specs.Algorithm.{IsAlgorithm}
 use Rattle.ts_sig.specs.StandIn.{identifier, algorithm_identifier}
 use Rattle.ts_shape.specs.Fields.{Within, IsBits}
-use Rattle.ts_cert.specs.Encoding.{IsAlgorithm, IsKeyInfo}
+use Rattle.ts_cert.specs.Encoding.{IsKeyInfo}
 use Rattle.ts_make.specs.Description.{stand_in}
 use Rattle.ts_make.specs.Made.{bit_octets, key_octets}
 

@@ -1,7 +1,7 @@
 -- What a description says of a list of revoked certificates (RFC 5280 5.1).
 use Rattle.std.specs.Prelude.{◌≡◌, ℕ, true, false, List, [], ◌∷◌, Some, None, Result, Ok, Err, pos}
 use Rattle.ts_der.specs.Integer.{twos_complement}
-use Rattle.ts_cert.specs.declared.time.Time.{Time}
+use Rattle.ts_field.specs.declared.time.Time.{Time}
 use Rattle.ts_sig.specs.Key.{Key}
 use Rattle.ts_sig.specs.StandIn.{stand_in_accepts}
 use Rattle.ts_crl.specs.declared.version.ListVersion.TheVariants.{V2}

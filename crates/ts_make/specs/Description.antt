@@ -3,12 +3,13 @@ use Rattle.std.specs.Prelude.{◌≡◌, ℕ, true, List, [], ◌∷◌, map, No
 use Rattle.ts_der.specs.Integer.{twos_complement}
 use Rattle.ts_name.specs.Canon.{Attr}
 use Rattle.ts_time.specs.Civil.{IsInYears}
+use Rattle.ts_field.specs.declared.time.TimeForm.TheVariants.{Utc, General}
+use Rattle.ts_field.specs.declared.time.Time.{Time}
+use Rattle.ts_field.specs.Algorithm.{Algorithm}
 use Rattle.ts_sig.specs.Key.{Key}
 use Rattle.ts_sig.specs.StandIn.{identifier, algorithm_identifier, stand_in_accepts}
 use Rattle.ts_cert.specs.declared.version.Version.TheVariants.{V3}
-use Rattle.ts_cert.specs.declared.time.TimeForm.TheVariants.{Utc, General}
-use Rattle.ts_cert.specs.declared.time.Time.{Time}
-use Rattle.ts_cert.specs.Certificate.{Algorithm, Certificate}
+use Rattle.ts_cert.specs.Certificate.{Certificate}
 use Rattle.ts_make.specs.declared.description.AttributeType.{AttributeType}
 use Rattle.ts_make.specs.declared.description.AttributeType.TheVariants.{CommonName, OrganizationName}
 use Rattle.ts_make.specs.declared.description.RdnText.{RdnText}

@@ -14,3 +14,4 @@ pub mod NameParts
 pub mod NameJudging
 pub mod Domains
 pub mod CanonOrder
+pub mod SameNames

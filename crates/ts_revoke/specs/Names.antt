@@ -3,7 +3,7 @@ use Rattle.std.specs.Prelude.{Bool, false, List}
 use Rattle.std.specs.List.{list_any}
 use Rattle.std.specs.Str.{bytes_eq}
 use Rattle.ts_name.specs.General.{GeneralName, otherName, rfc822Name, dNSName, x400Address, directoryName, ediPartyName, uniformResourceIdentifier, iPAddress, registeredID}
-use Rattle.ts_crl.specs.Slots.{is_same_name}
+use Rattle.ts_name.specs.Sameness.{is_same_name}
 
 -- whether two general names are one
 unfoldable pub is_same_general : GeneralName → GeneralName → Bool

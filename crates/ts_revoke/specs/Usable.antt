@@ -1,18 +1,18 @@
 -- The pairs of a distribution point and a CRL that may be used for a certificate (RFC 5280 6.3.3 (a) to (g), in this profile).
 use Rattle.std.specs.Prelude.{ℤ, ◌&&◌, ◌||◌, not, int_le, Bool, true, false, List, [], ◌∷◌, filter, Option, Some, None, is_none, unwrap_or}
 use Rattle.ts_name.specs.General.{directoryName}
+use Rattle.ts_name.specs.Sameness.{is_same_name}
 use Rattle.ts_ext.specs.declared.known.Known.TheVariants.{CrlDistributionPoints, BasicConstraints as BasicConstraintsOf}
 use Rattle.ts_ext.specs.declared.basic_constraints.BasicConstraints.{BasicConstraints}
 use Rattle.ts_ext.specs.declared.reason_set.ReasonSet.{ReasonSet}
 use Rattle.ts_ext.specs.NamedBits.{bit, flag_number}
 use Rattle.ts_ext.specs.Points.{PointName, fullName, Point, ListScope, points_of}
 use Rattle.ts_ext.specs.Reading.{basic_constraints_of}
-use Rattle.ts_cert.specs.declared.time.Time.{Time}
+use Rattle.ts_field.specs.declared.time.Time.{Time}
 use Rattle.ts_cert.specs.Certificate.{Certificate}
 use Rattle.ts_cert.specs.Stated.{stated}
 use Rattle.ts_crl.specs.List.{CertificateList}
 use Rattle.ts_crl.specs.Profile.{scope_of, is_delta, is_relative_name}
-use Rattle.ts_crl.specs.Slots.{is_same_name}
 use Rattle.ts_revoke.specs.Names.{share}
 use Rattle.ts_revoke.specs.Question.{Question}
 use Rattle.ts_revoke.specs.Reasons.{reasons_where, all_reasons, intersection}

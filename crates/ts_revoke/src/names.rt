@@ -8,7 +8,7 @@ ghost use Rattle.ts_shape.specs.Items.{items_at};
 ghost use Rattle.ts_name.specs.GeneralView.{general_in};
 ghost use Rattle.ts_name.specs.NameView.{rdns_in};
 ghost use Rattle.std.specs.List.{list_any};
-ghost use Rattle.ts_crl.specs.Slots.{is_same_name};
+ghost use Rattle.ts_name.specs.Sameness.{is_same_name};
 ghost use Rattle.ts_revoke.specs.Names.{is_same_general, share as share_of};
 
 use ts_der::Element;

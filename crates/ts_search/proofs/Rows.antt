@@ -5,10 +5,10 @@ use Rattle.std.proofs.lemmas.List.Elements.{filter-append}
 use Rattle.std.proofs.lemmas.Option.{slice_get-map}
 use Rattle.std.proofs.lemmas.List.{append-nil}
 use Rattle.std.proofs.lemmas.List.FromFn.{map-range_with_len_more}
+use Rattle.ts_name.specs.Sameness.{is_same_name}
 use Rattle.ts_cert.specs.declared.certificate.Cert.{Cert}
 use Rattle.ts_cert.specs.CertView.{cert_in}
 use Rattle.ts_cert.specs.Certificate.{Certificate}
-use Rattle.ts_crl.specs.Slots.{is_same_name}
 use Rattle.ts_search.specs.Candidates.{issues, has_issuer}
 use Rattle.ts_search.specs.Levels.{row_at, issuers, AreRows}
 

@@ -2,8 +2,8 @@
 -- is last; the certificates of the pool have the places 1, 2 and so on.
 use Rattle.std.specs.Prelude.{◌≡◌, ◌≤◌, ◌<◌, ◌⊎◌, ℕ, Bool, false, ◌==◌, List, [], ◌∷◌, length, Option, Some, None, slice_get, IsTrue}
 use Rattle.std.specs.List.{list_any, AllByRecursion}
+use Rattle.ts_name.specs.Sameness.{is_same_name}
 use Rattle.ts_cert.specs.Certificate.{Certificate}
-use Rattle.ts_crl.specs.Slots.{is_same_name}
 use Rattle.ts_policy.specs.Labels.{In}
 
 -- the issuer of a certificate has the name of another's subject (RFC 5280 6.1.3 (a) (4))

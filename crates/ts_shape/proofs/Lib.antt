@@ -9,3 +9,4 @@ pub mod ItemParts
 pub mod OptionalReads
 pub mod KeyTables
 pub mod FirstRepeats
+pub mod OneEncoding

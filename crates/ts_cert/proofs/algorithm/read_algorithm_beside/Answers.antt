@@ -1,7 +1,7 @@
 use Rattle.std.proofs.Common.{sym, ◌∙◌}
 use Rattle.std.proofs.lemmas.Slice.Eq.{bytes_eq-Decides}
 use Rattle.ts_der.specs.View.{now}
-use Rattle.ts_cert.specs.View.{algorithm_in}
+use Rattle.ts_field.specs.View.{algorithm_in}
 use Rattle.ts_cert.proofs.Beside.{beside}
 use Rattle.ts_cert.proofs.algorithm.read_algorithm_beside.Goals as goal
 

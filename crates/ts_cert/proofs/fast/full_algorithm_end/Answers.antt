@@ -2,7 +2,7 @@ use Rattle.std.proofs.Common.{refl}
 use Rattle.std.specs.Prelude.{unwrap_or, []}
 use Rattle.ts_der.specs.Element.{encode}
 use Rattle.ts_der.specs.Stands.{between}
-use Rattle.ts_cert.specs.Encoding.{IsAlgorithm}
+use Rattle.ts_field.specs.Algorithm.{IsAlgorithm}
 use Rattle.ts_cert.proofs.Spanned.{spans, content-joined}
 use Rattle.ts_cert.proofs.fast.full_algorithm_end.Goals as goal
 

@@ -1,6 +1,6 @@
 use Rattle.std.proofs.Math.Logic.{∥∥₁_elim}
 use Rattle.std.proofs.Props.{props}
-use Rattle.ts_cert.proofs.KeyParts.{algorithm-part}
+use Rattle.ts_field.proofs.Algorithms.{algorithm-part}
 use Rattle.ts_cert.proofs.Held.{only-there, never-refused}
 use Rattle.ts_cert.proofs.part.algorithm_from.Goals as goal
 

@@ -1,5 +1,5 @@
 use Rattle.ts_name.specs.NameView.{rdns_in}
-use Rattle.ts_crl.proofs.SameNames.{same_is}
+use Rattle.ts_name.proofs.SameNames.{same_is}
 use Rattle.ts_crl.proofs.slots.is_same.Goals as goal
 
 pub returns : goal.returns

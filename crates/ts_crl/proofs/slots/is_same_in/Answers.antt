@@ -3,7 +3,7 @@ use Rattle.ts_name.specs.Canon.{CanonAttr}
 use Rattle.ts_name.specs.CanonView.{rdns_in as canon_in}
 use Rattle.ts_name.specs.NameView.{rdns_in}
 use Rattle.ts_name.specs.Sameness.{canon_name}
-use Rattle.ts_crl.proofs.SameNames.{same_is}
+use Rattle.ts_name.proofs.SameNames.{same_is}
 use Rattle.ts_crl.proofs.slots.is_same_in.Goals as goal
 
 pub returns : goal.returns

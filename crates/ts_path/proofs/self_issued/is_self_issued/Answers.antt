@@ -1,5 +1,5 @@
+use Rattle.ts_name.proofs.SameNames.{same_is}
 use Rattle.ts_cert.specs.CertView.{cert_in}
-use Rattle.ts_crl.proofs.SameNames.{same_is}
 use Rattle.ts_path.proofs.self_issued.is_self_issued.Goals as goal
 
 pub returns : goal.returns

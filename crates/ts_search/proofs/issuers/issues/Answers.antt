@@ -1,8 +1,8 @@
 use Rattle.std.proofs.Common.{ap, ◌∙◌}
 use Rattle.ts_name.specs.NameView.{rdns_in}
+use Rattle.ts_name.specs.Sameness.{is_same_name}
+use Rattle.ts_name.proofs.SameNames.{same_is}
 use Rattle.ts_cert.specs.CertView.{cert_in}
-use Rattle.ts_crl.specs.Slots.{is_same_name}
-use Rattle.ts_crl.proofs.SameNames.{same_is}
 use Rattle.ts_search.proofs.issuers.issues.Goals as goal
 
 pub returns : goal.returns

@@ -1,8 +1,8 @@
 -- What the certificate states, field by field.
 use Rattle.std.proofs.Common.{◌∙◌, ap}
+use Rattle.ts_name.proofs.SameNames.{same_is}
 use Rattle.ts_cert.specs.CertView.{cert_in}
 use Rattle.ts_path.specs.State.{State}
-use Rattle.ts_crl.proofs.SameNames.{same_is}
 use Rattle.ts_path.proofs.state.State.policies_of.Goals as goal
 
 pub returns : goal.returns

@@ -5,8 +5,7 @@ use Rattle.std.proofs.lemmas.Bool.{false≢true}
 use Rattle.std.proofs.lemmas.Bool.Decides.{Decides-eqb}
 use Rattle.std.proofs.lemmas.Slice.Eq.{bytes_eq-Decides}
 use Rattle.ts_name.specs.Canon.{Attr, CanonAttr}
-use Rattle.ts_name.specs.Sameness.{canon_name}
-use Rattle.ts_crl.specs.Slots.{is_same_attr, is_same_name}
+use Rattle.ts_name.specs.Sameness.{canon_name, is_same_attr, is_same_name}
 
 both : (p q : Bool) (P Q : Type 0) → Decides p P → Decides q Q → Decides (p && q) (P × Q)
 both true q P Q d e = (λ t. (d.0 refl, e.0 t), λ h. e.1 h.1)

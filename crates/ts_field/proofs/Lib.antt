@@ -1,0 +1,4 @@
+pub mod Algorithms
+pub mod Times
+pub mod Judging
+pub mod OneEncoding

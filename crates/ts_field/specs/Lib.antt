@@ -1,0 +1,4 @@
+pub mod Algorithm
+pub mod Time
+pub mod View
+pub mod Table
