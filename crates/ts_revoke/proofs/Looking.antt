@@ -1,6 +1,6 @@
 -- The table of what is known of the lists.
-use Rattle.std.proofs.Common.{◌≡◌, ℕ, zero, suc, ◌<◌, ◌⊎◌, inl, inr, List, [], ◌∷◌, length, get_or, replicate, refl, sym, ◌∙◌, ap, subst}
-use Rattle.std.proofs.lemmas.List.{get_or_default}
+use Rattle.std.proofs.Common.{◌≡◌, ℕ, zero, suc, ◌+◌, ◌<◌, ◌⊎◌, inl, inr, List, [], ◌∷◌, length, get_or, drop, replicate, refl, sym, ◌∙◌, ap, subst}
+use Rattle.std.proofs.lemmas.List.{get_or_default, drop_more}
 use lib.ListN.{set}
 use Rattle.ts_crl.specs.declared.crl.Crl.{Crl}
 use Rattle.ts_crl.specs.ListView.{crl_in}
@@ -8,6 +8,10 @@ use Rattle.ts_revoke.specs.declared.looked.Looked.{Looked}
 use Rattle.ts_revoke.specs.declared.looked.Looked.TheVariants.{NotYet}
 use Rattle.ts_revoke.specs.Looked.{IsLooked, AreLooked}
 use Rattle.ts_revoke.specs.Question.{Question}
+
+-- a list at its place, before those that follow
+pub next_is : (lists : List Crl) (i : ℕ) (l : Crl) → i < length lists → l ≡ get_or lists i l → drop i lists ≡ l ∷ drop (i + 1) lists
+next_is lists i l inside at = drop_more lists i l inside ∙ ap (λ x. x ∷ drop (i + 1) lists) (sym at)
 
 -- in a new table nothing is known
 read_new : (n i : ℕ) → get_or (replicate n NotYet) i NotYet ≡ NotYet

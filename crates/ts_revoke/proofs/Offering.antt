@@ -6,7 +6,6 @@ use Rattle.ts_ext.specs.NamedBits.{holds, no_reasons}
 use Rattle.ts_ext.specs.Points.{Point, ListScope}
 use Rattle.ts_crl.specs.List.{CertificateList}
 use Rattle.ts_crl.specs.Profile.{scope_of}
-use Rattle.ts_revoke.specs.declared.found.Found.{Found}
 use Rattle.ts_revoke.specs.ByList.{offered_by, offered, is_for_some, is_reached, first_reached, reached_reasons, at_place, found_by, reasons_by}
 use Rattle.ts_revoke.specs.Decision.{revoking}
 use Rattle.ts_revoke.specs.Listed.{listed}
