@@ -8,6 +8,7 @@ use std::cell::Cell;
 use ts_sig::{DigestCheck, SignatureCheck, WorkingKey};
 
 /// The stand-in, and how often it was asked.
+#[derive(Drop)]
 pub(crate) struct Counting {
     asked: Cell<u32>,
 }
