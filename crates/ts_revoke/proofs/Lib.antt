@@ -2,3 +2,5 @@ mod Sets
 mod Walks
 mod ByList
 mod Reaching
+mod Offering
+mod Looking

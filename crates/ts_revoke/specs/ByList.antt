@@ -13,10 +13,21 @@ use Rattle.ts_revoke.specs.declared.verdict.Status.TheVariants.{Good, Revoked, U
 use Rattle.ts_revoke.specs.Decision.{revoking, decided}
 use Rattle.ts_revoke.specs.Listed.{listed}
 use Rattle.ts_revoke.specs.Question.{Question}
-use Rattle.ts_revoke.specs.Reasons.{union, is_all, is_within}
-use Rattle.ts_revoke.specs.Usable.{serves, is_named, mask_of, is_usable, is_own, all_points, issuer_point}
+use Rattle.ts_revoke.specs.Reasons.{union, intersection, is_all, is_within}
+use Rattle.ts_revoke.specs.Usable.{serves, is_named, reasons_in, scope_reasons, mask_of, is_usable, is_own, all_points, issuer_point}
 
 -- ---- pass 1
+
+-- the reasons of the points that pass 1 may take, and whether a list of this scope is for one of them; no name is looked at
+abbrev pub offered_by : Point → ReasonSet
+offered_by p = if is_own p then reasons_in p.reasons else no_reasons
+
+abbrev pub offered : List Point → ReasonSet
+offered [] = no_reasons
+offered (p ∷ ps) = union (offered_by p) (offered ps)
+
+abbrev pub is_for_some : Option ListScope → ReasonSet → Bool
+is_for_some scope reasons = not (is_within (intersection (scope_reasons scope) reasons) no_reasons)
 
 -- whether pass 1 takes the point with a list of this scope, if that serves
 unfoldable pub is_reached : Option ListScope → Point → Bool

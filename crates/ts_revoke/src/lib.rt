@@ -27,8 +27,9 @@
 //! | [`laws::in_any_order`] | where it is `Good` or `Undetermined` the loop answers the same in every order within the passes; where it is `Revoked`, the loop answers so in some order |
 //!
 //! `status` takes no memory. The definition goes through the distribution points and at each through all CRLs; the code goes
-//! through the CRLs and at each through all points (`specs/ByList`), so that in each pass a CRL's signature is checked once at
-//! most and its entries are searched once at most, whatever the certificate says.
+//! through the CRLs and at each through all points (`specs/ByList`), and keeps on the stack what pass 1 learned of each CRL
+//! (`specs/Looked`). So a CRL's signature is checked once at most and its entries are searched once at most, in both passes
+//! together, whatever the certificate says; only of CRLs after the first 1,024 it is once in each pass.
 #![tactic(auto)]
 
 mod crls;
@@ -39,8 +40,10 @@ mod found;
 mod issuer;
 mod issuer_pass;
 pub mod laws;
+mod looked;
 mod names;
 mod numbers;
+mod offered;
 mod own_pass;
 mod points;
 mod question;
@@ -48,6 +51,8 @@ mod reach;
 mod reasons;
 #[cfg(test)]
 mod test_certs;
+#[cfg(test)]
+mod test_counts;
 #[cfg(test)]
 mod test_deltas;
 #[cfg(test)]

@@ -3,11 +3,12 @@
 ghost use Rattle.std.specs.Prelude.{◌≡◌, option_map};
 ghost use Rattle.ts_der.specs.BitsView.{bits_in};
 ghost use Rattle.ts_ext.specs.NameViews.{point_name_in, point_in, issuing_point_in};
+ghost use Rattle.ts_revoke.specs.ByList.{offered_by, is_for_some as is_for_some_of};
 ghost use Rattle.ts_revoke.specs.Reasons.{all_reasons, intersection as both};
 ghost use Rattle.ts_revoke.specs.Usable.{reasons_in, scope_reasons as reasons_of_scope, mask_of, name_shared, is_named as is_named_at, is_own as is_own_point};
 
 use crate::names::share;
-use crate::reasons::{all, intersection, reasons_of};
+use crate::reasons::{all, intersection, is_within, reasons_of};
 use ts_ext::{DistributionPoint, IssuingDistributionPoint, PointName, ReasonFlags, ReasonSet};
 
 /// The reasons of a ReasonFlags, and all of them where it is absent.
@@ -78,4 +79,22 @@ pub(crate) fn is_own(point: &DistributionPoint<'_>) -> bool
     ensures { result ≡ is_own_point (point_in point.now) }
 {
     point.crl_issuer.is_none() && !matches!(point.name, Some(PointName::RelativeName(_)))
+}
+
+/// The reasons of a distribution point that pass 1 may take, none of any other.
+pub(crate) fn own_reasons(point: &DistributionPoint<'_>) -> ReasonSet
+    ensures { result ≡ offered_by (point_in point.now) }
+{
+    if is_own(point) {
+        reasons(point.reasons)
+    } else {
+        ReasonSet::none()
+    }
+}
+
+/// Whether a CRL of this scope is for one of these reasons.
+pub(crate) fn is_for_some(scope: &Option<IssuingDistributionPoint<'_>>, some: ReasonSet) -> bool
+    ensures { result ≡ is_for_some_of (option_map issuing_point_in scope.now) some }
+{
+    !is_within(intersection(scope_reasons(scope), some), ReasonSet::none())
 }

@@ -2,6 +2,7 @@
 
 use super::*;
 use crate::test_certs::*;
+use crate::test_counts::Counting;
 use crate::test_deltas::*;
 use crate::test_lists::*;
 use ts_cert::Cert;
@@ -249,6 +250,46 @@ fn lets_the_entry_of_a_delta_decide(rt: HostRuntime) {
         assert!(rt;
             with_delta(cert, list, delta) == Some((plain, changed)),
             "{cert:?} {list:?} {delta:?}"
+        );
+    }
+}
+
+/// How often a signature is checked for the status in June under two CRLs, and the status.
+fn counted(cert: &[u8], first: &[u8], second: &[u8]) -> Option<(Status, u32)> {
+    let cert = Cert::read(cert).ok()?;
+    let lists = [Crl::read(first).ok()?, Crl::read(second).ok()?];
+    let crls = Crls {
+        lists: &lists,
+        deltas: &[],
+    };
+    let check = Counting::new();
+    let status = status(&crls, &cert, &anchor(), Moment(JUNE), &check, false);
+    Some((status, check.asked()))
+}
+
+/// A certificate, two CRLs, the status, and how many signatures are checked for it.
+const CHECKED: [(&[u8], &[u8], &[u8], Status, u32); 9] = [
+    // Pass 2 alone, since the certificate has no point that pass 1 uses.
+    (L, Y, FORGED, Status::Good, 2),
+    (L, Y, U1, Status::Good, 2),
+    (L_CRL_ISSUER, U1, FORGED, Status::Undetermined, 2),
+    (L_RELATIVE, Y, Y_8, Status::Good, 2),
+    // Both passes: pass 2 takes what pass 1 found out.
+    (L_U1, R_NAMED, U1_X, Status::Good, 2),
+    (L_U1, R_NAMED_6, FORGED, Status::Revoked(6), 2),
+    // Pass 1 decides.
+    (L_U1, U1, Y_6, Status::Revoked(6), 2),
+    // A list of another issuer, and one for the reasons of no point.
+    (L_U1, STRANGE, U1, Status::Good, 1),
+    (L_REASONS, X_REST, U1_1, Status::Revoked(1), 1),
+];
+
+#[test]
+fn checks_each_signature_once(rt: HostRuntime) {
+    for &(cert, first, second, wanted, asked) in &CHECKED {
+        assert!(rt;
+            counted(cert, first, second) == Some((wanted, asked)),
+            "{cert:?} {first:?} {second:?}"
         );
     }
 }
