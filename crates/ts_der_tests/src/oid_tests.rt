@@ -1,11 +1,7 @@
 //! Worked object identifiers: octets and text that another encoder gives.
 
-use crate::fault::Fault;
-use crate::oid::OidRef;
-use crate::oid_text::OidTextError;
-use crate::owned_oid::Oid;
-use crate::reader::Reader;
 use std::alloc::{AllocError, Global};
+use ts_der::{Fault, Oid, OidRef, OidTextError, Reader};
 
 fn oid_in(element: &[u8]) -> Result<OidRef<'_>, Fault> {
     Reader::new(element).element(0x06)?.oid()

@@ -1,7 +1,7 @@
 //! Rows by hand: elements that are read, their faults with their places, and elements that are written.
 
-use super::*;
 use std::alloc::{AllocError, Global};
+use ts_der::{Bits, DerFault, Element, Fault, OidRef, Reader, Writer};
 
 const BOOLEAN: u8 = 0x01;
 
