@@ -7,3 +7,5 @@
 mod der_tests;
 #[cfg(test)]
 mod oid_tests;
+#[cfg(test)]
+mod time_tests;

@@ -1,7 +1,7 @@
 //! Vectors of Python's `datetime` and `calendar`, and of `date` for the year 0.
 
-use crate::{Moment, begins_with_utc, print_general, print_utc, read_general, read_utc};
 use ts_der::DerFault;
+use ts_time::{Moment, begins_with_utc, print_general, print_utc, read_general, read_utc};
 
 /// What a text is in one of the forms: the seconds of a moment and whether that is printed as the same text, or why it
 /// is none.
