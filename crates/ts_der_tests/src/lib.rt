@@ -8,4 +8,10 @@ mod der_tests;
 #[cfg(test)]
 mod oid_tests;
 #[cfg(test)]
+mod repeats_tests;
+#[cfg(test)]
+mod sequence_tests;
+#[cfg(test)]
+mod shape_tests;
+#[cfg(test)]
 mod time_tests;

@@ -1,8 +1,8 @@
 //! Rows by hand: the codes and names of the rules.
 
-use super::*;
 use std::alloc::{AllocError, Global};
 use ts_der::{DerFault, Fault};
+use ts_shape::{CertFault, CertRule};
 
 /// The fault that refuses what is read, and its place.
 pub fn place<T: Drop>(read: Result<T, Fault>) -> Option<(DerFault, usize)> {

@@ -1,9 +1,9 @@
 //! Lists with repeated items by hand: object identifiers of which the first that repeats an earlier one is known.
 
-use super::*;
 use std::alloc::{AllocError, Global};
 use std::test::Fail;
 use ts_der::{Fault, OidRef, Reader};
+use ts_shape::first_repeated;
 
 /// Lists of identifiers, and the content of the first that repeats an earlier one.
 const LISTS: [(&[u8], Option<&[u8]>); 16] = [

@@ -1,8 +1,8 @@
 //! Lists by hand: object identifiers one after another, and the faults of lists with their places.
 
-use super::*;
-use crate::tests::place;
+use crate::shape_tests::place;
 use ts_der::{DerFault, Fault, OidRef, Reader};
+use ts_shape::SequenceOf;
 
 /// 1.2.3 and 1.2.4.
 const TWO: [u8; 10] = [0x30, 0x08, 0x06, 0x02, 0x2A, 0x03, 0x06, 0x02, 0x2A, 0x04];
