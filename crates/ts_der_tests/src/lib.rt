@@ -14,4 +14,6 @@ mod sequence_tests;
 #[cfg(test)]
 mod shape_tests;
 #[cfg(test)]
+mod sig_tests;
+#[cfg(test)]
 mod time_tests;

@@ -1,9 +1,12 @@
 //! Values from outside: the digest of `abc` that the standard prints, and digests that Python's hashlib gives.
 
-use super::*;
 use hex::FromHex;
 use std::alloc::Global;
 use std::test::Fail;
+use ts_sig::{
+    DigestCheck, STAND_IN_ALGORITHM, STAND_IN_OID, SignatureCheck, TableCheck, TableFault,
+    WorkingKey, digest_signature,
+};
 
 /// The SHA-256 of `abc` (FIPS 180-2, appendix B.1).
 const ABC: &str = "ba7816bf8f01cfea414140de5dae2223b00361a396177a9cb410ff61f20015ad";
