@@ -1,8 +1,8 @@
 //! General names by hand: each form, the faults with their places, and lengths of addresses.
 
-use super::*;
-use crate::tests::place;
+use crate::attribute_tests::place;
 use ts_der::{DerFault, Fault, Reader};
+use ts_name::{General, GeneralNames};
 use ts_shape::SequenceOf;
 
 /// O=a, in a directory name.

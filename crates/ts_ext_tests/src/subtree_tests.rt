@@ -1,9 +1,9 @@
 //! Subtrees by hand: bounds, masks, and the faults with their places.
 
-use super::*;
+use crate::attribute_tests::place;
 use crate::general_tests::form;
-use crate::tests::place;
 use ts_der::{DerFault, Fault, Reader};
+use ts_name::{General, Subtree};
 use ts_shape::{CertFault, CertRule, SequenceOf};
 
 /// The network 192.0.2.0/24, whose octets are those of RFC 5280 4.2.1.10.

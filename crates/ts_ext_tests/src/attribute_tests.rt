@@ -1,8 +1,11 @@
 //! Rows by hand: values that are one in canonical form or not.
 
-use super::*;
 use std::alloc::{AllocError, Global};
 use ts_der::{DerFault, Fault};
+use ts_name::{
+    Attribute, Canon, CanonRdn, IA5_STRING, PRINTABLE_STRING, UTF8_STRING, canon_attribute,
+    same_text,
+};
 
 /// commonName, 2.5.4.3.
 const COMMON_NAME: [u8; 3] = [0x55, 0x04, 0x03];

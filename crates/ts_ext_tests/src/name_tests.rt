@@ -1,9 +1,9 @@
 //! Rows by hand: names that are read, their faults with their places, and names that are one or not.
 
-use super::*;
-use crate::tests::place;
+use crate::attribute_tests::place;
 use std::alloc::Global;
 use ts_der::{DerFault, Fault, Reader};
+use ts_name::{Canon, Name};
 
 /// CN=`  Foo  Bar` as a UTF8String.
 const FOO_BAR: &[u8] = b"\x30\x15\x31\x13\x30\x11\x06\x03\x55\x04\x03\x0c\x0a  Foo  Bar";
