@@ -6,8 +6,16 @@
 #[cfg(test)]
 mod attribute_tests;
 #[cfg(test)]
+mod bit_tests;
+#[cfg(test)]
+mod ext_tests;
+#[cfg(test)]
+mod extension_tests;
+#[cfg(test)]
 mod general_tests;
 #[cfg(test)]
 mod name_tests;
 #[cfg(test)]
 mod subtree_tests;
+#[cfg(test)]
+mod value_tests;

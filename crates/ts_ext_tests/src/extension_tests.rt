@@ -1,9 +1,9 @@
 //! Lists of extensions by hand, worked out from RFC 5280 4.1 and X.690.
 
-use super::*;
-use crate::tests::refusal;
+use crate::value_tests::refusal;
 use std::test::Fail;
 use ts_der::{DerFault, Fault, Reader};
+use ts_ext::{CheckedExtensions, Extension, Extensions, Holder, Known, are_sound_extensions};
 use ts_shape::CertRule;
 
 /// The subject's alternative name, the host `a`.

@@ -1,9 +1,9 @@
 //! Named bits by hand.
 
-use super::*;
-use crate::tests::value;
+use crate::value_tests::value;
 use std::test::Fail;
 use ts_der::Fault;
+use ts_ext::{ReasonCode, ReasonFlag, ReasonFlags, ReasonSet};
 
 const KEY_COMPROMISE: &[u8] = b"\x04\x04\x03\x02\x06\x40";
 

@@ -1,9 +1,13 @@
 //! Extensions by their object identifiers, and the rules of their values, by hand.
 
-use super::*;
-use crate::tests::{Refusal, refusal};
+use crate::value_tests::{Refusal, refusal};
 use std::test::Fail;
 use ts_der::{DerFault, Fault, Reader};
+use ts_ext::{
+    AuthorityKeyIdentifier, BasicConstraints, CertificatePolicies, CrlNumber, Ext,
+    ExtendedKeyUsage, Holder, InvalidityDate, IssuingDistributionPoint, KeyUsage, Known,
+    NameConstraints, PolicyConstraints, PolicyMappings, ReasonCode,
+};
 use ts_name::{General, GeneralNames};
 use ts_shape::CertRule;
 
