@@ -1,6 +1,6 @@
 //! Rows by hand. The octets were made by another tool, and the places counted.
 
-use super::*;
+use ts_cert::{Cert, SubjectPublicKeyInfo, TimeForm, Validity, Version};
 use ts_der::DerFault;
 use ts_shape::{CertFault, CertRule};
 

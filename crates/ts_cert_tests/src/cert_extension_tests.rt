@@ -1,7 +1,7 @@
 //! Unique identifiers and extensions by hand. The octets were made by another tool, and the places counted.
 
-use super::*;
-use crate::tests::refusal;
+use crate::cert_tests::refusal;
+use ts_cert::{Cert, Version};
 use ts_der::DerFault;
 use ts_shape::CertRule;
 

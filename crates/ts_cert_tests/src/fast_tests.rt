@@ -1,7 +1,7 @@
 //! Certificates in the common form, of OpenSSL by Python's `cryptography`: the offsets are those that `openssl asn1parse` prints.
 
-use super::*;
-use crate::tests::{ABSENT, Times, Values, refusal, values};
+use crate::cert_tests::{ABSENT, Times, Values, refusal, values};
+use ts_cert::{Cert, TimeForm, Version};
 use ts_der::DerFault;
 use ts_shape::CertRule;
 

@@ -1,7 +1,7 @@
 //! What certificates say, as openssl prints it. The octets were made by openssl.
 
-use super::*;
 use std::test::Fail;
+use ts_cert::Cert;
 use ts_ext::{
     BasicConstraints, DistributionPoints, Known, PointName, PolicyConstraints, SkipCerts,
 };

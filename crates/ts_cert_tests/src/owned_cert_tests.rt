@@ -1,7 +1,7 @@
 //! Certificates that are kept. The octets were made by another tool.
 
-use super::*;
 use std::test::Fail;
+use ts_cert::{Cert, OwnedCert, OwnedCertFault};
 use ts_der::DerFault;
 use ts_shape::{CertFault, CertRule};
 

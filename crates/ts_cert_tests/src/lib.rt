@@ -1,0 +1,15 @@
+//! Tests of certificates, of lists of revoked certificates, and of what is made of descriptions, over the public calls of their crates.
+//!
+//! In a crate of their own they are proved alone: a crate with tests is proved once more with them.
+#![tactic(auto)]
+
+#[cfg(test)]
+mod cert_extension_tests;
+#[cfg(test)]
+mod cert_tests;
+#[cfg(test)]
+mod fast_tests;
+#[cfg(test)]
+mod owned_cert_tests;
+#[cfg(test)]
+mod stated_tests;
