@@ -8,8 +8,16 @@ mod cert_extension_tests;
 #[cfg(test)]
 mod cert_tests;
 #[cfg(test)]
+mod code_tests;
+#[cfg(test)]
+mod crl_tests;
+#[cfg(test)]
 mod fast_tests;
 #[cfg(test)]
 mod owned_cert_tests;
+#[cfg(test)]
+mod owned_crl_tests;
+#[cfg(test)]
+mod rule_tests;
 #[cfg(test)]
 mod stated_tests;

@@ -1,8 +1,8 @@
 //! Rules of extensions and of the profile, and values, by hand. The octets were made by other tools, and the places
 //! counted.
 
-use super::*;
 use std::test::Fail;
+use ts_crl::{Crl, CrlFault};
 use ts_der::{DerFault, Integer};
 use ts_ext::{PointName, ReasonCode};
 use ts_shape::{CertFault, CertRule};

@@ -1,8 +1,8 @@
 //! Rows by hand. The octets were made by other tools, and the places counted.
 
-use super::*;
 use std::alloc::Global;
 use ts_cert::TimeForm;
+use ts_crl::{Crl, CrlFault, ListVersion};
 use ts_der::{DerFault, Integer};
 use ts_shape::{CertFault, CertRule};
 

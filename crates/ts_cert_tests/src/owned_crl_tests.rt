@@ -1,7 +1,7 @@
 //! Lists that are kept, and their slots. The octets were made by other tools.
 
-use super::*;
 use std::test::Fail;
+use ts_crl::{CrlFault, OwnedCrl, OwnedCrlFault};
 use ts_der::Integer;
 
 /// Made by openssl: issuer CN=R, three entries, of serial numbers 5, 4095 and 4096, a key identifier and the number 10.
