@@ -14,6 +14,12 @@ mod crl_tests;
 #[cfg(test)]
 mod fast_tests;
 #[cfg(test)]
+mod make_crl_tests;
+#[cfg(test)]
+mod make_extension_tests;
+#[cfg(test)]
+mod make_tests;
+#[cfg(test)]
 mod owned_cert_tests;
 #[cfg(test)]
 mod owned_crl_tests;

@@ -1,8 +1,8 @@
 //! Rows by hand. The octets were made by another tool, with the digests of Python's hashlib.
 
-use super::*;
 use std::alloc::{AllocError, Global};
 use ts_der::DerFault;
+use ts_make::{AttributeType, CertText, MakeFault, RdnText, make_cert};
 use ts_shape::{CertFault, CertRule};
 use ts_time::Moment;
 

@@ -1,10 +1,10 @@
 //! Lists by hand. The octets were made by another tool, with the digests of Python's hashlib, and read by openssl.
 
-use super::*;
 use std::alloc::Global;
 use ts_crl::{Crl, CrlFault};
 use ts_der::{DerFault, Fault, OidRef, Reader};
 use ts_ext::ReasonCode;
+use ts_make::{AttributeType, CrlText, EntryText, MakeFault, RdnText, make_crl};
 use ts_shape::{CertFault, CertRule};
 use ts_time::Moment;
 

@@ -1,8 +1,8 @@
 //! Extensions by hand. The octets were made by another tool, with the digests of Python's hashlib, and read by openssl.
 
-use super::*;
 use std::alloc::Global;
 use ts_der::{DerFault, Fault, OidRef, Reader};
+use ts_make::{AttributeType, CertText, ExtensionText, MakeFault, NameText, RdnText, make_cert};
 use ts_shape::{CertFault, CertRule};
 use ts_time::Moment;
 
