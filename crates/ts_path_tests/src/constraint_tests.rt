@@ -1,8 +1,8 @@
 //! Names of certificates against sources of constraints. The certificates are written by another tool; their signatures are empty.
 
-use super::*;
 use std::alloc::Global;
 use ts_cert::Cert;
+use ts_constraint::{Bounds, Form, NameFault};
 use ts_name::Subtree;
 
 /// It permits the hosts below example.com.

@@ -1,10 +1,8 @@
 //! Names that are looked up among many subtrees.
 
-use crate::bounds::Bounds;
-use crate::fault::NameFault;
-use crate::form::Form;
 use std::alloc::Global;
 use ts_cert::Cert;
+use ts_constraint::{Bounds, Form, NameFault};
 use ts_name::Subtree;
 
 /// The host a.example.com.

@@ -1,0 +1,9 @@
+//! Tests of the parts of a verdict and of the verdict, over the public calls of their crates.
+//!
+//! In a crate of their own they are proved alone: a crate with tests is proved once more with them.
+#![tactic(auto)]
+
+#[cfg(test)]
+mod constraint_tests;
+#[cfg(test)]
+mod table_tests;
