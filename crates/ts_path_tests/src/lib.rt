@@ -6,4 +6,6 @@
 #[cfg(test)]
 mod constraint_tests;
 #[cfg(test)]
+mod policy_tests;
+#[cfg(test)]
 mod table_tests;

@@ -1,8 +1,8 @@
 //! Chains of certificates with policies, and what a validator answers that asks `Policies` at each certificate.
 
-use super::*;
 use std::alloc::{AllocError, Global};
 use ts_cert::Cert;
+use ts_policy::{Certificate, Mapping, Policies};
 
 /// A self-issued certificate with all fourteen extensions, made by openssl. It states 1.2.3 and maps it to 1.2.4.
 const ALL: &[u8] =

@@ -1,6 +1,6 @@
 use Rattle.std.proofs.Common.{ap, sym, subst}
 use Rattle.ts_policy.specs.Paths.{LatestMapsNoAny}
-use Rattle.ts_policy.proofs.tests.ask.Goals as goal
+use Rattle.ts_path_tests.proofs.policy_tests.ask.Goals as goal
 
 pub map-requires-clause-fine : goal.map-requires-clause-fine
 map-requires-clause-fine c =
