@@ -8,4 +8,12 @@ mod constraint_tests;
 #[cfg(test)]
 mod policy_tests;
 #[cfg(test)]
+mod revoke_tests;
+#[cfg(test)]
 mod table_tests;
+#[cfg(test)]
+mod test_certs;
+#[cfg(test)]
+mod test_deltas;
+#[cfg(test)]
+mod test_lists;

@@ -1,6 +1,5 @@
 //! Rows by hand: one certificate, and one or two CRLs.
 
-use super::*;
 use crate::test_certs::*;
 use crate::test_deltas::*;
 use crate::test_lists::*;
@@ -8,6 +7,7 @@ use ts_cert::Cert;
 use ts_crl::Crl;
 use ts_der::Reader;
 use ts_ext::KeyUsage;
+use ts_revoke::{Crls, Issuer, Status, status};
 use ts_sig::{DigestCheck, STAND_IN_OID, WorkingKey};
 use ts_time::Moment;
 
