@@ -6,6 +6,8 @@
 #[cfg(test)]
 mod constraint_tests;
 #[cfg(test)]
+mod path_tests;
+#[cfg(test)]
 mod policy_tests;
 #[cfg(test)]
 mod revoke_tests;

@@ -1,10 +1,10 @@
 //! Rows by hand: one certificate under one anchor, and chains of three. The octets and the digests were made by another tool. The
 //! other rules are shown by scripts of the lab.
 
-use super::*;
 use std::alloc::Global;
 use ts_cert::Cert;
 use ts_der::Reader;
+use ts_path::{Anchor, Inputs, Reason, Verdict, validate};
 use ts_revoke::Crls;
 use ts_sig::{DigestCheck, TableCheck};
 use ts_time::Moment;
