@@ -12,6 +12,8 @@ mod policy_tests;
 #[cfg(test)]
 mod revoke_tests;
 #[cfg(test)]
+mod search_tests;
+#[cfg(test)]
 mod table_tests;
 #[cfg(test)]
 mod test_certs;

@@ -1,10 +1,10 @@
 //! Searches by hand. The octets and the digests were made by another tool.
 
-use super::*;
 use std::alloc::Global;
 use ts_cert::Cert;
 use ts_path::{Anchor, Inputs};
 use ts_revoke::Crls;
+use ts_search::{Answer, MAX_POOL, search};
 use ts_sig::{DigestCheck, TableCheck};
 use ts_time::Moment;
 
