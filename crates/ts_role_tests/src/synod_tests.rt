@@ -2,11 +2,13 @@
 
 ghost use Rattle.std.specs.Prelude.{List, ℕ};
 
-use super::*;
 use std::alloc::{AllocError, Global};
 use std::collections::BTreeMap;
 use std::marker::Model;
 use std::test::Fail;
+use ts_synod::{
+    Body, Command, Message, ballot_of, broadcast, broadcast_to_others, put_at, replace_at,
+};
 
 #[derive(Drop)]
 struct Text {

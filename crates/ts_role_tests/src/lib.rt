@@ -1,0 +1,7 @@
+//! Tests of the roles of a node, of disks and of records, over the public calls of their crates.
+//!
+//! In a crate of their own they are proved alone: a crate with tests is proved once more with them.
+#![tactic(auto)]
+
+#[cfg(test)]
+mod synod_tests;
