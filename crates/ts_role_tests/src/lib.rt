@@ -4,4 +4,6 @@
 #![tactic(auto)]
 
 #[cfg(test)]
+mod acceptor_tests;
+#[cfg(test)]
 mod synod_tests;

@@ -1,8 +1,8 @@
 //! Prepare and Accept of the classic run, as they reach one node; equal ballots, and nine nodes.
 
-use super::*;
 use std::alloc::{AllocError, Global};
 use std::test::Fail;
+use ts_acceptor::{Acceptor, Step};
 use ts_synod::{Body, Command, Fact, ballot_of};
 
 #[derive(Drop)]
