@@ -6,4 +6,6 @@
 #[cfg(test)]
 mod acceptor_tests;
 #[cfg(test)]
+mod proposer_tests;
+#[cfg(test)]
 mod synod_tests;

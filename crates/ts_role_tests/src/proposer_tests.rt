@@ -1,8 +1,8 @@
 //! The rounds of node 1 in the classic run, a Busy, and exhausted rounds.
 
-use super::*;
 use std::alloc::{AllocError, Global};
 use std::test::Fail;
+use ts_proposer::{ProposeFault, Proposer, Step};
 use ts_synod::{Body, Command, Fact, Vote, ballot_of};
 
 #[derive(Drop)]
