@@ -1,8 +1,8 @@
 //! Accepted messages of the classic run, votes that do not count, nine nodes, and a log that grows.
 
-use super::*;
 use std::alloc::{AllocError, Global};
 use std::test::Fail;
+use ts_log::Log;
 use ts_synod::{Command, Fact};
 
 #[derive(Drop)]
