@@ -6,6 +6,8 @@
 #[cfg(test)]
 mod acceptor_tests;
 #[cfg(test)]
+mod disk_tests;
+#[cfg(test)]
 mod log_tests;
 #[cfg(test)]
 mod proposer_tests;

@@ -1,5 +1,5 @@
-use crate::{Disk, DiskCall, DiskFault, MemDisk, Torn, put};
 use std::test::Fail;
+use ts_disk::{Disk, DiskCall, DiskFault, MemDisk, Torn, put};
 
 #[test]
 fn octets_are_written_over_and_past_the_end(rt: HostRuntime) -> Result<(), Fail> {
