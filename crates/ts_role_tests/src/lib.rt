@@ -8,6 +8,8 @@ mod acceptor_tests;
 #[cfg(test)]
 mod disk_tests;
 #[cfg(test)]
+mod file_tests;
+#[cfg(test)]
 mod log_tests;
 #[cfg(test)]
 mod proposer_tests;

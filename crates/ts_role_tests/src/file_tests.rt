@@ -1,10 +1,10 @@
-use crate::{FileDisk, create, open};
 use std::alloc::{AllocError, Global};
 use std::fs::{Metadata, OpenFile};
 use std::io::{ErrorKind, Read, Seek, SeekFrom, Write};
 use std::test::Fail;
 use std::{fs, io};
 use ts_disk::{Disk, DiskFault};
+use ts_file::{FileDisk, create, open};
 
 const FOLDER: &str = "ts_file_test";
 
