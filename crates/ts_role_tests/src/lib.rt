@@ -10,6 +10,8 @@ mod disk_tests;
 #[cfg(test)]
 mod file_tests;
 #[cfg(test)]
+mod journal_tests;
+#[cfg(test)]
 mod log_tests;
 #[cfg(test)]
 mod proposer_tests;

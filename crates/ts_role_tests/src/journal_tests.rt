@@ -1,6 +1,6 @@
-use crate::{Choice, Look, Owner, Stage, choose, format, look_at};
 use std::test::Fail;
 use ts_disk::MemDisk;
+use ts_journal::{Choice, Look, Owner, Stage, choose, format, look_at};
 
 const OWNER: Owner = Owner {
     node: 1,
