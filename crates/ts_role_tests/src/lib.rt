@@ -16,4 +16,8 @@ mod log_tests;
 #[cfg(test)]
 mod proposer_tests;
 #[cfg(test)]
+mod record_tests;
+#[cfg(test)]
+mod rewrite_tests;
+#[cfg(test)]
 mod synod_tests;

@@ -1,8 +1,8 @@
-use crate::{Codec, Fault, Record, Refused};
 use std::alloc::{AllocError, Global};
 use std::marker::Model;
 use std::test::Fail;
 use ts_disk::{DiskCall, MemDisk, Torn};
+use ts_record::{Codec, Fault, Record, Refused};
 use ts_synod::Fact;
 
 // A command that is any octets.

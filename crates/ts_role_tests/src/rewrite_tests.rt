@@ -1,8 +1,8 @@
-use crate::tests::Word;
-use crate::{Fault, Progress, Record};
+use crate::record_tests::Word;
 use std::alloc::{AllocError, Global};
 use std::test::Fail;
 use ts_disk::{MemDisk, Torn};
+use ts_record::{Fault, Progress, Record};
 use ts_synod::Fact;
 
 fn empty(alloc: Global) -> Result<MemDisk, AllocError> {
