@@ -1,7 +1,7 @@
 //! The table of trust anchors. The certificate was made by another tool.
 
-use super::*;
 use std::test::Fail;
+use ts_store::{Anchors, Purposes, Refusal};
 
 /// Serial number 2, issuer CN=R, subject CN=L.
 const L: &[u8] =

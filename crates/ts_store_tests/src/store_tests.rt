@@ -1,8 +1,8 @@
 //! What commands come to. The octets were made by other tools.
 
-use super::*;
 use std::alloc::Global;
 use std::test::Fail;
+use ts_store::{Command, First, Outcome, Refusal, Store};
 
 /// Serial number 2, issuer CN=R, subject CN=L.
 const L: &[u8] =

@@ -1,8 +1,8 @@
 //! Commands as octets, by the table of their formats.
 
-use super::*;
 use std::alloc::{AllocError, Global};
 use std::test::Fail;
+use ts_store::Command;
 
 /// What follows the id, of commands.
 const COMMANDS: &[&[u8]] = &[
