@@ -6,6 +6,8 @@
 #[cfg(test)]
 mod anchor_tests;
 #[cfg(test)]
+mod question_tests;
+#[cfg(test)]
 mod store_command_tests;
 #[cfg(test)]
 mod store_tests;

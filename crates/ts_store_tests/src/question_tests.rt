@@ -1,8 +1,8 @@
 //! Questions and answers as octets, by the tables of their formats.
 
-use super::*;
 use std::alloc::{AllocError, Global};
 use std::test::Fail;
+use ts_question::{Answer, Flags, OctetStrings, Oids, Question, Reply, Terms};
 
 /// Questions, by their fields.
 const QUESTIONS: &[&[u8]] = &[
