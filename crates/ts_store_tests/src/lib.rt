@@ -11,3 +11,5 @@ mod question_tests;
 mod store_command_tests;
 #[cfg(test)]
 mod store_tests;
+#[cfg(test)]
+mod wire_tests;

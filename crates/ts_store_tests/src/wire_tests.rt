@@ -1,11 +1,11 @@
 //! Frames as octets, by the table of their formats.
 
-use super::*;
 use std::alloc::{AllocError, Global};
 use std::test::Fail;
 use ts_question::{Flags, OctetStrings, Oids, Question, Terms};
 use ts_store::Outcome;
 use ts_synod::{Body, Message};
+use ts_wire::{Feed, FeedError, Frame, FrameFault, WriteError, decode, write_frame};
 
 /// Each stream is one frame.
 const FRAMES: &[&[u8]] = &[
