@@ -8,6 +8,8 @@ mod anchor_tests;
 #[cfg(test)]
 mod question_tests;
 #[cfg(test)]
+mod show_tests;
+#[cfg(test)]
 mod store_command_tests;
 #[cfg(test)]
 mod store_tests;

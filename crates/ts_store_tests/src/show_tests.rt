@@ -1,8 +1,8 @@
 //! What is shown of octets. The texts were written by hand; OpenSSL says the same for the certificate and of the list.
 
-use crate::show;
 use std::alloc::Global;
 use std::test::Fail;
+use ts_show::show;
 
 /// A certificate, in hexadecimal digits.
 const CERTIFICATE: &[u8] =
