@@ -6,6 +6,10 @@
 #[cfg(test)]
 mod anchor_tests;
 #[cfg(test)]
+mod command_tests;
+#[cfg(test)]
+mod encoding_tests;
+#[cfg(test)]
 mod question_tests;
 #[cfg(test)]
 mod show_tests;

@@ -1,8 +1,8 @@
 //! Command lines with their tasks, or what refuses them.
 
-use crate::{CommandFault, address_of, task_of};
 use std::alloc::{AllocError, Global};
 use std::test::Fail;
+use ts_cli::{CommandFault, address_of, task_of};
 
 /// Words after the program's name, and what they come to.
 const LINES: &[(&str, &str)] = &[

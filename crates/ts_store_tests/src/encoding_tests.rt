@@ -1,8 +1,8 @@
 //! Encoded commands and questions, by the tables of their formats.
 
-use crate::{MakeFault, Task, command_octets, id_text, question_octets, task_of};
 use std::alloc::{AllocError, Global};
 use std::test::Fail;
+use ts_cli::{MakeFault, Task, command_octets, id_text, question_octets, task_of};
 
 /// Words after the program's name, the file in hexadecimal digits, and the encoding.
 const ENCODINGS: &[(&str, &str, &str)] = &[
@@ -105,7 +105,7 @@ fn lines_have_their_encodings(rt: HostRuntime) -> Result<(), Fail> {
 #[test]
 fn a_long_file_is_refused(rt: HostRuntime) -> Result<(), Fail> {
     let alloc = rt.alloc();
-    let change = crate::Change::Add {
+    let change = ts_cli::Change::Add {
         file: String::from_str(alloc, "f")?,
     };
     let file = vec![in alloc; 0u8; 65_537]?;
