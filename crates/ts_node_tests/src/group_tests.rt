@@ -1,7 +1,7 @@
 //! The classic run of three nodes, in which devices stop and fail: the nodes that learn a command learn the same one, and what was chosen
 //! stays chosen.
 
-use crate::group::{Failing, Group, Trouble};
+use crate::group::{Failing, Group, NO_TROUBLE, Trouble};
 use crate::group_machine::Number;
 use std::alloc::{AllocError, Global};
 use std::test::Fail;
@@ -19,13 +19,6 @@ fn classic_run(group: &mut Group) -> Result<u32, AllocError> {
     group.deliver_all(&[17, 18, 20, 21, 12, 22, 23, 26, 29])?;
     group.settle()
 }
-
-const NO_TROUBLE: Trouble = Trouble {
-    node: 0,
-    is_second: false,
-    failing: Failing::Behind(0),
-    torn: Torn::New,
-};
 
 #[test]
 fn both_commands_are_learned_in_one_order(rt: HostRuntime) -> Result<(), Fail> {

@@ -1,4 +1,4 @@
-//! Three nodes, each on two disks in memory, for tests: they take the messages that a test delivers, and a node whose device fails is
+//! Nodes, each on two disks in memory, for tests, and three of them: they take the messages that a test delivers, and a node whose device fails is
 //! opened again from what a crash leaves of its disks.
 
 ghost use Rattle.std.specs.Prelude.{◌≤◌, ◌∷◌, [], IfOk, IsTrue};
@@ -8,16 +8,16 @@ ghost use Rattle.ts_node.specs.Inputs.{BodyFits, InputFits};
 ghost use Rattle.ts_record.specs.Facts.{IsBallot, IsPosition};
 
 use crate::group_machine::{Number, Takes};
-use crate::{Input, Node, NodeFault, Output, Refused, Reply};
 use std::alloc::{AllocError, Global};
 use std::marker::Model;
 use ts_disk::{MemDisk, Torn};
+use ts_node::{Input, Node, NodeFault, Output, Refused, Reply};
 use ts_record::{Fault, Record};
 use ts_synod::{Ballot, Body, Message};
 
 type Small = Node<MemDisk, Number, Takes>;
 
-type Handled = Result<Output<Number, (), Vec<Number>>, NodeFault>;
+pub(crate) type Handled = Result<Output<Number, (), Vec<Number>>, NodeFault>;
 
 /// Which calls of a disk fail, counted from its opening.
 #[derive(Clone, Copy, Debug, PartialEq, Eq)]
@@ -37,6 +37,14 @@ pub(crate) struct Trouble {
     pub torn: Torn,
 }
 
+/// Devices that do not fail.
+pub(crate) const NO_TROUBLE: Trouble = Trouble {
+    node: 0,
+    is_second: false,
+    failing: Failing::Behind(0),
+    torn: Torn::New,
+};
+
 impl Trouble {
     /// Sets a disk of a node up to fail, where it is the one.
     fn set(self, node: u8, is_second: bool, disk: &mut MemDisk) {
@@ -51,9 +59,9 @@ impl Trouble {
 
 /// A message that a node may be sent.
 #[derive(Drop)]
-struct Sent {
+pub(crate) struct Sent {
     input: Input<Number, ()>,
-    to: u8,
+    pub to: u8,
     is_delivered: bool,
 }
 
@@ -99,7 +107,7 @@ fn is_fit(body: &Body<Number>) -> bool
 
 impl Sent {
     /// A message that is not delivered yet. `None` for one that no node may be sent, which no node sends.
-    fn new(message: Message<Number>) -> Option<Sent> {
+    pub fn new(message: Message<Number>) -> Option<Sent> {
         if !is_fit(&message.body) {
             return None;
         }
@@ -111,7 +119,7 @@ impl Sent {
     }
 
     /// What reaches the node.
-    fn input(&self) -> &Input<Number, ()>
+    pub fn input(&self) -> &Input<Number, ()>
         ensures { InputFits (λ (number : Number). number.value ∷ []) result.now }
     {
         &self.input
@@ -137,7 +145,7 @@ fn opened(alloc: Global, a: MemDisk, b: MemDisk) -> Result<Small, Refused<MemDis
 
 /// A node, and what it had learned when it was last asked.
 #[derive(Drop)]
-struct Member {
+pub(crate) struct Member {
     node: Small,
     learned: Vec<Number>,
 }
@@ -156,14 +164,20 @@ impl Model for Member {
 }
 
 impl Member {
-    /// Node 1, 2 or 3 on new disks, and whether a device failed when it was opened.
-    fn format(alloc: Global, node: u8, trouble: Trouble) -> Result<(Member, bool), AllocError>
+    /// A node of so many on new disks, and whether a device failed when it was opened.
+    pub fn format(
+        alloc: Global,
+        node: u8,
+        nodes: u8,
+        trouble: Trouble,
+    ) -> Result<(Member, bool), AllocError>
         requires from { 1 ≤ node }
-        requires to { node ≤ 3 }
+        requires to { node ≤ nodes }
+        requires few { nodes ≤ 9 }
     {
         let mut a = MemDisk::new(alloc, Vec::new(alloc))?;
         let mut b = MemDisk::new(alloc, Vec::new(alloc))?;
-        if Record::<MemDisk, Number>::format(&mut a, &mut b, node, 3).is_err() {
+        if Record::<MemDisk, Number>::format(&mut a, &mut b, node, nodes).is_err() {
             return Err(AllocError);
         }
         trouble.set(node, false, &mut a);
@@ -208,10 +222,19 @@ impl Member {
     }
 
     /// The node, opened again from its disks, and whether a device failed.
-    fn restarted(self, alloc: Global, torn: Torn) -> Result<(Member, bool), AllocError> {
+    pub fn restarted(self, alloc: Global, torn: Torn) -> Result<(Member, bool), AllocError> {
         let Member { node, learned } = self;
         let (a, b, _machine) = node.close();
         Member::open(alloc, a, b, torn, learned)
+    }
+
+    /// The record of the node.
+    pub fn record(self, alloc: Global) -> Result<Record<MemDisk, Number>, AllocError> {
+        let (a, b, _machine) = self.node.close();
+        match Record::open(alloc, a, b) {
+            Ok(record) => Ok(record),
+            Err(_) => Err(AllocError),
+        }
     }
 
     /// The node after a crash. An error where it is not broken.
@@ -225,7 +248,7 @@ impl Member {
     }
 
     /// Takes an input, again where memory is refused, and then true.
-    fn handle(&mut self, input: &Input<Number, ()>) -> (Handled, bool)
+    pub fn handle(&mut self, input: &Input<Number, ()>) -> (Handled, bool)
         requires { InputFits (λ (number : Number). number.value ∷ []) input.now }
     {
         match self.node.handle(input) {
@@ -326,7 +349,7 @@ impl Group {
         let mut members = Vec::new(alloc);
         let mut stops = 0u32;
         for node in 1..=3 {
-            let (member, has_failed) = Member::format(alloc, node, trouble)?;
+            let (member, has_failed) = Member::format(alloc, node, 3, trouble)?;
             members.push(member)?;
             stops = stops.saturating_add(u32::from(has_failed));
         }

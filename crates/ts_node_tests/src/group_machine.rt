@@ -2,9 +2,9 @@
 
 ghost use Rattle.std.specs.Prelude.{◌≡◌, ◌≤◌, [], length};
 
-use crate::Machine;
 use crate::group_ids::has_id;
 use std::alloc::{AllocError, Global};
+use ts_node::Machine;
 use ts_record::Codec;
 use ts_synod::Command;
 

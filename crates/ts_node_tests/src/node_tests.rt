@@ -1,32 +1,31 @@
 //! Two nodes in every order of a few events, against the laws of the world: what is learned is chosen, one command is chosen at a
 //! position, and it was submitted.
 
-ghost use Rattle.ts_node.specs.Roles.{StandFor};
+ghost use Rattle.std.specs.Prelude.{◌∷◌, []};
+ghost use Rattle.ts_node.specs.Inputs.{InputFits};
 
-use crate::growth::push_copies;
-use crate::plan::Plan;
-use crate::roles::Roles;
-use crate::test_machine::{Letter, Letters};
-use crate::{Input, Machine};
+use crate::group::{Member, NO_TROUBLE, Sent};
+use crate::group_machine::Number;
 use std::alloc::{AllocError, Global};
 use std::test::Fail;
-use ts_synod::{Command, Fact, Message};
-
-/// The roles of a node, and the facts that it has kept.
-#[derive(Drop)]
-struct Member {
-    me: u8,
-    roles: Roles<Letter>,
-    facts: Vec<Fact<Letter>>,
-    ghost stand: { StandFor roles facts.items },
-}
+use ts_disk::{MemDisk, Torn};
+use ts_node::Input;
+use ts_record::Record;
+use ts_synod::{Fact, Message};
 
 /// The two nodes, and each message that was sent.
 #[derive(Drop)]
 struct World {
     first: Member,
     second: Member,
-    sent: Vec<Message<Letter>>,
+    sent: Vec<Sent>,
+}
+
+/// The records of the two nodes.
+#[derive(Drop)]
+struct Records {
+    first: Record<MemDisk, Number>,
+    second: Record<MemDisk, Number>,
 }
 
 /// What happens at a node: the message of a number is delivered, a command is submitted, the node asks for what it has not learned, or it
@@ -55,89 +54,59 @@ fn at(node: u8, happens: Happens) -> Event {
     }
 }
 
-impl Member {
-    fn open(alloc: Global, me: u8, facts: Vec<Fact<Letter>>) -> Result<Member, AllocError> {
-        let roles = Roles::open(alloc, me, 2, &facts)?;
-        Ok(Member { me, roles, facts })
-    }
+/// A node on new disks.
+fn new_member(alloc: Global, node: u8) -> Result<Member, AllocError>
+    requires from { 1 ≤ node }
+    requires to { node ≤ 2 }
+{
+    let (member, _has_failed) = Member::format(alloc, node, 2, NO_TROUBLE)?;
+    Ok(member)
+}
 
-    /// The node after an input, and what it sends.
-    fn after(
-        self,
-        alloc: Global,
-        input: &Input<Letter, ()>,
-    ) -> Result<(Member, Vec<Message<Letter>>), AllocError> {
-        let Member {
-            me,
-            mut roles,
-            mut facts,
-        } = self;
-        let Ok((plan, _reply)) = roles.plan_input(&mut Letters::new(alloc), input) else {
-            return Err(AllocError);
-        };
-        push_copies(alloc, &mut facts, plan.change.facts())?;
-        roles.keep(plan.change);
-        Ok((Member { me, roles, facts }, plan.messages))
-    }
-
-    /// What the node is going to do at an input.
-    fn plan(
-        &mut self,
-        alloc: Global,
-        input: &Input<Letter, ()>,
-    ) -> Result<Plan<Letter>, AllocError> {
-        match self.roles.plan_input(&mut Letters::new(alloc), input) {
-            Ok((plan, _reply)) => Ok(plan),
-            Err(_) => Err(AllocError),
-        }
-    }
-
-    fn restarted(self, alloc: Global) -> Result<Member, AllocError> {
-        let Member {
-            me,
-            roles: _roles,
-            facts,
-        } = self;
-        Member::open(alloc, me, facts)
+/// What a node sends at an input.
+fn handled(
+    member: &mut Member,
+    input: &Input<Number, ()>,
+) -> Result<Vec<Message<Number>>, AllocError>
+    requires { InputFits (λ (number : Number). number.value ∷ []) input.now }
+{
+    match member.handle(input) {
+        (Ok(output), _) => Ok(output.messages),
+        (Err(_), _) => Err(AllocError),
     }
 }
 
-/// The input of an event, and none for a restart.
-fn input_of(
+/// What a node sends when this happens at it.
+fn sends(
     alloc: Global,
-    sent: &[Message<Letter>],
+    member: &mut Member,
+    sent: &[Sent],
     happens: Happens,
-) -> Result<Option<Input<Letter, ()>>, AllocError> {
-    Ok(match happens {
+) -> Result<Vec<Message<Number>>, AllocError> {
+    match happens {
         Happens::Deliver(which) => match sent.get(which) {
-            Some(message) => Some(Input::Deliver(Message {
-                from: message.from,
-                to: message.to,
-                body: message.body.try_copy(alloc)?,
-            })),
-            None => None,
+            Some(message) => handled(member, message.input()),
+            None => Err(AllocError),
         },
-        Happens::Submit(octet) => Some(Input::Submit(Letter { octet })),
-        Happens::CatchUp => Some(Input::CatchUp),
-        Happens::Restart => None,
-    })
+        Happens::Submit(value) => handled(member, &Input::Submit(Number { value })),
+        Happens::CatchUp => handled(member, &Input::CatchUp),
+        Happens::Restart => Ok(Vec::new(alloc)),
+    }
 }
 
 /// A node after an event, and what it sends.
 fn member_after(
     alloc: Global,
-    member: Member,
-    sent: &[Message<Letter>],
+    mut member: Member,
+    sent: &[Sent],
     event: &Event,
-) -> Result<(Member, Vec<Message<Letter>>), AllocError> {
-    match input_of(alloc, sent, event.happens)? {
-        Some(input) if event.stops => {
-            let (member, _lost) = member.after(alloc, &input)?;
-            Ok((member.restarted(alloc)?, Vec::new(alloc)))
-        }
-        Some(input) => member.after(alloc, &input),
-        None => Ok((member.restarted(alloc)?, Vec::new(alloc))),
+) -> Result<(Member, Vec<Message<Number>>), AllocError> {
+    let messages = sends(alloc, &mut member, sent, event.happens)?;
+    if event.stops || matches!(event.happens, Happens::Restart) {
+        let (member, _has_failed) = member.restarted(alloc, Torn::New)?;
+        return Ok((member, Vec::new(alloc)));
     }
+    Ok((member, messages))
 }
 
 /// The world after an event.
@@ -155,7 +124,10 @@ fn next_world(alloc: Global, world: World, event: &Event) -> Result<World, Alloc
         (first, second, messages)
     };
     for message in messages {
-        sent.push(message)?;
+        match Sent::new(message) {
+            Some(message) => sent.push(message)?,
+            None => return Err(AllocError),
+        };
     }
     Ok(World {
         first,
@@ -167,8 +139,8 @@ fn next_world(alloc: Global, world: World, event: &Event) -> Result<World, Alloc
 /// The world after events in turn.
 fn world_after(alloc: Global, events: &[Event]) -> Result<World, AllocError> {
     let mut world = World {
-        first: Member::open(alloc, 1, Vec::new(alloc))?,
-        second: Member::open(alloc, 2, Vec::new(alloc))?,
+        first: new_member(alloc, 1)?,
+        second: new_member(alloc, 2)?,
         sent: Vec::new(alloc),
     };
     for event in events {
@@ -177,8 +149,16 @@ fn world_after(alloc: Global, events: &[Event]) -> Result<World, AllocError> {
     Ok(world)
 }
 
+/// The records of the nodes of a world.
+fn records_of(alloc: Global, world: World) -> Result<Records, AllocError> {
+    Ok(Records {
+        first: world.first.record(alloc)?,
+        second: world.second.record(alloc)?,
+    })
+}
+
 /// A node has taken a command at a position in a ballot.
-fn took(facts: &[Fact<Letter>], place: u32, number: u64, octet: u8) -> bool {
+fn took(facts: &[Fact<Number>], place: u32, number: u64, value: u8) -> bool {
     for fact in facts {
         if let Fact::Took {
             position,
@@ -186,7 +166,7 @@ fn took(facts: &[Fact<Letter>], place: u32, number: u64, octet: u8) -> bool {
             command,
         } = fact
         {
-            if *position == place && *ballot == number && command.octet == octet {
+            if *position == place && *ballot == number && command.value == value {
                 return true;
             }
         }
@@ -195,26 +175,26 @@ fn took(facts: &[Fact<Letter>], place: u32, number: u64, octet: u8) -> bool {
 }
 
 /// Position and command of what both nodes took in one ballot: a majority, so the command is chosen there.
-fn chosen_by(alloc: Global, world: &World) -> Result<Vec<(u32, u8)>, AllocError> {
+fn chosen_by(alloc: Global, records: &Records) -> Result<Vec<(u32, u8)>, AllocError> {
     let mut chosen = Vec::new(alloc);
-    for fact in &world.first.facts {
+    for fact in records.first.facts() {
         if let Fact::Took {
             position,
             ballot,
             command,
         } = fact
         {
-            if took(&world.second.facts, *position, *ballot, command.octet) {
-                chosen.push((*position, command.octet))?;
+            if took(records.second.facts(), *position, *ballot, command.value) {
+                chosen.push((*position, command.value))?;
             }
         }
     }
     Ok(chosen)
 }
 
-fn is_submitted(events: &[Event], octet: u8) -> bool {
+fn is_submitted(events: &[Event], value: u8) -> bool {
     for event in events {
-        if matches!(event.happens, Happens::Submit(submitted) if submitted == octet) {
+        if matches!(event.happens, Happens::Submit(submitted) if submitted == value) {
             return true;
         }
     }
@@ -222,9 +202,9 @@ fn is_submitted(events: &[Event], octet: u8) -> bool {
 }
 
 /// Each command that is chosen at a position is this one.
-fn is_alone(chosen: &[(u32, u8)], place: u32, octet: u8) -> bool {
+fn is_alone(chosen: &[(u32, u8)], place: u32, value: u8) -> bool {
     for (position, other) in chosen {
-        if *position == place && *other != octet {
+        if *position == place && *other != value {
             return false;
         }
     }
@@ -256,8 +236,8 @@ fn sum_of(a: Seen, b: Seen) -> Seen {
 /// What a fact of one node shows, with the facts of the other node and what was chosen before: that a command is chosen, that one is
 /// learned, and that the laws hold.
 fn look(
-    fact: &Fact<Letter>,
-    others: &[Fact<Letter>],
+    fact: &Fact<Number>,
+    others: &[Fact<Number>],
     chosen: &[(u32, u8)],
     events: &[Event],
 ) -> (bool, bool, bool) {
@@ -266,52 +246,58 @@ fn look(
             position,
             ballot,
             command,
-        } if took(others, *position, *ballot, command.octet) => {
-            let is_lawful = is_alone(chosen, *position, command.octet)
-                && is_submitted(events, command.octet);
+        } if took(others, *position, *ballot, command.value) => {
+            let is_lawful = is_alone(chosen, *position, command.value)
+                && is_submitted(events, command.value);
             (true, false, is_lawful)
         }
         Fact::Chosen { position, command } => {
-            (false, true, chosen.contains(&(*position, command.octet)))
+            (false, true, chosen.contains(&(*position, command.value)))
         }
         _ => (false, false, true),
     }
 }
 
-/// What one more event shows.
-fn look_after(
-    alloc: Global,
-    world: &mut World,
+/// What the facts of a node show that are behind so many.
+fn look_behind(
+    facts: &[Fact<Number>],
+    count: usize,
+    others: &[Fact<Number>],
     chosen: &[(u32, u8)],
     events: &[Event],
-    event: &Event,
-) -> Result<Seen, AllocError> {
+) -> Seen {
     let mut seen = Seen {
         lists: 1,
         chosen: 0,
         learned: 0,
         broken: 0,
     };
-    let Some(input) = input_of(alloc, &world.sent, event.happens)? else {
-        return Ok(seen);
-    };
-    let plan = if event.node == 1 {
-        world.first.plan(alloc, &input)?
-    } else {
-        world.second.plan(alloc, &input)?
-    };
-    let others = if event.node == 1 {
-        &world.second.facts
-    } else {
-        &world.first.facts
-    };
-    for fact in plan.change.facts() {
-        let (is_chosen, is_learned, is_lawful) = look(fact, others, chosen, events);
-        seen.chosen = u64::from(is_chosen);
-        seen.learned = u64::from(is_learned);
-        seen.broken = u64::from(!is_lawful);
+    for place in count..facts.len() {
+        let (is_chosen, is_learned, is_lawful) = look(&facts[place], others, chosen, events);
+        seen.chosen = seen.chosen.max(u64::from(is_chosen));
+        seen.learned = seen.learned.max(u64::from(is_learned));
+        seen.broken = seen.broken.max(u64::from(!is_lawful));
     }
-    Ok(seen)
+    seen
+}
+
+/// What one more event shows, where these are the records before it.
+fn look_after(
+    alloc: Global,
+    before: &Records,
+    chosen: &[(u32, u8)],
+    events: &[Event],
+    event: &Event,
+) -> Result<Seen, AllocError> {
+    let world = next_world(alloc, world_after(alloc, events)?, event)?;
+    let after = records_of(alloc, world)?;
+    let (facts, old, others) = if event.node == 1 {
+        (&after.first, &before.first, &before.second)
+    } else {
+        (&after.second, &before.second, &before.first)
+    };
+    let count = old.facts().len();
+    Ok(look_behind(facts.facts(), count, others.facts(), chosen, events))
 }
 
 /// An event, and the same at which the node stops.
@@ -328,11 +314,7 @@ fn push_both(events: &mut Vec<Event>, node: u8, happens: Happens) -> Result<(), 
 
 /// The events that may come next: each message to its node, and what a client or the node itself does. Commands may change their
 /// names, so the first that is submitted is 1.
-fn next_events(
-    alloc: Global,
-    events: &[Event],
-    sent: &[Message<Letter>],
-) -> Result<Vec<Event>, AllocError> {
+fn next_events(alloc: Global, events: &[Event], sent: &[Sent]) -> Result<Vec<Event>, AllocError> {
     let mut next = Vec::new(alloc);
     for node in [1, 2] {
         next.push(at(node, Happens::CatchUp))?;
@@ -367,20 +349,22 @@ fn explore(
     before: Option<usize>,
     more: u32,
 ) -> Result<Seen, AllocError> {
-    let mut world = world_after(alloc, events)?;
+    let world = world_after(alloc, events)?;
     let sent = world.sent.len();
-    let chosen = chosen_by(alloc, &world)?;
+    let next = next_events(alloc, events, &world.sent)?;
+    let records = records_of(alloc, world)?;
+    let chosen = chosen_by(alloc, &records)?;
     let mut all = Seen {
         lists: 0,
         chosen: 0,
         learned: 0,
         broken: 0,
     };
-    for event in &next_events(alloc, events, &world.sent)? {
+    for event in &next {
         if more == 0 || !is_in_order(events, before, event) {
             continue;
         }
-        all = sum_of(all, look_after(alloc, &mut world, &chosen, events, event)?);
+        all = sum_of(all, look_after(alloc, &records, &chosen, events, event)?);
         if more > 1 {
             events.push(*event)?;
             all = sum_of(all, explore(alloc, events, Some(sent), more - 1)?);
