@@ -5,9 +5,7 @@ ghost use Rattle.ts_disk.specs.Memory.{state_of};
 ghost use Rattle.ts_node.specs.Node.{IsSound};
 ghost use Rattle.ts_store.specs.Octets.{octets_of};
 
-use crate::serving::{READ_LIMIT, serve_within};
 use crate::test_machine::Applies;
-use crate::{Peer, ServeFault, Server, ServerPeer, TcpPeer, carry, listen, serve};
 use std::alloc::{AllocError, Global};
 use std::io;
 use std::io::{ErrorKind, Read, Write};
@@ -16,6 +14,7 @@ use std::test::Fail;
 use ts_disk::MemDisk;
 use ts_node::{Machine, Node};
 use ts_record::Record;
+use ts_serve::{Peer, READ_LIMIT, ServeFault, Server, ServerPeer, TcpPeer, carry, listen, serve};
 use ts_store::Command;
 
 type Served = Server<MemDisk, Applies>;
@@ -326,12 +325,12 @@ impl Write for Counts {
     }
 }
 
-/// How many octets are answered within so many reads of an endless stream, and how that ends.
-fn within(alloc: Global, reads: u32) -> Result<(u64, Option<ServeFault>), AllocError> {
+/// How many octets are answered of an endless stream, and how that ends.
+fn endless(alloc: Global) -> Result<(u64, Option<ServeFault>), AllocError> {
     let mut writer = Counts { octets: 0 };
     match server(alloc, 1, 1, u64::MAX)? {
         Some(mut server) => {
-            let end = serve_within(&mut server, &mut Endless { at: 0 }, &mut writer, reads).err();
+            let end = serve(&mut server, &mut Endless { at: 0 }, &mut writer).err();
             Ok((writer.octets, end))
         }
         None => Err(AllocError),
@@ -340,10 +339,10 @@ fn within(alloc: Global, reads: u32) -> Result<(u64, Option<ServeFault>), AllocE
 
 #[test]
 fn reads_are_limited(rt: HostRuntime) -> Result<(), Fail> {
-    assert_eq!(rt; within(rt.alloc(), 13)?, (20, Some(ServeFault::ReadLimit)));
+    assert_eq!(rt; READ_LIMIT, 16_777_216);
     // A Status has six octets, and a Prefix ten: 2,796,202 answers.
     assert_eq!(rt;
-        within(rt.alloc(), READ_LIMIT)?,
+        endless(rt.alloc())?,
         (27_962_020, Some(ServeFault::ReadLimit))
     );
     Ok(())

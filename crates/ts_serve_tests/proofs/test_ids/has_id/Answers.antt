@@ -1,7 +1,7 @@
 use Rattle.std.proofs.Common.{◌∙◌, ap, List, ℕ}
 use Rattle.ts_synod.specs.Store.{same_id}
 use Rattle.ts_node.proofs.Settlings.{by_equality}
-use Rattle.ts_serve.proofs.test_ids.has_id.Goals as goal
+use Rattle.ts_serve_tests.proofs.test_ids.has_id.Goals as goal
 
 pub returns : goal.returns
 returns c =

@@ -1,6 +1,6 @@
 use Rattle.std.proofs.Common.{sym, ◌∙◌, ◌≡◌, ◌<◌, get_or, length, arith, rules}
-use Rattle.ts_serve.proofs.FirstOfId.{miss}
-use Rattle.ts_serve.proofs.test_machine.AppliesMachineCommand.settled.Goals as goal
+use Rattle.ts_serve_tests.proofs.FirstOfId.{miss}
+use Rattle.ts_serve_tests.proofs.test_machine.AppliesMachineCommand.settled.Goals as goal
 
 pub loop-place-preserved : goal.loop-place-preserved
 loop-place-preserved c =
