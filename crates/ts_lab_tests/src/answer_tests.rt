@@ -1,9 +1,9 @@
 //! Answers by hand. The octets were made by another tool.
 
-use crate::{Answers, is_deliverable};
 use sha2::{Digest, Sha256};
 use std::alloc::{AllocError, Global};
 use std::test::Fail;
+use ts_answer::{Answers, is_deliverable};
 use ts_question::{Flags, OctetStrings, Oids, Question, Reply, Terms};
 use ts_sig::DigestCheck;
 use ts_store::{Command, Outcome};
