@@ -5,3 +5,15 @@
 
 #[cfg(test)]
 mod answer_tests;
+#[cfg(test)]
+mod crl_count_tests;
+#[cfg(test)]
+mod crl_tests;
+#[cfg(test)]
+mod lab_tests;
+#[cfg(test)]
+mod node_tests;
+#[cfg(test)]
+mod path_tests;
+#[cfg(test)]
+mod word_tests;

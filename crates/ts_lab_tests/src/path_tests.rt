@@ -1,7 +1,7 @@
 //! Verdicts on chains of certificates: scripts with the `check` lines that they print, taken from the text of RFC 5280.
 
-use crate::stream::lab;
 use std::alloc::Global;
+use ts_lab::lab;
 use ts_script::LINE_FEED;
 use ts_script::words::first_piece;
 

@@ -1,9 +1,9 @@
 //! What no clause says: that streams that work meet no status 1, and what a failed one leaves.
 
-use crate::stream::{StreamFault, answer, lab};
 use std::alloc::{AllocError, Global};
 use std::io;
 use std::io::{ErrorKind, Read, Write};
+use ts_lab::{READ_LIMIT, lab};
 
 /// Gives its octets one a read. Each may come after an interruption, and at the end it may fail.
 #[derive(Drop)]
@@ -320,31 +320,20 @@ fn what_was_printed_stays_where_a_read_fails(rt: HostRuntime) -> Result<(), Allo
     Ok(())
 }
 
-/// What the lab answers with at most this many reads, and whether it has written nothing.
-fn limited<R: Read>(alloc: Global, reader: &mut R, reads: u32) -> (Result<u8, StreamFault>, bool) {
-    let mut written = Vec::new(alloc);
-    let answer = answer(alloc, reader, &mut written, reads);
-    (answer, written.is_empty())
-}
-
-/// Scripts whose end is not read: the status, the answer, and what is written.
-const FAILING: [(&[u8], u8, Result<u8, StreamFault>, &[u8]); 4] = [
-    (b"", 1, Err(StreamFault::Read), b""),
-    (b"# a\n", 1, Err(StreamFault::Read), b""),
-    (b"# a\n\nx", 1, Err(StreamFault::Read), b""),
+/// Scripts whose end is not read: the status, and what is written.
+const FAILING: [(&[u8], u8, &[u8]); 4] = [
+    (b"", 1, b""),
+    (b"# a\n", 1, b""),
+    (b"# a\n\nx", 1, b""),
     // Nothing is read after a wrong line.
-    (b"x\n", 2, Ok(2), b"line 1: unknown\n"),
+    (b"x\n", 2, b"line 1: unknown\n"),
 ];
 
 #[test]
 fn a_failed_read_writes_nothing(rt: HostRuntime) {
-    for &(script, status, answer, text) in &FAILING {
-        let found = limited(rt.alloc(), &mut failing(script), 9);
+    for &(script, status, text) in &FAILING {
         let is_answered = answers(rt.alloc(), failing(script), status, text);
-        assert!(rt;
-            (found, is_answered) == ((answer, text.is_empty()), true),
-            "{script:?}"
-        );
+        assert!(rt; is_answered, "{script:?}");
     }
 }
 
@@ -377,33 +366,43 @@ fn a_failed_write_ends_with_1(rt: HostRuntime) {
 fn an_endless_input_meets_the_limit(rt: HostRuntime) {
     for octet in [b'#', b'\n', b'x'] {
         let mut reader = Endless { octet, reads: 0 };
-        let found = limited(rt.alloc(), &mut reader, 9);
+        let mut written = Vec::new(rt.alloc());
+        let status = lab(rt.alloc(), &mut reader, &mut written);
         assert!(rt;
-            (found, reader.reads) == ((Err(StreamFault::ReadLimit), true), 9),
+            (status, reader.reads, written.len()) == (1, 16_777_216, 0),
             "{octet}"
         );
     }
-    let mut reader = Endless {
-        octet: b'\n',
-        reads: 0,
-    };
-    let mut written = Vec::new(rt.alloc());
-    let status = lab(rt.alloc(), &mut reader, &mut written);
-    assert!(rt; (status, reader.reads, written.len()) == (1, 16_777_216, 0));
 }
 
-/// Scripts, how many reads there may be, and the answer.
-const READS: [(&[u8], u32, Result<u8, StreamFault>); 3] = [
-    (b"x", 2, Ok(2)),
-    (b"x", 1, Err(StreamFault::ReadLimit)),
-    (b"x\n", 1, Ok(2)),
-];
+/// Gives so many line feeds, one octet a read, then other octets, and then it ends.
+#[derive(Drop)]
+struct Blank<'a> {
+    feeds: u32,
+    rest: &'a [u8],
+}
+
+impl Read for Blank<'_> {
+    fn read(&mut self, buf: &mut [u8]) -> io::Result<usize> {
+        if self.feeds == 0 || buf.is_empty() {
+            return self.rest.read(buf);
+        }
+        self.feeds -= 1;
+        buf[0] = b'\n';
+        Ok(1)
+    }
+}
+
+/// What scripts of empty lines end with, which takes the last reads, and the status.
+const READS: [(&[u8], u32, u8); 3] = [(b"x", 2, 2), (b"x", 1, 1), (b"x\n", 1, 2)];
 
 #[test]
 fn an_input_that_ends_at_the_last_read_is_answered(rt: HostRuntime) {
-    for &(script, reads, answer) in &READS {
-        let mut reader = script;
-        let (found, _) = limited(rt.alloc(), &mut reader, reads);
-        assert!(rt; found == answer, "{script:?} {reads}");
+    for &(rest, reads, status) in &READS {
+        let feeds = READ_LIMIT - reads;
+        let mut reader = Blank { feeds, rest };
+        let mut written = Vec::new(rt.alloc());
+        let found = lab(rt.alloc(), &mut reader, &mut written);
+        assert!(rt; found == status, "{rest:?} {reads}");
     }
 }

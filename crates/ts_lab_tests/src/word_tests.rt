@@ -1,6 +1,6 @@
 //! What words that describe extensions answer: one line for each form that is refused.
 
-use crate::tests::{answers, answers_words};
+use crate::lab_tests::{answers, answers_words};
 use std::alloc::{AllocError, Global};
 
 /// A line to which words are added.

@@ -158,7 +158,7 @@ fn prints(alloc: Global, parts: &[&str], text: &str, status: u8) -> Result<bool,
         script.push_str(part)?;
     }
     let mut written = Vec::new(alloc);
-    let ended = crate::lab(alloc, &mut script.as_bytes(), &mut written);
+    let ended = ts_lab::lab(alloc, &mut script.as_bytes(), &mut written);
     Ok(ended == status && is_behind_made(&written, text.as_bytes()))
 }
 

@@ -1,7 +1,7 @@
 //! What a list's words come to: the octets of the lists that they make, as another program counts them.
 
 use crate::crl_tests::LINE;
-use crate::tests::answers_words;
+use crate::lab_tests::answers_words;
 
 /// Words, and how many octets the list has that they describe.
 const COUNTS: [(&[u8], &[u8]); 23] = [
