@@ -17,7 +17,5 @@
 #![tactic(auto)]
 
 mod acceptor;
-#[cfg(test)]
-mod tests;
 
 pub use acceptor::{Acceptor, Step};

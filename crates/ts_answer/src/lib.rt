@@ -33,8 +33,6 @@ pub mod laws;
 mod machine;
 mod parts;
 mod store;
-#[cfg(test)]
-mod tests;
 mod trusted;
 mod verdicts;
 

@@ -4,11 +4,7 @@
 
 mod algorithm;
 mod certificate;
-#[cfg(test)]
-mod extension_tests;
 mod fast;
-#[cfg(test)]
-mod fast_tests;
 mod fields;
 mod key;
 pub mod laws;
@@ -16,19 +12,13 @@ mod layout;
 mod optional_fields;
 mod optional_reading;
 mod owned;
-#[cfg(test)]
-mod owned_tests;
 mod part;
 mod parts;
 mod reading;
 mod rules;
 mod shape;
 mod stated;
-#[cfg(test)]
-mod stated_tests;
 mod tbs;
-#[cfg(test)]
-mod tests;
 mod validity;
 mod version;
 

@@ -26,12 +26,8 @@
 #![tactic(auto)]
 
 mod command_line;
-#[cfg(test)]
-mod command_tests;
 mod command_words;
 mod encoding;
-#[cfg(test)]
-mod encoding_tests;
 mod fault;
 mod group;
 mod matched;

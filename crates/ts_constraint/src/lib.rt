@@ -37,10 +37,6 @@ mod ranges;
 mod sought;
 mod source;
 mod table;
-#[cfg(test)]
-mod table_tests;
-#[cfg(test)]
-mod tests;
 
 pub use bounds::Bounds;
 pub use fault::NameFault;

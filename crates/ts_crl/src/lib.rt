@@ -2,8 +2,6 @@
 //! first rule that is broken, with its place.
 #![tactic(auto)]
 
-#[cfg(test)]
-mod code_tests;
 mod crl;
 mod entries;
 mod entry;
@@ -17,19 +15,13 @@ mod mark;
 mod noting;
 mod numbers;
 mod owned;
-#[cfg(test)]
-mod owned_tests;
 mod placed;
 mod profile;
 mod revoked;
-#[cfg(test)]
-mod rule_tests;
 mod rules;
 mod shape;
 mod slots;
 mod tbs;
-#[cfg(test)]
-mod tests;
 mod update;
 mod values;
 mod version;

@@ -22,8 +22,6 @@ mod disk;
 mod durable;
 mod fault;
 mod memory;
-#[cfg(test)]
-mod tests;
 
 pub use call::DiskCall;
 pub use crash::Torn;

@@ -6,8 +6,6 @@
 mod alternative_names;
 mod authority_key_identifier;
 mod basic_constraints;
-#[cfg(test)]
-mod bit_tests;
 mod certificate_policies;
 mod checked_extensions;
 mod checks;
@@ -15,12 +13,8 @@ mod crl_number;
 mod distribution_point;
 mod distribution_points;
 mod ext;
-#[cfg(test)]
-mod ext_tests;
 mod extended_key_usage;
 mod extension;
-#[cfg(test)]
-mod extension_tests;
 mod extensions;
 mod fast;
 mod fast_extension;
@@ -45,8 +39,6 @@ mod reason_flags;
 mod reason_set;
 mod rules;
 mod skip_certs;
-#[cfg(test)]
-mod tests;
 
 pub use alternative_names::AlternativeNames;
 pub use authority_key_identifier::AuthorityKeyIdentifier;

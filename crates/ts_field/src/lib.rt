@@ -22,8 +22,6 @@
 
 mod algorithm;
 mod fields;
-#[cfg(test)]
-mod tests;
 mod time;
 
 pub use algorithm::{AlgorithmIdentifier, next_algorithm, read_algorithm};

@@ -25,8 +25,6 @@
 mod file;
 mod history;
 mod path;
-#[cfg(test)]
-mod tests;
 
 pub use file::FileDisk;
 pub use path::{create, open};

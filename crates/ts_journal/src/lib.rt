@@ -28,8 +28,6 @@ mod durable;
 mod header;
 mod journal;
 mod rewrite;
-#[cfg(test)]
-mod tests;
 
 pub use choice::{Choice, Look, Owner, choose, look_at};
 pub use header::{format, head_octets};

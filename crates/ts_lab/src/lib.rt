@@ -19,29 +19,17 @@
 mod answer;
 mod asking;
 mod commands;
-#[cfg(test)]
-mod crl_count_tests;
-#[cfg(test)]
-mod crl_tests;
 mod cursor;
 pub mod laws;
 mod member;
 mod network;
 mod node_answer;
 mod node_line;
-#[cfg(test)]
-mod node_tests;
-#[cfg(test)]
-mod path_tests;
 mod scanner;
 mod sent;
 mod show;
 mod stream;
-#[cfg(test)]
-mod tests;
 pub mod text;
 mod trouble;
-#[cfg(test)]
-mod word_tests;
 
 pub use stream::{READ_LIMIT, lab};

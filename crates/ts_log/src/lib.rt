@@ -24,8 +24,6 @@
 mod learned;
 mod log;
 mod received;
-#[cfg(test)]
-mod tests;
 
 pub use learned::LAST_POSITION;
 pub use log::{Log, PositionsExhausted, Step};

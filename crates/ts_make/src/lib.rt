@@ -7,12 +7,8 @@ mod certificate;
 mod crl_description;
 mod crl_extensions;
 mod crl_tbs;
-#[cfg(test)]
-mod crl_tests;
 mod description;
 mod elements;
-#[cfg(test)]
-mod extension_tests;
 mod extensions;
 mod fault;
 mod items;
@@ -25,8 +21,6 @@ mod names;
 mod serial;
 mod single;
 mod tbs;
-#[cfg(test)]
-mod tests;
 mod times;
 
 pub use certificate::make_cert;

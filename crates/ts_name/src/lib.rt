@@ -9,24 +9,16 @@ mod fast_names;
 mod folded;
 mod general;
 mod general_reading;
-#[cfg(test)]
-mod general_tests;
 mod holding;
 pub mod laws;
 mod name;
 mod name_items;
 mod name_reading;
-#[cfg(test)]
-mod name_tests;
 mod ordering;
 mod rdn;
 mod sameness;
 mod subtree;
 mod subtree_reading;
-#[cfg(test)]
-mod subtree_tests;
-#[cfg(test)]
-mod tests;
 
 pub use attribute::{Attribute, IA5_STRING, PRINTABLE_STRING, UTF8_STRING};
 pub use canon::{Canon, CanonAttribute, CanonRdn, canon_attribute};

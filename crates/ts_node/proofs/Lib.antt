@@ -9,4 +9,3 @@ pub mod Deliveries
 pub mod Fits
 pub mod Images
 pub mod Simulation
-pub mod FirstOfId

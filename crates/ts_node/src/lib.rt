@@ -21,14 +21,6 @@
 #![tactic(auto)]
 
 mod feeding;
-#[cfg(test)]
-mod group;
-#[cfg(test)]
-mod group_ids;
-#[cfg(test)]
-mod group_machine;
-#[cfg(test)]
-mod group_tests;
 mod growth;
 mod input;
 mod laws;
@@ -39,10 +31,6 @@ mod plan;
 mod planning;
 mod roles;
 mod submit;
-#[cfg(test)]
-mod test_machine;
-#[cfg(test)]
-mod tests;
 
 pub use input::{Input, NodeFault, Output, Reply};
 pub use laws::headline;

@@ -19,8 +19,6 @@ mod path;
 mod reason;
 mod self_issued;
 mod state;
-#[cfg(test)]
-mod tests;
 mod verdict;
 mod walk;
 mod working_key;

@@ -40,8 +40,6 @@ mod labels;
 pub mod laws;
 mod layer;
 mod policies;
-#[cfg(test)]
-mod tests;
 
 pub use certificate::{Certificate, Mapping};
 pub use policies::Policies;

@@ -20,7 +20,5 @@
 
 mod promises;
 mod proposer;
-#[cfg(test)]
-mod tests;
 
 pub use proposer::{ProposeFault, Proposer, Step};

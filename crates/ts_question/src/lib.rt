@@ -44,8 +44,6 @@ mod reply;
 mod reply_reading;
 mod reply_writing;
 mod terms;
-#[cfg(test)]
-mod tests;
 mod writing;
 
 pub use fault::ReadFault;

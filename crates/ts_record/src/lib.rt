@@ -30,10 +30,6 @@ mod opening;
 mod progress;
 mod reading;
 mod record;
-#[cfg(test)]
-mod rewrite_tests;
-#[cfg(test)]
-mod tests;
 mod writing;
 
 pub use codec::Codec;

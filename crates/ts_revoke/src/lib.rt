@@ -49,16 +49,6 @@ mod points;
 mod question;
 mod reach;
 mod reasons;
-#[cfg(test)]
-mod test_certs;
-#[cfg(test)]
-mod test_counts;
-#[cfg(test)]
-mod test_deltas;
-#[cfg(test)]
-mod test_lists;
-#[cfg(test)]
-mod tests;
 mod usable;
 mod verdict;
 

@@ -22,8 +22,6 @@ mod answer;
 mod issuers;
 pub mod laws;
 mod levels;
-#[cfg(test)]
-mod tests;
 mod trial;
 mod walk;
 

@@ -9,4 +9,3 @@ pub mod Inputs
 pub mod Framing
 pub mod Exact
 pub mod Turns
-pub mod FirstOfId

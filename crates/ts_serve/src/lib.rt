@@ -39,12 +39,6 @@ mod replies;
 mod sending;
 mod server;
 mod serving;
-#[cfg(test)]
-mod test_ids;
-#[cfg(test)]
-mod test_machine;
-#[cfg(test)]
-mod tests;
 
 pub use carrying::carry;
 pub use connection::LONGEST_WAIT;

@@ -24,13 +24,7 @@
 mod collisions;
 mod fault;
 mod repeats;
-#[cfg(test)]
-mod repeats_tests;
 mod sequence_of;
-#[cfg(test)]
-mod sequence_tests;
-#[cfg(test)]
-mod tests;
 
 pub use fault::{CertFault, CertRule};
 pub use repeats::{Keyed, LastOctets, first_repeated};

@@ -30,8 +30,6 @@ mod name;
 mod question;
 mod record;
 mod shown;
-#[cfg(test)]
-mod tests;
 mod time;
 mod value;
 

@@ -40,8 +40,6 @@
 #![tactic(auto)]
 
 mod anchor;
-#[cfg(test)]
-mod anchor_tests;
 mod anchors;
 mod codec;
 mod command;
@@ -52,12 +50,8 @@ mod outcome;
 mod purposes;
 mod reading;
 mod store;
-#[cfg(test)]
-mod store_tests;
 mod stored;
 mod tables;
-#[cfg(test)]
-mod tests;
 mod values;
 mod writing;
 

@@ -31,8 +31,6 @@ mod laws;
 mod message;
 mod places;
 mod sending;
-#[cfg(test)]
-mod tests;
 
 pub use ballots::{Ballot, ballot_of};
 pub use command::Command;

@@ -10,8 +10,6 @@ mod general;
 mod in_year;
 mod laws;
 mod moment;
-#[cfg(test)]
-mod tests;
 mod utc;
 
 pub use fast::begins_with_utc;

@@ -1,7 +1,7 @@
 -- The command lines as `clap` sees them: of the program, of `trustd command` and of `trustd question`.
 use Rattle.std.specs.Prelude.{true, false, List, [], ◌∷◌, ◌++◌, Some, codes, ◌≡◌}
 use Rattle.clap.specs.Walk.{Rule, Text, is_empty}
-use Rattle.clap.specs.Simple.{App, Shape, new_rule, new_shape, shape_of, with_rule, with_subcommand}
+use Rattle.clap.specs.Simple.{App, Shape, app_of, new_rule, new_shape, shape_of, with_rule, with_subcommand}
 use Rattle.clap.specs.declared.builder.action.ArgAction.TheVariants.{Set, Append, SetTrue}
 use Rattle.clap.specs.declared.builder.command.Command.{Command}
 use Rattle.clap.specs.declared.builder.command.Command.TheViews.{out-Command}
@@ -57,9 +57,17 @@ abbrev pub with_tasks : App → List Shape → App
 with_tasks app [] = app
 with_tasks app (sub ∷ subs) = with_tasks (among app sub) subs
 
--- a command of this shape, no argument of which is that of its subcommands
-abbrev pub HasShape : Shape → Command → Type 0
-HasShape shape command = (shape_of command ≡ shape) × ((out-Command command).has_globals ≡ false)
+-- a command of this shape
+abbrev pub IsShape : Shape → Command → Type 0
+IsShape shape command = shape_of command ≡ shape
+
+-- no argument of a command is that of its subcommands
+abbrev pub IsLocal : Command → Type 0
+IsLocal command = (out-Command command).has_globals ≡ false
+
+-- a command that wants a subcommand of this application
+abbrev pub IsApp : App → Command → Type 0
+IsApp app command = app_of command ≡ app
 
 -- a file
 abbrev pub reading : Text → Shape

@@ -1,29 +1,38 @@
 //! Arguments of command lines.
+//!
+//! A command that is still being made is a `Result`, which each call hands on: what a step owns is then let go in the step alone, and a chain of
+//! steps has one exit.
 
 ghost use Rattle.std.specs.Prelude.{◌≡◌, [], false, IfOk};
-ghost use Rattle.clap.specs.Simple.{app_of, shape_of, with_rule};
-ghost use Rattle.clap.specs.Walk.{rule_of};
-ghost use Rattle.clap.specs.declared.builder.command.Command.TheViews.{out-Command};
-ghost use Rattle.ts_usage.specs.Shapes.{option, options, flag, word, words, needed, leaf, with_argument, choice, among, reading, HasShape};
+ghost use Rattle.clap.specs.Simple.{App, Shape, with_rule};
+ghost use Rattle.clap.specs.Walk.{Rule, rule_of};
+ghost use Rattle.ts_usage.specs.Shapes.{option, options, flag, word, words, needed, leaf, with_argument, choice, among, reading, IsApp, IsLocal, IsShape};
 
 use clap::{Arg, ArgAction, Command};
 use std::alloc::{AllocError, Global};
 
 /// A command without arguments.
-pub(crate) fn leaf<'a>(alloc: Global, name: &'a str, about: &'a str) -> Command<'a>
-    ensures shape { shape_of result ≡ leaf name.entry.now [] }
-    ensures local { (out-Command result).has_globals ≡ false }
+pub(crate) fn leaf<'a>(
+    alloc: Global,
+    name: &'a str,
+    about: &'a str,
+) -> Result<Command<'a>, AllocError>
+    ensures shape { IfOk result (IsShape (leaf name.entry.now [])) }
+    ensures local { IfOk result IsLocal }
 {
-    Command::new(alloc, name).about(about)
+    Ok(Command::new(alloc, name).about(about))
 }
 
 /// A command with one more argument.
-pub(crate) fn with<'a>(command: Command<'a>, arg: Arg<'a>) -> Result<Command<'a>, AllocError>
+pub(crate) fn with<'a>(
+    command: Result<Command<'a>, AllocError>,
+    arg: Arg<'a>,
+) -> Result<Command<'a>, AllocError>
     requires { arg.global ≡ false }
-    ensures shape { IfOk result (λ r. shape_of r ≡ with_argument (shape_of command.entry) (rule_of arg.entry)) }
-    ensures local { IfOk result (λ r. (out-Command r).has_globals ≡ (out-Command command.entry).has_globals) }
+    ensures shape { (shape : Shape) (rule : Rule) → rule_of arg.entry ≡ rule → IfOk command.entry (IsShape shape) → IfOk result (IsShape (with_argument shape rule)) }
+    ensures local { IfOk command.entry IsLocal → IfOk result IsLocal }
 {
-    command.arg(arg)
+    command?.arg(arg)
 }
 
 /// A command that wants a subcommand, and has none for help. Its usage names it so.
@@ -33,7 +42,7 @@ pub(crate) fn choice<'a>(
     about: &'a str,
     usage: &str,
 ) -> Result<Command<'a>, AllocError>
-    ensures { IfOk result (λ r. app_of r ≡ choice name.entry.now [] []) }
+    ensures { IfOk result (IsApp (choice name.entry.now [] [])) }
 {
     Command::new(alloc, name)
         .about(about)
@@ -43,19 +52,26 @@ pub(crate) fn choice<'a>(
 }
 
 /// A choice with one more argument of its own.
-pub(crate) fn with_own<'a>(command: Command<'a>, arg: Arg<'a>) -> Result<Command<'a>, AllocError>
+pub(crate) fn with_own<'a>(
+    command: Result<Command<'a>, AllocError>,
+    arg: Arg<'a>,
+) -> Result<Command<'a>, AllocError>
     requires { arg.global ≡ false }
-    ensures { IfOk result (λ r. app_of r ≡ with_rule (app_of command.entry) (rule_of arg.entry)) }
+    ensures { (app : App) (rule : Rule) → rule_of arg.entry ≡ rule → IfOk command.entry (IsApp app) → IfOk result (IsApp (with_rule app rule)) }
 {
-    command.arg(arg)
+    command?.arg(arg)
 }
 
 /// A command with one more subcommand.
-pub(crate) fn among<'a>(command: Command<'a>, sub: Command<'a>) -> Result<Command<'a>, AllocError>
-    requires { (out-Command sub).has_globals ≡ false }
-    ensures { IfOk result (λ r. app_of r ≡ among (app_of command.entry) (shape_of sub.entry)) }
+pub(crate) fn among<'a>(
+    command: Result<Command<'a>, AllocError>,
+    sub: Result<Command<'a>, AllocError>,
+) -> Result<Command<'a>, AllocError>
+    requires { IfOk sub IsLocal }
+    ensures { (app : App) (shape : Shape) → IfOk command.entry (IsApp app) → IfOk sub.entry (IsShape shape) → IfOk result (IsApp (among app shape)) }
 {
-    command.subcommand(sub)
+    let command = command?;
+    command.subcommand(sub?)
 }
 
 /// `--name VALUE`, at most once.
@@ -132,7 +148,8 @@ pub(crate) fn reading<'a>(
     value: &'a str,
     help: &'a str,
 ) -> Result<Command<'a>, AllocError>
-    ensures { IfOk result (HasShape (reading name.entry.now)) }
+    ensures shape { IfOk result (IsShape (reading name.entry.now)) }
+    ensures local { IfOk result IsLocal }
 {
     let file = word(alloc, "file", value, help);
     with(leaf(alloc, name, about), file)

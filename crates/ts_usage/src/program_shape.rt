@@ -1,54 +1,49 @@
 //! What the program takes.
 
 ghost use Rattle.std.specs.Prelude.{◌≡◌, IfOk};
-ghost use Rattle.clap.specs.Simple.{app_of};
+ghost use Rattle.clap.specs.Simple.{App, app_of};
 ghost use Rattle.ts_usage.specs.Shapes as shapes;
-ghost use Rattle.ts_usage.specs.Shapes.{HasShape};
+ghost use Rattle.ts_usage.specs.Shapes.{IsApp, IsLocal, IsShape};
 
 use crate::arguments::{among, choice, leaf, needed, option, reading, with, word, words};
 use clap::Command;
 use std::alloc::{AllocError, Global};
 
-#[tactic(auto, unfolding(crate::specs::Shapes::format))]
+/// The record of a node is made.
 fn format<'a>(alloc: Global) -> Result<Command<'a>, AllocError>
-    ensures { IfOk result (HasShape shapes.format) }
+    ensures shape { IfOk result (IsShape shapes.format) }
+    ensures local { IfOk result IsLocal }
 {
-    let file = word(alloc, "file", "FILE", "The record, a name without a file");
-    let id = needed(option(alloc, "id", "I", "Which node it is, 1 to 9"));
-    let nodes = needed(option(alloc, "nodes", "N", "How many nodes there are, 1 to 9"));
-    let command = leaf(
-        alloc,
-        "format",
-        "Makes the record of a node, FILE and FILE.b",
+    let about = "Makes the record of a node, FILE and FILE.b";
+    let record = "The record, a name without a file";
+    let nodes = "How many nodes there are, 1 to 9";
+    let command = with(
+        leaf(alloc, "format", about),
+        word(alloc, "file", "FILE", record),
     );
-    let command = with(command, file)?;
-    let command = with(command, id)?;
-    with(command, nodes)
+    let id = needed(option(alloc, "id", "I", "Which node it is, 1 to 9"));
+    with(
+        with(command, id),
+        needed(option(alloc, "nodes", "N", nodes)),
+    )
 }
 
-#[tactic(auto, unfolding(crate::specs::Shapes::serve))]
+/// A node is served.
 fn serve<'a>(alloc: Global) -> Result<Command<'a>, AllocError>
-    ensures { IfOk result (HasShape shapes.serve) }
+    ensures shape { IfOk result (IsShape shapes.serve) }
+    ensures local { IfOk result IsLocal }
 {
-    let file = word(alloc, "file", "FILE", "The record of the node");
+    let about = "Answers clients and other nodes";
+    let record = "The record of the node";
+    let table = "Signatures that are good, a line each";
+    let connections = "How many connections to take, 1 to 1000000; 1000000 if not given";
+    let command = with(
+        leaf(alloc, "serve", about),
+        word(alloc, "file", "FILE", record),
+    );
     let listen = needed(option(alloc, "listen", "ADDR", "HOST:PORT to listen at"));
-    let table = option(
-        alloc,
-        "table",
-        "FILE",
-        "Signatures that are good, a line each",
-    );
-    let connections = option(
-        alloc,
-        "connections",
-        "C",
-        "How many connections to take, 1 to 1000000; 1000000 if not given",
-    );
-    let command = leaf(alloc, "serve", "Answers clients and other nodes");
-    let command = with(command, file)?;
-    let command = with(command, listen)?;
-    let command = with(command, table)?;
-    with(command, connections)
+    let command = with(with(command, listen), option(alloc, "table", "FILE", table));
+    with(command, option(alloc, "connections", "C", connections))
 }
 
 /// A command with an address and a file.
@@ -58,105 +53,87 @@ fn sending<'a>(
     about: &'a str,
     help: &'a str,
 ) -> Result<Command<'a>, AllocError>
-    ensures { IfOk result (HasShape (shapes.sending name.entry.now)) }
+    ensures shape { IfOk result (IsShape (shapes.sending name.entry.now)) }
+    ensures local { IfOk result IsLocal }
 {
     let address = word(alloc, "address", "ADDR", "HOST:PORT of the node");
     let file = word(alloc, "file", "FILE", help);
-    let command = with(leaf(alloc, name, about), address)?;
-    with(command, file)
+    with(with(leaf(alloc, name, about), address), file)
 }
 
 /// A command with an address.
 fn reaching<'a>(alloc: Global, name: &'a str, about: &'a str) -> Result<Command<'a>, AllocError>
-    ensures { IfOk result (HasShape (shapes.reaching name.entry.now)) }
+    ensures shape { IfOk result (IsShape (shapes.reaching name.entry.now)) }
+    ensures local { IfOk result IsLocal }
 {
     let address = word(alloc, "address", "ADDR", "HOST:PORT of the node");
     with(leaf(alloc, name, about), address)
 }
 
 /// The tasks of a node's upkeep, after those that the program has.
-#[tactic(auto, unfolding(crate::specs::Shapes::with_upkeep))]
-fn with_upkeep<'a>(alloc: Global, program: Command<'a>) -> Result<Command<'a>, AllocError>
-    ensures { IfOk result (λ r. app_of r ≡ shapes.with_upkeep (app_of program.entry)) }
+fn with_upkeep<'a>(
+    alloc: Global,
+    program: Result<Command<'a>, AllocError>,
+) -> Result<Command<'a>, AllocError>
+    ensures { (app : App) → IfOk program.entry (IsApp app) → IfOk result (IsApp (shapes.with_upkeep app)) }
 {
-    let status = reaching(alloc, "status", "Prints how many commands a node knows")?;
-    let catch_up = reaching(alloc, "catchup", "Has a node ask others for what it lacks")?;
-    let compact = reaching(
-        alloc,
-        "compact",
-        "Has a node make one step of rewriting its record",
-    )?;
-    let program = among(program, status)?;
-    let program = among(program, catch_up)?;
-    among(program, compact)
+    let what = "Prints how many commands a node knows";
+    let program = among(program, reaching(alloc, "status", what));
+    let what = "Has a node ask others for what it lacks";
+    let program = among(program, reaching(alloc, "catchup", what));
+    let what = "Has a node make one step of rewriting its record";
+    among(program, reaching(alloc, "compact", what))
 }
 
-#[tactic(auto, unfolding(crate::specs::Shapes::carry))]
+/// Messages are carried between nodes.
 fn carry<'a>(alloc: Global) -> Result<Command<'a>, AllocError>
-    ensures { IfOk result (HasShape shapes.carry) }
+    ensures shape { IfOk result (IsShape shapes.carry) }
+    ensures local { IfOk result IsLocal }
 {
-    let addresses = needed(words(
-        alloc,
-        "addresses",
-        "ADDR",
-        "HOST:PORT of each node, one to nine",
-    ));
+    let help = "HOST:PORT of each node, one to nine";
+    let addresses = needed(words(alloc, "addresses", "ADDR", help));
     let rounds = needed(option(alloc, "rounds", "R", "How many times, 1 to 1000000"));
     let command = leaf(alloc, "carry", "Carries messages between nodes");
-    let command = with(command, addresses)?;
-    with(command, rounds)
+    with(with(command, addresses), rounds)
 }
 
 /// The tasks of a node, which are the first of the program.
-#[tactic(auto, unfolding(crate::specs::Shapes::node_tasks, crate::specs::Shapes::lab))]
 fn node_tasks<'a>(alloc: Global) -> Result<Command<'a>, AllocError>
-    ensures { IfOk result (λ r. app_of r ≡ shapes.node_tasks) }
+    ensures { IfOk result (IsApp shapes.node_tasks) }
 {
     let about = "A replicated trust store for X.509 certificates";
-    let lab = leaf(alloc, "lab", "Answers the script on standard input");
-    let submit = sending(
-        alloc,
-        "submit",
-        "Hands a command to a node",
-        "An encoded command",
-    )?;
-    let ask = sending(
-        alloc,
-        "ask",
-        "Asks a node a question",
-        "An encoded question",
-    )?;
-    let program = choice(alloc, "trustd", about, "trustd")?;
-    let program = among(program, lab)?;
-    let program = among(program, format(alloc)?)?;
-    let program = among(program, serve(alloc)?)?;
-    let program = among(program, submit)?;
-    let program = among(program, ask)?;
-    among(program, carry(alloc)?)
+    let program = choice(alloc, "trustd", about, "trustd");
+    let program = among(
+        program,
+        leaf(alloc, "lab", "Answers the script on standard input"),
+    );
+    let program = among(program, format(alloc));
+    let program = among(program, serve(alloc));
+    let what = "Hands a command to a node";
+    let program = among(
+        program,
+        sending(alloc, "submit", what, "An encoded command"),
+    );
+    let what = "Asks a node a question";
+    let program = among(program, sending(alloc, "ask", what, "An encoded question"));
+    among(program, carry(alloc))
 }
 
 /// The command line of the program. The words of `trustd command` and `trustd question` go to command lines of their own.
-#[tactic(auto, unfolding(crate::specs::Shapes::program))]
 pub fn program<'a>(alloc: Global) -> Result<Command<'a>, AllocError>
     ensures { IfOk result (λ r. app_of r ≡ shapes.program) }
 {
-    let command = leaf(
-        alloc,
-        "command",
-        "Writes an encoded command to standard output",
-    );
-    let question = leaf(
-        alloc,
-        "question",
-        "Writes an encoded question to standard output",
-    );
+    let what = "Writes an encoded command to standard output";
+    let program = among(node_tasks(alloc), leaf(alloc, "command", what));
+    let what = "Writes an encoded question to standard output";
+    let program = among(program, leaf(alloc, "question", what));
     let about = "Prints the id of an anchor or list";
-    let id = reading(alloc, "id", about, "FILE", "The certificate or list in DER")?;
+    let what = "The certificate or list in DER";
+    let program = among(program, reading(alloc, "id", about, "FILE", what));
     let what = "A certificate, list, command, question or record";
-    let show = reading(alloc, "show", "Prints what a file holds", "FILE", what)?;
-    let program = among(node_tasks(alloc)?, command)?;
-    let program = among(program, question)?;
-    let program = among(program, id)?;
-    let program = among(program, show)?;
+    let program = among(
+        program,
+        reading(alloc, "show", "Prints what a file holds", "FILE", what),
+    );
     with_upkeep(alloc, program)
 }

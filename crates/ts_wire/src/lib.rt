@@ -31,8 +31,6 @@ pub mod laws;
 mod reading;
 mod route;
 mod stream;
-#[cfg(test)]
-mod tests;
 mod wire_error;
 mod writing;
 

@@ -1,0 +1,144 @@
+//! Answers by hand. The octets were made by another tool.
+
+use sha2::{Digest, Sha256};
+use std::alloc::{AllocError, Global};
+use std::test::Fail;
+use ts_answer::{Answers, is_deliverable};
+use ts_question::{Flags, OctetStrings, Oids, Question, Reply, Terms};
+use ts_sig::DigestCheck;
+use ts_store::{Command, Outcome};
+use ts_synod::{Body, Message};
+
+/// The anchor: CN=R, with a key of one octet, signed by itself.
+const R: &[u8] =
+    b"\x30\x81\x87\x30\x5a\xa0\x03\x02\x01\x02\x02\x01\x01\x30\x06\x06\x04\x88\x37\x01\x01\x30\x0c\x31\x0a\x30\x08\x06\x03\x55\x04\x03\x0c\x01\x52\x30\x1e\x17\x0d\x32\x36\x30\x31\x30\x31\x30\x30\x30\x30\x30\x30\x5a\x17\x0d\x32\x37\x30\x31\x30\x31\x30\x30\x30\x30\x30\x30\x5a\x30\x0c\x31\x0a\x30\x08\x06\x03\x55\x04\x03\x0c\x01\x52\x30\x0c\x30\x06\x06\x04\x88\x37\x01\x01\x03\x02\x00\x61\x30\x06\x06\x04\x88\x37\x01\x01\x03\x21\x00\x12\xb2\xcc\x21\xef\xdb\x2e\xd9\x3c\x4c\xa6\xa4\x36\xcb\xaf\x6b\x00\xac\x52\x0a\x9c\x44\x04\x4f\xa9\x94\xd1\xcc\x1b\xd0\x47\xf4";
+
+/// CN=L, issued by the anchor, from 2026-01-01 to 2027-01-01.
+const L: &[u8] =
+    b"\x30\x81\x87\x30\x5a\xa0\x03\x02\x01\x02\x02\x01\x02\x30\x06\x06\x04\x88\x37\x01\x01\x30\x0c\x31\x0a\x30\x08\x06\x03\x55\x04\x03\x0c\x01\x52\x30\x1e\x17\x0d\x32\x36\x30\x31\x30\x31\x30\x30\x30\x30\x30\x30\x5a\x17\x0d\x32\x37\x30\x31\x30\x31\x30\x30\x30\x30\x30\x30\x5a\x30\x0c\x31\x0a\x30\x08\x06\x03\x55\x04\x03\x0c\x01\x4c\x30\x0c\x30\x06\x06\x04\x88\x37\x01\x01\x03\x02\x00\x62\x30\x06\x06\x04\x88\x37\x01\x01\x03\x21\x00\x40\x04\x70\xc1\x8b\xca\xc5\x44\x3f\x12\xe8\xbf\x03\x61\x99\x2e\xfc\x70\xd1\x31\x33\x5d\x88\xda\xe1\x65\x0d\xf7\x43\x72\x01\x2a";
+
+/// 2026-06-01, in the middle of the certificate's validity.
+const JUNE: i64 = 1_780_272_000;
+
+/// An id: fifteen octets of zero, and this one.
+fn id(last: u8) -> [u8; 16] {
+    [0, 0, 0, 0, 0, 0, 0, 0, 0, 0, 0, 0, 0, 0, 0, last]
+}
+
+/// The SHA-256 of the anchor's certificate.
+fn anchor() -> [u8; 32] {
+    let mut hasher = Sha256::new();
+    hasher.update(R);
+    hasher.finalize()
+}
+
+fn terms(alloc: Global) -> Terms {
+    Terms {
+        moment: JUNE,
+        flags: Flags {
+            explicit_policy: false,
+            inhibit_policy_mapping: false,
+            inhibit_any_policy: false,
+            hard: false,
+            use_deltas: false,
+        },
+        k: None,
+        purpose: None,
+        user_policies: Oids::new(Vec::new(alloc)),
+        permitted_subtrees: OctetStrings::empty(alloc),
+        excluded_subtrees: OctetStrings::empty(alloc),
+    }
+}
+
+/// Whether this certificate is valid under the anchor.
+fn chain(alloc: Global, octets: &[u8]) -> Result<Option<Question>, AllocError> {
+    let mut certificates = Vec::new(alloc);
+    certificates.push(octets.to_vec(alloc)?)?;
+    Ok(Question::chain(terms(alloc), anchor(), certificates).ok())
+}
+
+/// A store that took the anchor, and then its withdrawal.
+fn store(alloc: Global) -> Result<Option<Answers<DigestCheck>>, AllocError> {
+    let mut answers = Answers::new(alloc, DigestCheck);
+    let Ok(add) = Command::add_anchor(id(1), R.to_vec(alloc)?) else {
+        return Ok(None);
+    };
+    let _added = answers.push(&add)?;
+    let _withdrawn = answers.push(&Command::WithdrawAnchor {
+        id: id(2),
+        anchor: anchor(),
+    })?;
+    Ok(Some(answers))
+}
+
+/// The tag of the reply after the first k commands.
+fn tag(answers: &Answers<DigestCheck>, k: u32, question: &Question) -> Result<u8, AllocError> {
+    Ok(match answers.answer(k, question)?.reply() {
+        Reply::Valid { .. } => 1,
+        Reply::Invalid { .. } => 2,
+        Reply::Found { .. } => 3,
+        Reply::NoPath => 4,
+        Reply::SearchLimit => 5,
+        Reply::NotYet { .. } => 6,
+        Reply::Malformed { .. } => 7,
+        Reply::NoAnchor => 8,
+        Reply::Limit => 9,
+    })
+}
+
+#[test]
+fn a_chain_is_judged_at_every_position(rt: HostRuntime) -> Result<(), Fail> {
+    let alloc = rt.alloc();
+    let answers = store(alloc)?.ok_or("no store")?;
+    let question = chain(alloc, L)?.ok_or("no question")?;
+    for (k, expected) in [(0, 8), (1, 1), (2, 8), (3, 6)] {
+        let found = tag(&answers, k, &question)?;
+        assert_eq!(rt; found, expected);
+    }
+    let cut = chain(alloc, &L[..L.len() - 1])?.ok_or("no question")?;
+    let found = tag(&answers, 1, &cut)?;
+    assert_eq!(rt; found, 7);
+    Ok(())
+}
+
+#[test]
+fn an_id_settles_at_its_first_position(rt: HostRuntime) -> Result<(), Fail> {
+    let answers = store(rt.alloc())?.ok_or("no store")?;
+    let second = answers
+        .settled(&id(2))
+        .map(|first| (first.position, first.outcome));
+    assert_eq!(rt; second, Some((2, Outcome::Applied)));
+    assert!(rt; answers.settled(&id(3)).is_none());
+    assert_eq!(rt; answers.prefix(), 2);
+    let _check = answers.close();
+    Ok(())
+}
+
+#[test]
+fn a_search_finds_the_leaf(rt: HostRuntime) -> Result<(), Fail> {
+    let alloc = rt.alloc();
+    let answers = store(alloc)?.ok_or("no store")?;
+    let mut certificates = Vec::new(alloc);
+    certificates.push(L.to_vec(alloc)?)?;
+    let question = Question::search(terms(alloc), certificates)
+        .ok()
+        .ok_or("no question")?;
+    for (k, expected) in [(1, 3), (2, 4)] {
+        let found = tag(&answers, k, &question)?;
+        assert_eq!(rt; found, expected);
+    }
+    Ok(())
+}
+
+#[test]
+fn a_message_out_of_range_is_not_deliverable(rt: HostRuntime) {
+    for (position, ballot, expected) in [(1, 17, true), (0, 17, false), (1, 15, false)] {
+        let message = Message {
+            from: 1,
+            to: 2,
+            body: Body::Prepare { position, ballot },
+        };
+        let found = is_deliverable(&message);
+        assert_eq!(rt; found, expected);
+    }
+}

@@ -1,0 +1,518 @@
+//! Nodes, each on two disks in memory, for tests, and three of them: they take the messages that a test delivers, and a node whose device fails is
+//! opened again from what a crash leaves of its disks.
+
+ghost use Rattle.std.specs.Prelude.{◌≤◌, ◌∷◌, [], IfOk, IsTrue};
+ghost use Rattle.ts_disk.specs.Memory.{state_of};
+ghost use Rattle.ts_node.specs.Node.{IsSound};
+ghost use Rattle.ts_node.specs.Inputs.{BodyFits, InputFits};
+ghost use Rattle.ts_record.specs.Facts.{IsBallot, IsPosition};
+
+use crate::group_machine::{Number, Takes};
+use std::alloc::{AllocError, Global};
+use std::marker::Model;
+use ts_disk::{MemDisk, Torn};
+use ts_node::{Input, Node, NodeFault, Output, Refused, Reply};
+use ts_record::{Fault, Record};
+use ts_synod::{Ballot, Body, Message};
+
+type Small = Node<MemDisk, Number, Takes>;
+
+pub(crate) type Handled = Result<Output<Number, (), Vec<Number>>, NodeFault>;
+
+/// Which calls of a disk fail, counted from its opening.
+#[derive(Clone, Copy, Debug, PartialEq, Eq)]
+pub(crate) enum Failing {
+    /// Each one behind so many.
+    Behind(u64),
+    /// This one alone, the first for 1.
+    Once(u64),
+}
+
+/// A disk of one node whose calls fail, and what a crash leaves of octets that are not synced.
+#[derive(Clone, Copy, Debug, PartialEq, Eq)]
+pub(crate) struct Trouble {
+    pub node: u8,
+    pub is_second: bool,
+    pub failing: Failing,
+    pub torn: Torn,
+}
+
+/// Devices that do not fail.
+pub(crate) const NO_TROUBLE: Trouble = Trouble {
+    node: 0,
+    is_second: false,
+    failing: Failing::Behind(0),
+    torn: Torn::New,
+};
+
+impl Trouble {
+    /// Sets a disk of a node up to fail, where it is the one.
+    fn set(self, node: u8, is_second: bool, disk: &mut MemDisk) {
+        if self.node == node && self.is_second == is_second {
+            match self.failing {
+                Failing::Behind(calls) => disk.set_fuse(calls),
+                Failing::Once(call) => disk.fail_at(call),
+            }
+        }
+    }
+}
+
+/// A message that a node may be sent.
+#[derive(Drop)]
+pub(crate) struct Sent {
+    input: Input<Number, ()>,
+    pub to: u8,
+    is_delivered: bool,
+}
+
+impl Model for Sent {
+    ghost use Rattle.std.specs.Prelude.{ℕ, ◌∷◌, []};
+    ghost use Rattle.ts_node.specs.Inputs.{InputFits};
+
+    // No contract speaks of its content.
+    ghost Value = { ℕ };
+
+    ghost view = { λ _. 0 };
+
+    ghost invariant = { λ sent. InputFits (λ number. number.value ∷ []) sent.input };
+}
+
+fn is_position(position: u32) -> bool
+    ensures { IsTrue result → IsPosition position }
+{
+    1 <= position && position <= 1_000_000
+}
+
+fn is_ballot(ballot: Ballot) -> bool
+    ensures { IsTrue result → IsBallot ballot }
+{
+    16 <= ballot && ballot < 1 << 36 && 1 <= ballot % 16 && ballot % 16 <= 9
+}
+
+/// A node may be sent it.
+fn is_fit(body: &Body<Number>) -> bool
+    ensures { IsTrue result → BodyFits (λ (number : Number). number.value ∷ []) body.now }
+{
+    match body {
+        Body::Prepare { position, ballot }
+        | Body::Accept {
+            position,
+            ballot,
+            ..
+        } => { is_position(*position) && is_ballot(*ballot) }
+        Body::Accepted { position, .. } | Body::Give { position, .. } => is_position(*position),
+        Body::Promise { .. } | Body::Busy { .. } | Body::Ask { .. } => true,
+    }
+}
+
+impl Sent {
+    /// A message that is not delivered yet. `None` for one that no node may be sent, which no node sends.
+    pub fn new(message: Message<Number>) -> Option<Sent> {
+        if !is_fit(&message.body) {
+            return None;
+        }
+        Some(Sent {
+            to: message.to,
+            input: Input::Deliver(message),
+            is_delivered: false,
+        })
+    }
+
+    /// What reaches the node.
+    pub fn input(&self) -> &Input<Number, ()>
+        ensures { InputFits (λ (number : Number). number.value ∷ []) result.now }
+    {
+        &self.input
+    }
+}
+
+/// The node on two disks. Where memory is refused it is opened again from what is given back.
+fn opened(alloc: Global, a: MemDisk, b: MemDisk) -> Result<Small, Refused<MemDisk, Takes>>
+    ensures { IfOk result (λ node. IsSound state_of (λ (number : Number). number.value ∷ []) (λ (machine : Takes). machine.commands.items) node) }
+{
+    match Node::open(alloc, a, b, Takes::new(alloc)) {
+        Err(
+            Refused {
+                fault: Fault::Memory,
+                a,
+                b,
+                machine,
+            },
+        ) => Node::open(alloc, a, b, machine),
+        answer => answer,
+    }
+}
+
+/// A node, and what it had learned when it was last asked.
+#[derive(Drop)]
+pub(crate) struct Member {
+    node: Small,
+    learned: Vec<Number>,
+}
+
+impl Model for Member {
+    ghost use Rattle.std.specs.Prelude.{ℕ, ◌∷◌, []};
+    ghost use Rattle.ts_disk.specs.Memory.{state_of};
+    ghost use Rattle.ts_node.specs.Node.{IsSound};
+
+    // No contract speaks of its content.
+    ghost Value = { ℕ };
+
+    ghost view = { λ _. 0 };
+
+    ghost invariant = { λ m. IsSound state_of (λ number. number.value ∷ []) (λ machine. machine.commands.items) m.node };
+}
+
+impl Member {
+    /// A node of so many on new disks, and whether a device failed when it was opened.
+    pub fn format(
+        alloc: Global,
+        node: u8,
+        nodes: u8,
+        trouble: Trouble,
+    ) -> Result<(Member, bool), AllocError>
+        requires from { 1 ≤ node }
+        requires to { node ≤ nodes }
+        requires few { nodes ≤ 9 }
+    {
+        let mut a = MemDisk::new(alloc, Vec::new(alloc))?;
+        let mut b = MemDisk::new(alloc, Vec::new(alloc))?;
+        if Record::<MemDisk, Number>::format(&mut a, &mut b, node, nodes).is_err() {
+            return Err(AllocError);
+        }
+        trouble.set(node, false, &mut a);
+        trouble.set(node, true, &mut b);
+        Member::open(alloc, a, b, trouble.torn, Vec::new(alloc))
+    }
+
+    /// The node on two disks, or where a device fails the one after a crash, and then true. Where memory is refused it is opened again.
+    fn open(
+        alloc: Global,
+        a: MemDisk,
+        b: MemDisk,
+        torn: Torn,
+        learned: Vec<Number>,
+    ) -> Result<(Member, bool), AllocError> {
+        match opened(alloc, a, b) {
+            Ok(node) => Ok((Member { node, learned }, false)),
+            Err(
+                Refused {
+                    fault: Fault::DiskFailed,
+                    a,
+                    b,
+                    machine: _,
+                },
+            ) => Ok((Member::after_crash(alloc, &a, &b, torn, learned)?, true)),
+            Err(_) => Err(AllocError),
+        }
+    }
+
+    /// The node on what a crash leaves of two disks.
+    fn after_crash(
+        alloc: Global,
+        a: &MemDisk,
+        b: &MemDisk,
+        torn: Torn,
+        learned: Vec<Number>,
+    ) -> Result<Member, AllocError> {
+        match opened(alloc, a.crash(torn)?, b.crash(torn)?) {
+            Ok(node) => Ok(Member { node, learned }),
+            Err(_) => Err(AllocError),
+        }
+    }
+
+    /// The node, opened again from its disks, and whether a device failed.
+    pub fn restarted(self, alloc: Global, torn: Torn) -> Result<(Member, bool), AllocError> {
+        let Member { node, learned } = self;
+        let (a, b, _machine) = node.close();
+        Member::open(alloc, a, b, torn, learned)
+    }
+
+    /// The record of the node.
+    pub fn record(self, alloc: Global) -> Result<Record<MemDisk, Number>, AllocError> {
+        let (a, b, _machine) = self.node.close();
+        match Record::open(alloc, a, b) {
+            Ok(record) => Ok(record),
+            Err(_) => Err(AllocError),
+        }
+    }
+
+    /// The node after a crash. An error where it is not broken.
+    fn crashed(self, alloc: Global, torn: Torn) -> Result<Member, AllocError> {
+        let Member { mut node, learned } = self;
+        if !matches!(node.handle(&Input::Status), Err(NodeFault::Broken)) {
+            return Err(AllocError);
+        }
+        let (a, b, _machine) = node.close();
+        Member::after_crash(alloc, &a, &b, torn, learned)
+    }
+
+    /// Takes an input, again where memory is refused, and then true.
+    pub fn handle(&mut self, input: &Input<Number, ()>) -> (Handled, bool)
+        requires { InputFits (λ (number : Number). number.value ∷ []) input.now }
+    {
+        match self.node.handle(input) {
+            Err(NodeFault::Memory) => (self.node.handle(input), true),
+            handled => (handled, false),
+        }
+    }
+
+    /// Asks for what is learned. False where that is not what it was before, or more.
+    fn ask(&mut self) -> Result<bool, AllocError> {
+        let input = Input::Ask {
+            k: None,
+            question: (),
+        };
+        match self.handle(&input) {
+            (Ok(output), _) => Ok(self.learns(output.reply)),
+            (Err(_), _) => Err(AllocError),
+        }
+    }
+
+    /// Keeps what is learned, by the node's reply. False where that is not what it was before, or more.
+    fn learns(&mut self, reply: Reply<(), Vec<Number>>) -> bool {
+        match reply {
+            Reply::Answered { k: _, answer } => {
+                let is_kept = answer.starts_with(&self.learned);
+                self.learned = answer;
+                is_kept
+            }
+            _ => false,
+        }
+    }
+
+    /// Whether another command than this is learned at a position.
+    fn contradicts(&self, position: u32, command: Number) -> bool {
+        match self.learned.get((position as usize).wrapping_sub(1)) {
+            Some(learned) => *learned != command,
+            None => false,
+        }
+    }
+}
+
+/// A vote that an acceptor sent.
+#[derive(Clone, Copy, Debug, PartialEq, Eq)]
+struct Voted {
+    from: u8,
+    position: u32,
+    ballot: Ballot,
+    command: Number,
+}
+
+impl Voted {
+    /// The vote in a message. `None` where it has none, or is a copy for node 2 or 3.
+    fn of(message: &Message<Number>) -> Option<Voted> {
+        match message {
+            Message {
+                from,
+                to: 1,
+                body: Body::Accepted {
+                    position,
+                    ballot,
+                    command,
+                },
+            } => Some(Voted {
+                from: *from,
+                position: *position,
+                ballot: *ballot,
+                command: *command,
+            }),
+            _ => None,
+        }
+    }
+
+    /// Whether two votes of three make a majority.
+    fn is_majority(self, other: Voted) -> bool {
+        self.from != other.from && self.position == other.position && self.ballot == other.ballot
+    }
+}
+
+/// Three nodes, the messages that they have sent, in their order, and the votes among these.
+#[derive(Drop)]
+pub(crate) struct Group {
+    alloc: Global,
+    torn: Torn,
+    members: Vec<Member>,
+    sent: Vec<Sent>,
+    votes: Vec<Voted>,
+    /// How often a device failed.
+    pub stops: u32,
+    /// How often a node answered that memory was refused.
+    pub refusals: u32,
+    /// Whether the nodes have agreed so far.
+    pub agrees: bool,
+}
+
+impl Group {
+    /// Three nodes on new disks.
+    pub fn new(alloc: Global, trouble: Trouble) -> Result<Group, AllocError> {
+        let mut members = Vec::new(alloc);
+        let mut stops = 0u32;
+        for node in 1..=3 {
+            let (member, has_failed) = Member::format(alloc, node, 3, trouble)?;
+            members.push(member)?;
+            stops = stops.saturating_add(u32::from(has_failed));
+        }
+        Ok(Group {
+            alloc,
+            torn: trouble.torn,
+            members,
+            sent: Vec::new(alloc),
+            votes: Vec::new(alloc),
+            stops,
+            refusals: 0,
+            agrees: true,
+        })
+    }
+
+    /// Keeps what a node sends, and opens it again where a device failed.
+    fn take(&mut self, place: usize, handled: (Handled, bool)) -> Result<(), AllocError> {
+        let (handled, was_refused) = handled;
+        self.refusals = self.refusals.saturating_add(u32::from(was_refused));
+        match handled {
+            Ok(output) => self.post(output.messages)?,
+            Err(NodeFault::DiskFailed) => self.crash(place)?,
+            Err(_) => return Err(AllocError),
+        }
+        let is_kept = self.ask_all()?;
+        self.agrees = self.agrees && is_kept && self.is_choice_kept();
+        Ok(())
+    }
+
+    /// Keeps messages that were sent.
+    fn post(&mut self, messages: Vec<Message<Number>>) -> Result<(), AllocError> {
+        for message in messages {
+            if let Some(vote) = Voted::of(&message) {
+                self.votes.push(vote)?;
+            }
+            if let Some(sent) = Sent::new(message) {
+                self.sent.push(sent)?;
+            }
+        }
+        Ok(())
+    }
+
+    /// Opens a broken node again from what a crash leaves of its disks.
+    fn crash(&mut self, place: usize) -> Result<(), AllocError> {
+        if place >= self.members.len() {
+            return Err(AllocError);
+        }
+        let member = self.members.remove(place).crashed(self.alloc, self.torn)?;
+        self.members.insert(place, member)?;
+        self.stops = self.stops.saturating_add(1);
+        Ok(())
+    }
+
+    /// Opens a node again from its disks.
+    pub fn restart(&mut self, place: usize) -> Result<(), AllocError> {
+        if place >= self.members.len() {
+            return Err(AllocError);
+        }
+        let (member, has_failed) = self.members.remove(place).restarted(self.alloc, self.torn)?;
+        self.members.insert(place, member)?;
+        self.stops = self.stops.saturating_add(u32::from(has_failed));
+        Ok(())
+    }
+
+    /// Asks each node for what it has learned. False where a node has lost some of it.
+    fn ask_all(&mut self) -> Result<bool, AllocError> {
+        let mut is_kept = true;
+        for member in &mut self.members {
+            is_kept = member.ask()? && is_kept;
+        }
+        Ok(is_kept)
+    }
+
+    /// Whether no node has learned another command where a majority has voted for one in one ballot.
+    fn is_choice_kept(&self) -> bool {
+        self.votes
+            .iter()
+            .all(|vote| !self.is_chosen(*vote) || self.agrees_with(*vote))
+    }
+
+    fn is_chosen(&self, vote: Voted) -> bool {
+        self.votes.iter().any(|other| vote.is_majority(*other))
+    }
+
+    fn agrees_with(&self, vote: Voted) -> bool {
+        self.members
+            .iter()
+            .all(|member| !member.contradicts(vote.position, vote.command))
+    }
+
+    /// Submits a command to a node.
+    pub fn submit(&mut self, place: usize, value: u8) -> Result<(), AllocError> {
+        let Some(member) = self.members.get_mut(place) else {
+            return Err(AllocError);
+        };
+        let handled = member.handle(&Input::Submit(Number { value }));
+        self.take(place, handled)
+    }
+
+    /// Lets each node ask the others for what it has not learned.
+    pub fn catch_up(&mut self) -> Result<(), AllocError> {
+        for place in 0..self.members.len() {
+            let Some(member) = self.members.get_mut(place) else {
+                return Err(AllocError);
+            };
+            let handled = member.handle(&Input::CatchUp);
+            self.take(place, handled)?;
+        }
+        Ok(())
+    }
+
+    /// Delivers the message at a place.
+    fn deliver(&mut self, place: usize) -> Result<(), AllocError> {
+        let Some(sent) = self.sent.get_mut(place) else {
+            return Err(AllocError);
+        };
+        sent.is_delivered = true;
+        let to = usize::from(sent.to.saturating_sub(1));
+        let Some(member) = self.members.get_mut(to) else {
+            return Err(AllocError);
+        };
+        let handled = member.handle(sent.input());
+        self.take(to, handled)
+    }
+
+    /// Delivers messages by their numbers, the first for 1, leaving out those that there are not.
+    pub fn deliver_all(&mut self, numbers: &[usize]) -> Result<(), AllocError> {
+        for number in numbers {
+            let place = number.wrapping_sub(1);
+            if place < self.sent.len() {
+                self.deliver(place)?;
+            }
+        }
+        Ok(())
+    }
+
+    fn undelivered(&self) -> Option<usize> {
+        self.sent.iter().position(|sent| !sent.is_delivered)
+    }
+
+    /// Delivers the first message that was not delivered, again and again, and counts them.
+    pub fn settle(&mut self) -> Result<u32, AllocError> {
+        for count in 0..1000 {
+            match self.undelivered() {
+                Some(place) => self.deliver(place)?,
+                None => return Ok(count),
+            }
+        }
+        Err(AllocError)
+    }
+
+    /// Whether all nodes have learned the same two commands.
+    pub fn have_same_two(&self) -> bool {
+        match self.members.first() {
+            Some(member) => member.learned.len() == 2 && self.have_learned(&member.learned),
+            None => false,
+        }
+    }
+
+    /// Whether each node has learned these commands and no others.
+    pub fn have_learned(&self, commands: &[Number]) -> bool {
+        self.members
+            .iter()
+            .all(|member| member.learned.as_slice() == commands)
+    }
+}

@@ -1,0 +1,155 @@
+use std::alloc::{AllocError, Global};
+use std::fs::{Metadata, OpenFile};
+use std::io::{ErrorKind, Read, Seek, SeekFrom, Write};
+use std::test::Fail;
+use std::{fs, io};
+use ts_disk::{Disk, DiskFault};
+use ts_file::{FileDisk, create, open};
+
+const FOLDER: &str = "ts_file_test";
+
+const PATH: &str = "ts_file_test/record";
+
+// Writes octets at an offset, which is not past the end, and syncs.
+fn put<D: Disk>(disk: &mut D, alloc: Global, at: usize, octets: &[u8]) -> Result<(), DiskFault> {
+    if disk.read(alloc)?.len() < at {
+        return Err(DiskFault::Memory);
+    }
+    disk.write_at(at, octets)?;
+    disk.sync()
+}
+
+#[test]
+fn what_is_written_is_read_when_it_is_opened_again(rt: HostRuntime) -> Result<(), Fail> {
+    let alloc = rt.alloc();
+    let _ = fs::remove_dir_all(&rt, FOLDER);
+    fs::create_dir(&rt, FOLDER)?;
+    assert!(rt; open(&rt, alloc, PATH).is_err());
+    let mut disk = create(&rt, alloc, PATH)?;
+    put(&mut disk, alloc, 0, b"octets")?;
+    put(&mut disk, alloc, 3, b"opus, 8 arms")?;
+    assert_eq!(rt; disk.read(alloc)?.as_slice(), b"octopus, 8 arms".as_slice());
+    drop(disk);
+    assert_eq!(rt;
+        fs::read(&rt, PATH)?.as_slice(),
+        b"octopus, 8 arms".as_slice()
+    );
+    assert_eq!(rt;
+        open(&rt, alloc, PATH)?.read(alloc)?.as_slice(),
+        b"octopus, 8 arms".as_slice()
+    );
+    assert_eq!(rt; create(&rt, alloc, PATH)?.read(alloc)?.len(), 15);
+    fs::remove_dir_all(&rt, FOLDER)?;
+    Ok(())
+}
+
+// A file of which every second write is interrupted, and the others take two octets at most, up to a first that fails.
+#[derive(Drop)]
+struct Patchy {
+    held: Vec<u8>,
+    at: usize,
+    writes: u64,
+    fails_at: u64,
+    syncs: bool,
+}
+
+fn with_ten_octets(alloc: Global, fails_at: u64, syncs: bool) -> Result<Patchy, AllocError> {
+    Ok(Patchy {
+        held: b"0123456789".to_vec(alloc)?,
+        at: 0,
+        writes: 0,
+        fails_at,
+        syncs,
+    })
+}
+
+impl Read for Patchy {
+    fn read(&mut self, buf: &mut [u8]) -> io::Result<usize> {
+        let left = self.held.get(self.at..).unwrap_or(&[]);
+        let count = left.len().min(buf.len());
+        buf[..count].copy_from_slice(&left[..count]);
+        self.at = self.at.saturating_add(count);
+        Ok(count)
+    }
+}
+
+impl Write for Patchy {
+    fn write(&mut self, buf: &[u8]) -> io::Result<usize> {
+        self.writes = self.writes.saturating_add(1);
+        if self.writes >= self.fails_at {
+            return Err(ErrorKind::Other.into());
+        }
+        if self.writes % 2 == 1 {
+            return Err(ErrorKind::Interrupted.into());
+        }
+        let count = buf.len().min(2);
+        for octet in &buf[..count] {
+            if let Some(place) = self.held.get_mut(self.at) {
+                *place = *octet;
+            }
+            self.at = self.at.saturating_add(1);
+        }
+        Ok(count)
+    }
+
+    fn flush(&mut self) -> io::Result<()> {
+        Ok(())
+    }
+}
+
+impl Seek for Patchy {
+    fn seek(&mut self, to: SeekFrom) -> io::Result<u64> {
+        if let SeekFrom::Start(at) = to {
+            self.at = at as usize;
+        }
+        Ok(0)
+    }
+}
+
+impl OpenFile for Patchy {
+    fn metadata(&self) -> io::Result<Metadata> {
+        Err(ErrorKind::Unsupported.into())
+    }
+
+    fn set_len(&self, _size: u64) -> io::Result<()> {
+        Err(ErrorKind::Unsupported.into())
+    }
+
+    fn sync_all(&self) -> io::Result<()> {
+        if self.syncs {
+            Ok(())
+        } else {
+            Err(ErrorKind::Other.into())
+        }
+    }
+
+    fn sync_data(&self) -> io::Result<()> {
+        self.sync_all()
+    }
+}
+
+#[test]
+fn a_short_or_interrupted_write_goes_on(rt: HostRuntime) -> Result<(), Fail> {
+    let alloc = rt.alloc();
+    let mut disk = FileDisk::new(alloc, with_ten_octets(alloc, 100, true)?)?;
+    put(&mut disk, alloc, 3, b"abcde")?;
+    assert_eq!(rt; disk.read(alloc)?.as_slice(), b"012abcde89".as_slice());
+    assert_eq!(rt; disk.failures(), 0);
+    Ok(())
+}
+
+#[test]
+fn a_disk_that_failed_fails_until_it_is_opened_again(rt: HostRuntime) -> Result<(), Fail> {
+    let alloc = rt.alloc();
+    // The first two octets are written, and then a write fails; or a sync does.
+    for (fails_at, syncs) in [(3, true), (100, false)] {
+        let mut disk = FileDisk::new(alloc, with_ten_octets(alloc, fails_at, syncs)?)?;
+        assert_eq!(rt; put(&mut disk, alloc, 3, b"abcde"), Err(DiskFault::Failed));
+        assert_eq!(rt; disk.failures(), 1);
+        assert_eq!(rt; disk.write_at(0, b"a"), Err(DiskFault::Failed));
+        assert_eq!(rt; disk.sync(), Err(DiskFault::Failed));
+        assert!(rt; matches!(disk.read(alloc), Err(DiskFault::Failed)));
+        assert_eq!(rt; disk.failures(), 4);
+    }
+    Ok(())
+}

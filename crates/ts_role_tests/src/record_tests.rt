@@ -1,0 +1,352 @@
+use std::alloc::{AllocError, Global};
+use std::marker::Model;
+use std::test::Fail;
+use ts_disk::{DiskCall, MemDisk, Torn};
+use ts_record::{Codec, Fault, Record, Refused};
+use ts_synod::Fact;
+
+// A command that is any octets.
+#[derive(Drop)]
+pub(crate) struct Word {
+    octets: Vec<u8>,
+}
+
+impl Model for Word {
+    ghost use Rattle.std.specs.Prelude.{ℕ, List};
+
+    ghost Value = { List ℕ };
+
+    ghost view = { λ word. word.octets.items };
+}
+
+impl Codec for Word {
+    ghost octets = { λ word. word };
+
+    fn try_copy(&self, alloc: Global) -> Result<Self, AllocError> {
+        Ok(Word {
+            octets: self.octets.to_vec(alloc)?,
+        })
+    }
+
+    fn write(&self, out: &mut Vec<u8>) -> Result<(), AllocError> {
+        out.extend_from_slice(&self.octets)
+    }
+
+    fn read(alloc: Global, source: &[u8]) -> Result<Option<Self>, AllocError> {
+        if source.is_empty() {
+            return Ok(None);
+        }
+        Ok(Some(Word {
+            octets: source.to_vec(alloc)?,
+        }))
+    }
+
+    fn one_encoding() {}
+}
+
+const HEAD_A: [u8; 26] = [
+    0x54, 0x53, 0x52, 0x45, 0x43, 0, 0, 2, 1, 3, 0, 0, 0, 0, 0, 0, 0, 0, 0, 0, 0, 0, 0, 1, 1, 0,
+];
+
+const BODY: [u8; 10] = [0, 0, 0, 5, 1, 0, 0, 0, 1, 0];
+
+const OLD: [u8; 8] = [0x54, 0x53, 0x52, 0x45, 0x43, 0, 0, 1];
+
+fn empty(alloc: Global) -> Result<MemDisk, AllocError> {
+    MemDisk::new(alloc, Vec::new(alloc))
+}
+
+fn fault_of(alloc: Global, a: &[u8], b: &[u8]) -> Result<Option<Fault>, AllocError> {
+    let a = MemDisk::new(alloc, a.to_vec(alloc)?)?;
+    let b = MemDisk::new(alloc, b.to_vec(alloc)?)?;
+    Ok(match Record::<MemDisk, Word>::open(alloc, a, b) {
+        Ok(_) => None,
+        Err(Refused { fault, a: _, b: _ }) => Some(fault),
+    })
+}
+
+#[test]
+fn an_append_makes_four_calls(rt: HostRuntime) -> Result<(), Fail> {
+    let alloc = rt.alloc();
+    let (mut a, mut b) = (empty(alloc)?, empty(alloc)?);
+    Record::<MemDisk, Word>::format(&mut a, &mut b, 1, 3)?;
+    assert_eq!(rt; a.octets(), HEAD_A.as_slice());
+    assert_eq!(rt; b.octets().len(), 26);
+    let Ok(mut record) = Record::<MemDisk, Word>::open(alloc, a, b) else {
+        panic!(&rt; "not opened");
+    };
+    record.append(alloc, &[])?;
+    record.append(alloc, &[Fact::Used { round: 1 }])?;
+    assert_eq!(rt; record.facts().len(), 1);
+    let (a, b) = record.close();
+    let [
+        ..,
+        DiskCall::Write {
+            at: 26,
+            octets: body,
+        },
+        DiskCall::Sync,
+        DiskCall::Write {
+            at: 25,
+            octets: gate,
+        },
+        DiskCall::Sync,
+    ] = a.calls()
+    else {
+        panic!(&rt; "other calls");
+    };
+    assert_eq!(rt; body.as_slice(), BODY.as_slice());
+    assert_eq!(rt; gate.as_slice(), [1].as_slice());
+    let Ok(record) = Record::<MemDisk, Word>::open(alloc, a, b) else {
+        panic!(&rt; "not opened again");
+    };
+    assert!(rt; matches!(record.facts(), [Fact::Used { round: 1 }]));
+    Ok(())
+}
+
+#[test]
+fn every_kind_of_fact_comes_back(rt: HostRuntime) -> Result<(), Fail> {
+    let alloc = rt.alloc();
+    let (mut a, mut b) = (empty(alloc)?, empty(alloc)?);
+    Record::<MemDisk, Word>::format(&mut a, &mut b, 2, 3)?;
+    let Ok(mut record) = Record::<MemDisk, Word>::open(alloc, a, b) else {
+        panic!(&rt; "not opened");
+    };
+    let command = Word {
+        octets: [7, 8].to_vec(alloc)?,
+    };
+    record.append(
+        alloc,
+        &[
+            Fact::Promised {
+                position: 1,
+                ballot: 17,
+            },
+            Fact::Took {
+                position: 1,
+                ballot: 17,
+                command,
+            },
+        ],
+    )?;
+    let command = Word {
+        octets: [9].to_vec(alloc)?,
+    };
+    record.append(
+        alloc,
+        &[Fact::Chosen {
+            position: 1,
+            command,
+        }],
+    )?;
+    let (a, b) = record.close();
+    let Ok(record) = Record::<MemDisk, Word>::open(alloc, a, b) else {
+        panic!(&rt; "not opened again");
+    };
+    let [
+        Fact::Promised {
+            position: 1,
+            ballot: 17,
+        },
+        Fact::Took {
+            position: 1,
+            ballot: 17,
+            command: taken,
+        },
+        Fact::Chosen {
+            position: 1,
+            command: chosen,
+        },
+    ] = record.facts()
+    else {
+        panic!(&rt; "other facts");
+    };
+    assert_eq!(rt; taken.octets.as_slice(), [7, 8].as_slice());
+    assert_eq!(rt; chosen.octets.as_slice(), [9].as_slice());
+    Ok(())
+}
+
+#[test]
+fn each_bad_image_has_its_fault(rt: HostRuntime) -> Result<(), Fail> {
+    let alloc = rt.alloc();
+    let mut whole = HEAD_A[..25].to_vec(alloc)?;
+    whole.push(1)?;
+    whole.extend_from_slice(&BODY)?;
+    let mut shut = HEAD_A.to_vec(alloc)?;
+    assert_eq!(rt; shut.len(), 26);
+    shut[23] = 0;
+    shut[24] = 0;
+    assert_eq!(rt; whole.len(), 36);
+    assert_eq!(rt; fault_of(alloc, &whole, &shut)?, None);
+    assert_eq!(rt; fault_of(alloc, &[], &[])?, Some(Fault::NotFormatted));
+    assert_eq!(rt; fault_of(alloc, &whole, &whole)?, Some(Fault::NotFormatted));
+    assert_eq!(rt; fault_of(alloc, &OLD, &[])?, Some(Fault::OldVersion));
+    assert_eq!(rt;
+        fault_of(alloc, &whole[..35], &shut)?,
+        Some(Fault::Damaged(35))
+    );
+    assert_eq!(rt;
+        fault_of(alloc, &whole[..30], &shut)?,
+        Some(Fault::Damaged(30))
+    );
+    assert_eq!(rt;
+        fault_of(alloc, &whole[..29], &shut)?,
+        Some(Fault::Damaged(26))
+    );
+    assert_eq!(rt;
+        fault_of(alloc, &whole[..25], &shut)?,
+        Some(Fault::Damaged(25))
+    );
+    Ok(())
+}
+
+// Whether a crash after so many calls of an append leaves the new fact.
+const CRASHES: [(u64, Torn, bool); 15] = [
+    (0, Torn::Old, false),
+    (0, Torn::New, false),
+    (0, Torn::Byte(0xff), false),
+    (1, Torn::Old, false),
+    (1, Torn::New, false),
+    (1, Torn::Byte(0xff), false),
+    (2, Torn::Old, false),
+    (2, Torn::New, false),
+    (2, Torn::Byte(0xff), false),
+    (3, Torn::Old, false),
+    (3, Torn::New, true),
+    (3, Torn::Byte(0xff), true),
+    (4, Torn::Old, true),
+    (4, Torn::New, true),
+    (4, Torn::Byte(0xff), true),
+];
+
+// What a crash after so many calls of an append leaves, whether the append failed, and whether it is broken then.
+fn stopped(alloc: Global, calls: u64, torn: Torn) -> Result<(usize, Option<Fault>), Fail> {
+    let (mut a, mut b) = (empty(alloc)?, empty(alloc)?);
+    Record::<MemDisk, Word>::format(&mut a, &mut b, 1, 3)?;
+    a.set_fuse(calls.saturating_add(2));
+    let Ok(mut record) = Record::<MemDisk, Word>::open(alloc, a, b) else {
+        return Ok((99, None));
+    };
+    let answer = record.append(alloc, &[Fact::Used { round: 1 }]);
+    let again = record.append(alloc, &[Fact::Used { round: 2 }]);
+    let (a, b) = record.close();
+    let Ok(record) = Record::<MemDisk, Word>::open(alloc, a.crash(torn)?, b.crash(torn)?) else {
+        return Ok((98, None));
+    };
+    let fault = match (answer, again) {
+        (Err(Fault::DiskFailed), Err(fault)) => Some(fault),
+        (Ok(()), Err(Fault::DiskFailed)) => None,
+        _ => Some(Fault::Memory),
+    };
+    Ok((record.facts().len(), fault))
+}
+
+#[test]
+fn a_crash_leaves_the_facts_before_or_after(rt: HostRuntime) -> Result<(), Fail> {
+    let alloc = rt.alloc();
+    for (calls, torn, kept) in CRASHES {
+        let fault = if calls < 4 { Some(Fault::Broken) } else { None };
+        assert_eq!(rt;
+            stopped(alloc, calls, torn)?,
+            (usize::from(kept), fault),
+            "{calls}"
+        );
+    }
+    Ok(())
+}
+
+// A record of four bodies.
+fn with_four_bodies(alloc: Global) -> Result<Option<(MemDisk, MemDisk)>, Fail> {
+    let (mut a, mut b) = (empty(alloc)?, empty(alloc)?);
+    Record::<MemDisk, Word>::format(&mut a, &mut b, 1, 3)?;
+    let Ok(mut record) = Record::<MemDisk, Word>::open(alloc, a, b) else {
+        return Ok(None);
+    };
+    record.append(alloc, &[Fact::Used { round: 1 }])?;
+    record.append(
+        alloc,
+        &[Fact::Promised {
+            position: 1,
+            ballot: 17,
+        }],
+    )?;
+    let command = Word {
+        octets: [7, 8].to_vec(alloc)?,
+    };
+    record.append(
+        alloc,
+        &[Fact::Took {
+            position: 1,
+            ballot: 17,
+            command,
+        }],
+    )?;
+    let command = Word {
+        octets: [9].to_vec(alloc)?,
+    };
+    record.append(
+        alloc,
+        &[Fact::Chosen {
+            position: 1,
+            command,
+        }],
+    )?;
+    Ok(Some(record.close()))
+}
+
+fn is_named(fault: Option<Fault>) -> bool {
+    matches!(
+        fault,
+        None | Some(Fault::NotFormatted) | Some(Fault::Damaged(_))
+    )
+}
+
+// Whether opening answers facts or a fault that names the image, with each of these octets at a place of one of the disks.
+fn answers(
+    alloc: Global,
+    disks: (&[u8], &[u8]),
+    second: bool,
+    at: usize,
+) -> Result<bool, AllocError> {
+    let (a, b) = disks;
+    let mut all = true;
+    for octet in [0, 0x7f, 0x80, 0xff] {
+        let mut image = if second { b } else { a }.to_vec(alloc)?;
+        if let Some(place) = image.get_mut(at) {
+            *place = octet;
+        }
+        let fault = if second {
+            fault_of(alloc, a, &image)?
+        } else {
+            fault_of(alloc, &image, b)?
+        };
+        all &= is_named(fault);
+    }
+    Ok(all)
+}
+
+#[test]
+fn any_octet_may_be_another_and_any_end_missing(rt: HostRuntime) -> Result<(), Fail> {
+    let alloc = rt.alloc();
+    let Some((a, b)) = with_four_bodies(alloc)? else {
+        panic!(&rt; "not opened");
+    };
+    let (whole, shut) = (a.octets(), b.octets());
+    assert_eq!(rt; fault_of(alloc, whole, shut)?, None);
+    for at in 0..whole.len() {
+        let cut = fault_of(alloc, &whole[..at], shut)?;
+        let is_refused = cut.is_some() && is_named(cut);
+        assert!(rt;
+            is_refused && answers(alloc, (whole, shut), false, at)?,
+            "{at}"
+        );
+    }
+    for at in 0..shut.len() {
+        let cut = fault_of(alloc, whole, &shut[..at])?;
+        assert!(rt;
+            is_named(cut) && answers(alloc, (whole, shut), true, at)?,
+            "{at}"
+        );
+    }
+    Ok(())
+}

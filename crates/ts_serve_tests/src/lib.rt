@@ -1,0 +1,11 @@
+//! Tests of servers, over the public calls of their crate.
+//!
+//! In a crate of their own they are proved alone: a crate with tests is proved once more with them.
+#![tactic(auto)]
+
+#[cfg(test)]
+mod serve_tests;
+#[cfg(test)]
+mod test_ids;
+#[cfg(test)]
+mod test_machine;

@@ -1,0 +1,448 @@
+//! What no clause says: the octets of the formats, streams that fail, and what is carried.
+
+ghost use Rattle.std.specs.Prelude.{◌≤◌, ◌<◌, All, IfOk, IfSome, length};
+ghost use Rattle.ts_disk.specs.Memory.{state_of};
+ghost use Rattle.ts_node.specs.Node.{IsSound};
+ghost use Rattle.ts_store.specs.Octets.{octets_of};
+
+use crate::test_machine::Applies;
+use std::alloc::{AllocError, Global};
+use std::io;
+use std::io::{ErrorKind, Read, Write};
+use std::net::{Shutdown, TcpListener, TcpStream};
+use std::test::Fail;
+use ts_disk::MemDisk;
+use ts_node::{Machine, Node};
+use ts_record::Record;
+use ts_serve::{Peer, READ_LIMIT, ServeFault, Server, ServerPeer, TcpPeer, carry, listen, serve};
+use ts_store::Command;
+
+type Served = Server<MemDisk, Applies>;
+
+const STATUS: &[u8] = b"\x00\x00\x00\x02\x02\x15";
+
+const PREFIX_0: &[u8] = b"\x00\x00\x00\x06\x02\x27\x00\x00\x00\x00";
+
+const TAKE: &[u8] = b"\x00\x00\x00\x02\x02\x12";
+
+/// The Noop of the id 01.
+const SUBMIT: &[u8] =
+    b"\x00\x00\x00\x17\x02\x10\x00\x00\x00\x11\x00\x00\x00\x00\x00\x00\x00\x00\x00\x00\x00\x00\x00\x00\x00\x01\x06";
+
+const OUTCOME: &[u8] =
+    b"\x00\x00\x00\x12\x02\x13\x00\x00\x00\x00\x00\x00\x00\x00\x00\x00\x00\x00\x00\x00\x00\x01";
+
+const STARTED: &[u8] = b"\x00\x00\x00\x0e\x02\x21\x00\x00\x00\x01\x00\x00\x00\x00\x00\x00\x00\x11";
+
+const SETTLED: &[u8] = b"\x00\x00\x00\x07\x02\x22\x00\x00\x00\x01\x00";
+
+const UNKNOWN: &[u8] = b"\x00\x00\x00\x02\x02\x24";
+
+/// A question about the search for a leaf of no octets, and one over 5 commands.
+const QUESTION: &[u8] =
+    b"\x00\x00\x00\x1a\x02\x11\x00\x00\x00\x14\x02\x00\x00\x00\x00\x00\x00\x00\x00\x00\x00\x00\x00\x00\x00\x01\x00\x00\x00\x00";
+
+const QUESTION_AT_5: &[u8] =
+    b"\x00\x00\x00\x1e\x02\x11\x00\x00\x00\x18\x02\x00\x00\x00\x00\x00\x00\x00\x00\x10\x00\x00\x00\x05\x00\x00\x00\x00\x00\x01\x00\x00\x00\x00";
+
+/// Streams in turn to node 1 of 1, and what each is answered.
+const ROWS: &[(&[u8], &[u8])] = &[
+    (b"", b""),
+    (STATUS, b"\x00\x00\x00\x06\x02\x27\x00\x00\x00\x00"),
+    (SUBMIT, STARTED),
+    (OUTCOME, UNKNOWN),
+    (
+        TAKE,
+        b"\x00\x00\x00\x10\x02\x01\x01\x01\x00\x00\x00\x01\x00\x00\x00\x00\x00\x00\x00\x11\x00\x00\x00\x06\x02\x20\x00\x00\x00\x01",
+    ),
+    (TAKE, b"\x00\x00\x00\x06\x02\x20\x00\x00\x00\x00"),
+    // Catch up: there is no other node to ask.
+    (
+        b"\x00\x00\x00\x02\x02\x14",
+        b"\x00\x00\x00\x06\x02\x20\x00\x00\x00\x00",
+    ),
+    // A Prepare for node 2 changes nothing.
+    (
+        b"\x00\x00\x00\x10\x02\x01\x01\x02\x00\x00\x00\x01\x00\x00\x00\x00\x00\x00\x00\x11",
+        b"\x00\x00\x00\x06\x02\x20\x00\x00\x00\x00",
+    ),
+    // No anchor is known after 0 commands, and 5 are not known yet.
+    (QUESTION, b"\x00\x00\x00\x07\x02\x23\x00\x00\x00\x00\x08"),
+    (
+        QUESTION_AT_5,
+        b"\x00\x00\x00\x0b\x02\x23\x00\x00\x00\x05\x06\x00\x00\x00\x00",
+    ),
+    // A rewrite of one fact: four steps.
+    (
+        b"\x00\x00\x00\x02\x02\x16\x00\x00\x00\x02\x02\x16\x00\x00\x00\x02\x02\x16\x00\x00\x00\x02\x02\x16",
+        b"\x00\x00\x00\x06\x02\x20\x00\x00\x00\x00\x00\x00\x00\x06\x02\x20\x00\x00\x00\x00\x00\x00\x00\x06\x02\x20\x00\x00\x00\x00\x00\x00\x00\x06\x02\x20\x00\x00\x00\x01",
+    ),
+];
+
+/// Streams with a fault in a frame's place, which are answered up to it, and the fault's code.
+const FAULTS: &[(&[u8], u8)] = &[
+    (b"\x00\x80\x00\x01", 1),
+    (b"\x00\x00\x00\x02\x03\x15", 2),
+    (b"\x00\x00\x00\x02\x01\x15", 2),
+    // An answer, well formed; one that is not; a frame of a kind that there isn't.
+    (b"\x00\x00\x00\x07\x02\x23\x00\x00\x00\x01\x04", 3),
+    (b"\x00\x00\x00\x07\x02\x23\x00\x00\x00\x01\x0a", 4),
+    (b"\x00\x00\x00\x02\x02\x17", 3),
+    (b"\x00\x00\x00\x03\x02\x15\x00", 5),
+];
+
+/// A server of a node on new disks, of which the first lets so many calls pass.
+fn server(alloc: Global, me: u8, nodes: u8, passing: u64) -> Result<Option<Served>, AllocError>
+    requires from { 1 ≤ me }
+    requires to { me ≤ nodes }
+    requires few { nodes ≤ 9 }
+    ensures { IfOk result (λ found. IfSome found (λ server. IsSound state_of octets_of ⟦<Applies as Machine<Command>>⟧.commands server.node)) }
+{
+    let mut a = MemDisk::new(alloc, Vec::new(alloc))?;
+    let mut b = MemDisk::new(alloc, Vec::new(alloc))?;
+    if Record::<MemDisk, Command>::format(&mut a, &mut b, me, nodes).is_err() {
+        return Ok(None);
+    }
+    a.set_fuse(passing);
+    match Node::open(alloc, a, b, Applies::new(alloc)) {
+        Ok(node) => match Server::new(alloc, node) {
+            Ok(server) => Ok(Some(server)),
+            Err(_) => Ok(None),
+        },
+        Err(_) => Ok(None),
+    }
+}
+
+/// What a server answers to a stream, and how it ends.
+fn answers(alloc: Global, server: &mut Served, stream: &[u8]) -> (Vec<u8>, Result<(), ServeFault>)
+    requires { IsSound state_of octets_of ⟦<Applies as Machine<Command>>⟧.commands server.old.node }
+    ensures { IsSound state_of octets_of ⟦<Applies as Machine<Command>>⟧.commands server.new.node }
+{
+    let mut reader = stream;
+    let mut writer = Vec::new(alloc);
+    let end = serve(server, &mut reader, &mut writer);
+    (writer, end)
+}
+
+/// Whether each stream in turn is answered so, without a fault.
+fn rows_hold(alloc: Global, server: &mut Served, rows: &[(&[u8], &[u8])]) -> bool
+    requires { IsSound state_of octets_of ⟦<Applies as Machine<Command>>⟧.commands server.old.node }
+{
+    for (stream, expected) in rows {
+        let (said, end) = answers(alloc, server, stream);
+        if said.as_slice() != *expected || end != Ok(()) {
+            return false;
+        }
+    }
+    true
+}
+
+#[test]
+fn streams_are_answered(rt: HostRuntime) -> Result<(), Fail> {
+    let alloc = rt.alloc();
+    let Some(mut server) = server(alloc, 1, 1, u64::MAX)? else {
+        panic!(&rt; "no server");
+    };
+    assert!(rt; rows_hold(alloc, &mut server, ROWS));
+    Ok(())
+}
+
+/// How a stream ends that begins with Status.
+fn end_behind_status(
+    alloc: Global,
+    stream: &[u8],
+) -> Result<(Vec<u8>, Option<ServeFault>), AllocError> {
+    let mut whole = Vec::from_slice(alloc, STATUS)?;
+    whole.extend_from_slice(stream)?;
+    match server(alloc, 1, 1, u64::MAX)? {
+        Some(mut server) => {
+            let (said, end) = answers(alloc, &mut server, &whole);
+            Ok((said, end.err()))
+        }
+        None => Err(AllocError),
+    }
+}
+
+#[test]
+fn a_fault_is_answered_last(rt: HostRuntime) -> Result<(), Fail> {
+    let alloc = rt.alloc();
+    for (stream, code) in FAULTS {
+        let (said, end) = end_behind_status(alloc, stream)?;
+        let mut expected = Vec::from_slice(alloc, PREFIX_0)?;
+        expected.extend_from_slice(b"\x00\x00\x00\x03\x02\x26")?;
+        expected.push(*code)?;
+        assert_eq!(rt; said.as_slice(), expected.as_slice());
+        assert!(rt; matches!(end, Some(ServeFault::Frame(fault)) if fault.code() == *code));
+    }
+    Ok(())
+}
+
+#[test]
+fn a_stream_may_end_anywhere(rt: HostRuntime) -> Result<(), Fail> {
+    let alloc = rt.alloc();
+    for cut in 0..=SUBMIT.len() {
+        let (said, end) = end_behind_status(alloc, &SUBMIT[..cut])?;
+        let is_whole = cut == 0 || cut == SUBMIT.len();
+        assert_eq!(rt;
+            end,
+            if is_whole {
+                None
+            } else {
+                Some(ServeFault::Cut)
+            }
+        );
+        assert!(rt; said.starts_with(PREFIX_0));
+        assert_eq!(rt; said.len(), if cut == SUBMIT.len() { 28 } else { 10 });
+    }
+    Ok(())
+}
+
+/// Takes so many octets, one a write, each after an interruption, and then fails.
+#[derive(Drop)]
+struct Narrow {
+    taken: Vec<u8>,
+    room: usize,
+    is_interrupted: bool,
+}
+
+impl Write for Narrow {
+    fn write(&mut self, buf: &[u8]) -> io::Result<usize> {
+        self.is_interrupted = !self.is_interrupted;
+        if self.is_interrupted {
+            return Err(ErrorKind::Interrupted.into());
+        }
+        if buf.is_empty() || self.taken.len() >= self.room {
+            return Err(ErrorKind::Other.into());
+        }
+        self.taken.push(buf[0])?;
+        Ok(1)
+    }
+
+    fn flush(&mut self) -> io::Result<()> {
+        Ok(())
+    }
+}
+
+/// Gives octets one a read, each after an interruption, and then fails.
+#[derive(Drop)]
+struct Failing<'a> {
+    octets: &'a [u8],
+    is_interrupted: bool,
+}
+
+impl Read for Failing<'_> {
+    fn read(&mut self, buf: &mut [u8]) -> io::Result<usize> {
+        self.is_interrupted = !self.is_interrupted;
+        if self.is_interrupted {
+            return Err(ErrorKind::Interrupted.into());
+        }
+        if buf.is_empty() || self.octets.is_empty() {
+            return Err(ErrorKind::Other.into());
+        }
+        buf[0] = self.octets[0];
+        self.octets = &self.octets[1..];
+        Ok(1)
+    }
+}
+
+/// What a writer with so much room has after Submit and Take, and how that ends; where so many octets are read before a read fails.
+fn narrowed(
+    alloc: Global,
+    room: usize,
+    octets: &[u8],
+) -> Result<(Vec<u8>, Option<ServeFault>), AllocError> {
+    let mut writer = Narrow {
+        taken: Vec::new(alloc),
+        room,
+        is_interrupted: false,
+    };
+    let mut reader = Failing {
+        octets,
+        is_interrupted: false,
+    };
+    match server(alloc, 1, 1, u64::MAX)? {
+        Some(mut server) => {
+            let end = serve(&mut server, &mut reader, &mut writer).err();
+            let Narrow { taken, .. } = writer;
+            Ok((taken, end))
+        }
+        None => Err(AllocError),
+    }
+}
+
+#[test]
+fn writers_and_readers_fail_at_each_octet(rt: HostRuntime) -> Result<(), Fail> {
+    let alloc = rt.alloc();
+    let mut stream = Vec::from_slice(alloc, SUBMIT)?;
+    stream.extend_from_slice(TAKE)?;
+    let (all, end) = narrowed(alloc, usize::MAX, &stream)?;
+    assert_eq!(rt; (all.len(), end), (48, Some(ServeFault::Read)));
+    assert!(rt; all.starts_with(STARTED));
+    for room in 0..all.len() {
+        let (said, end) = narrowed(alloc, room, &stream)?;
+        assert_eq!(rt; end, Some(ServeFault::Write));
+        assert_eq!(rt; said.as_slice(), &all[..room]);
+    }
+    for cut in 0..stream.len() {
+        let (said, end) = narrowed(alloc, usize::MAX, &stream[..cut])?;
+        assert_eq!(rt; end, Some(ServeFault::Read));
+        assert_eq!(rt; said.len(), if cut < SUBMIT.len() { 0 } else { 18 });
+    }
+    Ok(())
+}
+
+/// Gives Status again and again, one octet a read.
+#[derive(Drop)]
+struct Endless {
+    at: usize,
+}
+
+impl Read for Endless {
+    fn read(&mut self, buf: &mut [u8]) -> io::Result<usize> {
+        if buf.is_empty() || self.at >= STATUS.len() {
+            return Ok(0);
+        }
+        buf[0] = STATUS[self.at];
+        self.at = (self.at + 1) % STATUS.len();
+        Ok(1)
+    }
+}
+
+/// Counts what it is given.
+#[derive(Drop)]
+struct Counts {
+    octets: u64,
+}
+
+impl Write for Counts {
+    fn write(&mut self, buf: &[u8]) -> io::Result<usize> {
+        self.octets = self.octets.saturating_add(buf.len() as u64);
+        Ok(buf.len())
+    }
+
+    fn flush(&mut self) -> io::Result<()> {
+        Ok(())
+    }
+}
+
+/// How many octets are answered of an endless stream, and how that ends.
+fn endless(alloc: Global) -> Result<(u64, Option<ServeFault>), AllocError> {
+    let mut writer = Counts { octets: 0 };
+    match server(alloc, 1, 1, u64::MAX)? {
+        Some(mut server) => {
+            let end = serve(&mut server, &mut Endless { at: 0 }, &mut writer).err();
+            Ok((writer.octets, end))
+        }
+        None => Err(AllocError),
+    }
+}
+
+#[test]
+fn reads_are_limited(rt: HostRuntime) -> Result<(), Fail> {
+    assert_eq!(rt; READ_LIMIT, 16_777_216);
+    // A Status has six octets, and a Prefix ten: 2,796,202 answers.
+    assert_eq!(rt;
+        endless(rt.alloc())?,
+        (27_962_020, Some(ServeFault::ReadLimit))
+    );
+    Ok(())
+}
+
+#[test]
+fn a_failed_disk_is_answered(rt: HostRuntime) -> Result<(), Fail> {
+    let alloc = rt.alloc();
+    let Some(mut server) = server(alloc, 1, 1, 2)? else {
+        panic!(&rt; "no server");
+    };
+    let (said, end) = answers(alloc, &mut server, SUBMIT);
+    assert_eq!(rt; said.as_slice(), b"\x00\x00\x00\x03\x02\x25\x02".as_slice());
+    assert_eq!(rt; end, Ok(()));
+    let (said, end) = answers(alloc, &mut server, STATUS);
+    assert_eq!(rt; said.as_slice(), b"\x00\x00\x00\x03\x02\x25\x03".as_slice());
+    assert_eq!(rt; end, Ok(()));
+    let _node = server.close();
+    Ok(())
+}
+
+fn peer(alloc: Global, me: u8, nodes: u8) -> Result<ServerPeer<MemDisk, Applies>, AllocError>
+    requires from { 1 ≤ me }
+    requires to { me ≤ nodes }
+    requires few { nodes ≤ 9 }
+    ensures { IfOk result (λ peer. IsSound state_of octets_of ⟦<Applies as Machine<Command>>⟧.commands peer.server.node) }
+{
+    match server(alloc, me, nodes, u64::MAX)? {
+        Some(server) => Ok(ServerPeer::new(alloc, server)),
+        None => Err(AllocError),
+    }
+}
+
+/// What the peer at a place answers, or nothing where it fails.
+fn asked<P: Peer>(alloc: Global, peers: &mut [P], place: usize, stream: &[u8]) -> Vec<u8>
+    requires ready { All P.is_ready peers.old }
+    requires within { place < length peers.old }
+    ensures { All P.is_ready peers.new }
+{
+    match peers[place].exchange(stream) {
+        Ok(answers) => answers,
+        Err(_) => Vec::new(alloc),
+    }
+}
+
+#[test]
+fn one_node_settles_in_four_rounds(rt: HostRuntime) -> Result<(), Fail> {
+    let alloc = rt.alloc();
+    for (rounds, outcome) in [(3, UNKNOWN), (4, SETTLED)] {
+        let mut peers = [peer(alloc, 1, 1)?];
+        assert_eq!(rt; asked(alloc, &mut peers, 0, SUBMIT).as_slice(), STARTED);
+        assert_eq!(rt; carry(alloc, &mut peers, rounds)?, u64::from(rounds));
+        assert_eq!(rt; asked(alloc, &mut peers, 0, OUTCOME).as_slice(), outcome);
+    }
+    Ok(())
+}
+
+#[test]
+fn three_nodes_settle(rt: HostRuntime) -> Result<(), Fail> {
+    let alloc = rt.alloc();
+    let mut peers = [peer(alloc, 1, 3)?, peer(alloc, 2, 3)?, peer(alloc, 3, 3)?];
+    assert_eq!(rt; asked(alloc, &mut peers, 0, SUBMIT).as_slice(), STARTED);
+    // Three of Prepare, three of Promise, three of Accept, and three of Accepted from each.
+    assert_eq!(rt; carry(alloc, &mut peers, 5)?, 18);
+    assert_eq!(rt; asked(alloc, &mut peers, 1, OUTCOME).as_slice(), SETTLED);
+    assert_eq!(rt; asked(alloc, &mut peers, 2, OUTCOME).as_slice(), SETTLED);
+    Ok(())
+}
+
+#[test]
+fn a_message_without_a_peer_does_not_count(rt: HostRuntime) -> Result<(), Fail> {
+    let alloc = rt.alloc();
+    let mut peers = [peer(alloc, 1, 3)?];
+    assert_eq!(rt; asked(alloc, &mut peers, 0, SUBMIT).as_slice(), STARTED);
+    // Prepare and Promise of node 1 with itself; no majority answers.
+    assert_eq!(rt; carry(alloc, &mut peers, 5)?, 2);
+    Ok(())
+}
+
+#[test]
+fn a_connection_is_served(rt: HostRuntime) -> Result<(), Fail> {
+    let alloc = rt.alloc();
+    let listener = TcpListener::bind(&rt, "127.0.0.1:0")?;
+    let address = listener.local_addr()?;
+    let mut stream = TcpStream::connect(&rt, address)?;
+    stream.write_all(STATUS)?;
+    stream.shutdown(Shutdown::Write)?;
+    let mut server = peer(alloc, 1, 1)?.close();
+    assert_eq!(rt; listen(&mut server, &listener, 1), Ok(()));
+    let mut answer = Vec::new(alloc);
+    stream.read_to_end(&mut answer)?;
+    assert_eq!(rt; answer.as_slice(), PREFIX_0);
+    Ok(())
+}
+
+#[test]
+fn a_connection_that_is_not_made_is_write(rt: HostRuntime) -> Result<(), Fail> {
+    let alloc = rt.alloc();
+    let address = String::from_str(alloc, "127.0.0.1:1")?;
+    let mut peer = TcpPeer::new(alloc, &rt, address);
+    assert!(rt; matches!(peer.exchange(STATUS), Err(ServeFault::Write)));
+    Ok(())
+}

@@ -1,0 +1,155 @@
+//! Command lines with their tasks, or what refuses them.
+
+use std::alloc::{AllocError, Global};
+use std::test::Fail;
+use ts_cli::{CommandFault, address_of, task_of};
+
+/// Words after the program's name, and what they come to.
+const LINES: &[(&str, &str)] = &[
+    ("", "Wrong"),
+    ("lab", "Lab"),
+    ("lab lab", "Wrong"),
+    ("lab --script", "Wrong"),
+    ("labs", "Wrong"),
+    ("--lab", "Wrong"),
+    ("help", "Wrong"),
+    ("--help", "Help"),
+    ("lab -h", "Help"),
+    ("command --help", "Help"),
+    ("question chain --help", "Help"),
+    (
+        "format r --id 1 --nodes 3",
+        "Format { file: \"r\", id: 1, nodes: 3 }",
+    ),
+    (
+        "format r --id 9 --nodes 9",
+        "Format { file: \"r\", id: 9, nodes: 9 }",
+    ),
+    ("format r --id 4 --nodes 3", "Value(Node)"),
+    ("format r --id 0 --nodes 3", "Value(Node)"),
+    ("format r --id 1 --nodes 10", "Value(Nodes)"),
+    ("format r --id 01 --nodes 3", "Value(Node)"),
+    ("format r --id 1", "Wrong"),
+    (
+        "serve r --listen a:0",
+        "Serve { file: \"r\", listen: \"a:0\", table: None, connections: 1000000 }",
+    ),
+    (
+        "serve r --listen a:65535 --table t --connections 1",
+        "Serve { file: \"r\", listen: \"a:65535\", table: Some(\"t\"), connections: 1 }",
+    ),
+    ("serve r --listen a:65536", "Value(Address)"),
+    ("serve r --listen :1", "Value(Address)"),
+    ("serve r --listen a", "Value(Address)"),
+    ("serve r --listen a:1 --connections 0", "Value(Connections)"),
+    ("submit a:1 f", "Submit { address: \"a:1\", file: \"f\" }"),
+    ("ask a:1 f", "Ask { address: \"a:1\", file: \"f\" }"),
+    ("ask a:1", "Wrong"),
+    ("ask a f", "Value(Address)"),
+    (
+        "carry a:1 b:2 --rounds 1000000",
+        "Carry { addresses: [\"a:1\", \"b:2\"], rounds: 1000000 }",
+    ),
+    ("carry --rounds 1", "Wrong"),
+    ("carry a:1 b --rounds 1", "Value(Address)"),
+    ("carry a:1 --rounds 1000001", "Value(Rounds)"),
+    (
+        "carry 1:1 2:2 3:3 4:4 5:5 6:6 7:7 8:8 9:9 10:10 --rounds 1",
+        "Value(Addresses)",
+    ),
+    ("status a:1", "Status { address: \"a:1\" }"),
+    ("catchup a:1", "CatchUp { address: \"a:1\" }"),
+    ("compact a", "Value(Address)"),
+    ("id f", "Id { file: \"f\" }"),
+    ("show f", "Show { file: \"f\" }"),
+    ("command", "Wrong"),
+    (
+        "command add f",
+        "Command(CommandWords { id: None, change: Add { file: \"f\" } })",
+    ),
+    (
+        "command load f",
+        "Command(CommandWords { id: None, change: Load { file: \"f\" } })",
+    ),
+    (
+        "command noop",
+        "Command(CommandWords { id: None, change: Noop })",
+    ),
+    ("command --id 00 noop", "Value(CommandId)"),
+    ("command withdraw 07", "Value(Digest)"),
+    (
+        "command drop 070707070707070707070707070707070707070707070707070707070707070G",
+        "Value(Digest)",
+    ),
+    (
+        "command drop 070707070707070707070707070707070707070707070707070707070707070A",
+        "Value(Digest)",
+    ),
+    (
+        "command purposes 0707070707070707070707070707070707070707070707070707070707070707 1.2.3 1.2.3",
+        "Value(Purposes)",
+    ),
+    (
+        "command purposes 0707070707070707070707070707070707070707070707070707070707070707 1",
+        "Value(Oid)",
+    ),
+    (
+        "question chain --anchor 0707070707070707070707070707070707070707070707070707070707070707 --at 20260601000000Z",
+        "Wrong",
+    ),
+    (
+        "question chain --anchor 0707070707070707070707070707070707070707070707070707070707070707 --at 20260631000000Z c",
+        "Value(Time)",
+    ),
+    (
+        "question search --at 20260601000000Z --k 1000001 c",
+        "Value(Position)",
+    ),
+    (
+        "question search --at 20260601000000Z --policy 1 c",
+        "Value(Oid)",
+    ),
+    (
+        "question chain --anchor 0707070707070707070707070707070707070707070707070707070707070707 --at 20260601000000Z c c c c c c c c c c c c c c c c c",
+        "Value(Certificates)",
+    ),
+    (
+        "question search --at 20260601000000Z c c c c c c c c c c c c c c c c c c c c c c c c c c c c c c c c c c",
+        "Value(Certificates)",
+    ),
+    (
+        "question search --at 20260601000000Z --policy 1.2 --policy 1.2 --policy 1.2 --policy 1.2 --policy 1.2 --policy 1.2 --policy 1.2 --policy 1.2 --policy 1.2 --policy 1.2 --policy 1.2 --policy 1.2 --policy 1.2 --policy 1.2 --policy 1.2 --policy 1.2 --policy 1.2 --policy 1.2 --policy 1.2 --policy 1.2 --policy 1.2 --policy 1.2 --policy 1.2 --policy 1.2 --policy 1.2 --policy 1.2 --policy 1.2 --policy 1.2 --policy 1.2 --policy 1.2 --policy 1.2 --policy 1.2 --policy 1.2 c",
+        "Value(Policies)",
+    ),
+];
+
+/// The task that a line of words asks for, or what refuses it.
+fn shown(alloc: Global, line: &str) -> Result<String, AllocError> {
+    let mut words: Vec<&str> = Vec::new(alloc);
+    words.push("trustd")?;
+    for word in line.split_ascii_whitespace() {
+        words.push(word)?;
+    }
+    match task_of(alloc, words.as_slice()) {
+        Ok(task) => format!(in alloc; "{task:?}"),
+        Err(CommandFault::Words(error)) if error.use_stderr() => format!(in alloc; "Wrong"),
+        Err(CommandFault::Words(_)) => format!(in alloc; "Help"),
+        Err(fault) => format!(in alloc; "{fault:?}"),
+    }
+}
+
+#[test]
+fn lines_have_their_tasks(rt: HostRuntime) -> Result<(), Fail> {
+    for (line, wanted) in LINES {
+        assert_eq!(rt; shown(rt.alloc(), line)?.as_str(), *wanted, "{line}");
+    }
+    Ok(())
+}
+
+#[test]
+fn an_address_is_a_host_and_a_port(rt: HostRuntime) {
+    assert!(rt; address_of("localhost:8080") == Some(("localhost", 8080)));
+    assert!(rt; address_of("a:b:1") == None);
+    assert!(rt; address_of("a:") == None);
+    assert!(rt; address_of("a:00") == None);
+}
