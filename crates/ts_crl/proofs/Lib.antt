@@ -15,3 +15,4 @@ pub mod Judging
 pub mod OneEncoding
 mod Lending
 mod Magnitudes
+pub mod StatedValues
