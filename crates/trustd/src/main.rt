@@ -4,25 +4,12 @@
 ghost use Rattle.std.specs.Prelude.{◌≡◌, ◌≤◌, OnErr, OnOk};
 ghost use Rattle.ts_cli.specs.Says.{IsInRange};
 
-mod fault;
-#[cfg(test)]
-mod file_tests;
-mod files;
-mod making;
-mod programs;
-#[cfg(test)]
-mod request_tests;
-mod requests;
-mod running;
-mod upkeep;
-
-use crate::fault::Fault;
-use crate::running::run;
 use std::io;
 use std::io::Input;
 use std::process::ExitCode;
 use ts_cli::{Task, report, task_of_process};
 use ts_lab::lab;
+use ts_tasks::{Fault, run};
 
 /// Ends with the status of the task that the command line asks for, and with 2 for a wrong command line.
 fn main(rt: HostRuntime) -> ExitCode {

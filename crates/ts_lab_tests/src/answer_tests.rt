@@ -86,47 +86,69 @@ fn tag(answers: &Answers<DigestCheck>, k: u32, question: &Question) -> Result<u8
     })
 }
 
+/// The tags of the replies after so many commands each, and 0 for each where there is no store.
+fn tags(alloc: Global, ks: [u32; 4], question: &Question) -> Result<[u8; 4], AllocError> {
+    let mut found = [0; 4];
+    if let Some(answers) = store(alloc)? {
+        for place in 0..4 {
+            found[place] = tag(&answers, ks[place], question)?;
+        }
+    }
+    Ok(found)
+}
+
+/// The tags for a chain of this certificate, and 0 for each where there is no question.
+fn judged(alloc: Global, octets: &[u8], ks: [u32; 4]) -> Result<[u8; 4], AllocError> {
+    match chain(alloc, octets)? {
+        Some(question) => tags(alloc, ks, &question),
+        None => Ok([0; 4]),
+    }
+}
+
 #[test]
 fn a_chain_is_judged_at_every_position(rt: HostRuntime) -> Result<(), Fail> {
-    let alloc = rt.alloc();
-    let answers = store(alloc)?.ok_or("no store")?;
-    let question = chain(alloc, L)?.ok_or("no question")?;
-    for (k, expected) in [(0, 8), (1, 1), (2, 8), (3, 6)] {
-        let found = tag(&answers, k, &question)?;
-        assert_eq!(rt; found, expected);
-    }
-    let cut = chain(alloc, &L[..L.len() - 1])?.ok_or("no question")?;
-    let found = tag(&answers, 1, &cut)?;
-    assert_eq!(rt; found, 7);
+    let found = judged(rt.alloc(), L, [0, 1, 2, 3])?;
+    assert_eq!(rt; found, [8, 1, 8, 6]);
+    let found = judged(rt.alloc(), &L[..L.len() - 1], [1, 1, 1, 1])?;
+    assert_eq!(rt; found, [7, 7, 7, 7]);
     Ok(())
+}
+
+/// What became of the ids 2 and 3 in the store, and how many commands it took.
+fn settled(alloc: Global) -> Result<Option<(Option<(u32, Outcome)>, bool, u32)>, AllocError> {
+    let Some(answers) = store(alloc)? else {
+        return Ok(None);
+    };
+    let second = answers
+        .settled(&id(2))
+        .map(|first| (first.position, first.outcome));
+    let is_third_known = answers.settled(&id(3)).is_some();
+    let prefix = answers.prefix();
+    let _check = answers.close();
+    Ok(Some((second, is_third_known, prefix)))
 }
 
 #[test]
 fn an_id_settles_at_its_first_position(rt: HostRuntime) -> Result<(), Fail> {
-    let answers = store(rt.alloc())?.ok_or("no store")?;
-    let second = answers
-        .settled(&id(2))
-        .map(|first| (first.position, first.outcome));
-    assert_eq!(rt; second, Some((2, Outcome::Applied)));
-    assert!(rt; answers.settled(&id(3)).is_none());
-    assert_eq!(rt; answers.prefix(), 2);
-    let _check = answers.close();
+    let found = settled(rt.alloc())?;
+    assert_eq!(rt; found, Some((Some((2, Outcome::Applied)), false, 2)));
     Ok(())
+}
+
+/// The tags for a search among this certificate, which is the leaf, and 0 for each where there is no question.
+fn searched(alloc: Global, octets: &[u8], ks: [u32; 4]) -> Result<[u8; 4], AllocError> {
+    let mut certificates = Vec::new(alloc);
+    certificates.push(octets.to_vec(alloc)?)?;
+    match Question::search(terms(alloc), certificates) {
+        Ok(question) => tags(alloc, ks, &question),
+        Err(_) => Ok([0; 4]),
+    }
 }
 
 #[test]
 fn a_search_finds_the_leaf(rt: HostRuntime) -> Result<(), Fail> {
-    let alloc = rt.alloc();
-    let answers = store(alloc)?.ok_or("no store")?;
-    let mut certificates = Vec::new(alloc);
-    certificates.push(L.to_vec(alloc)?)?;
-    let question = Question::search(terms(alloc), certificates)
-        .ok()
-        .ok_or("no question")?;
-    for (k, expected) in [(1, 3), (2, 4)] {
-        let found = tag(&answers, k, &question)?;
-        assert_eq!(rt; found, expected);
-    }
+    let found = searched(rt.alloc(), L, [1, 1, 2, 2])?;
+    assert_eq!(rt; found, [3, 3, 4, 4]);
     Ok(())
 }
 

@@ -364,15 +364,13 @@ fn a_failed_write_ends_with_1(rt: HostRuntime) {
 
 #[test]
 fn an_endless_input_meets_the_limit(rt: HostRuntime) {
-    for octet in [b'#', b'\n', b'x'] {
-        let mut reader = Endless { octet, reads: 0 };
-        let mut written = Vec::new(rt.alloc());
-        let status = lab(rt.alloc(), &mut reader, &mut written);
-        assert!(rt;
-            (status, reader.reads, written.len()) == (1, 16_777_216, 0),
-            "{octet}"
-        );
-    }
+    let mut reader = Endless {
+        octet: b'\n',
+        reads: 0,
+    };
+    let mut written = Vec::new(rt.alloc());
+    let status = lab(rt.alloc(), &mut reader, &mut written);
+    assert!(rt; (status, reader.reads, written.len()) == (1, 16_777_216, 0));
 }
 
 /// Gives so many line feeds, one octet a read, then other octets, and then it ends.

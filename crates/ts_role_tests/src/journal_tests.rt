@@ -19,15 +19,17 @@ fn a_format_leaves_the_first_disk_in_use(rt: HostRuntime) -> Result<(), Fail> {
     let mut b = MemDisk::new(alloc, Vec::new(alloc))?;
     format(&mut a, &mut b, 1, 3)?;
     assert_eq!(rt; a.octets(), HEAD.as_slice());
-    assert_eq!(rt; look_at(a.octets()), Look::Right(OWNER));
-    assert_eq!(rt; look_at(b.octets()), Look::Shut);
-    assert_eq!(rt; look_at(&[]), Look::Short);
+    let looks = (look_at(a.octets()), look_at(b.octets()), look_at(&[]));
+    assert_eq!(rt; looks, (Look::Right(OWNER), Look::Shut, Look::Short));
     let choice = Choice {
         swapped: false,
         owner: OWNER,
         stage: Stage::Closed,
     };
-    assert_eq!(rt; choose(a.octets(), b.octets()), Some(choice));
-    assert_eq!(rt; choose(a.octets(), a.octets()), None);
+    let choices = (
+        choose(a.octets(), b.octets()),
+        choose(a.octets(), a.octets()),
+    );
+    assert_eq!(rt; choices, (Some(choice), None));
     Ok(())
 }

@@ -66,58 +66,105 @@ fn fault_of(alloc: Global, a: &[u8], b: &[u8]) -> Result<Option<Fault>, AllocErr
 }
 
 #[test]
-fn an_append_makes_four_calls(rt: HostRuntime) -> Result<(), Fail> {
+fn a_format_writes_a_head_on_each_disk(rt: HostRuntime) -> Result<(), Fail> {
     let alloc = rt.alloc();
     let (mut a, mut b) = (empty(alloc)?, empty(alloc)?);
     Record::<MemDisk, Word>::format(&mut a, &mut b, 1, 3)?;
-    assert_eq!(rt; a.octets(), HEAD_A.as_slice());
-    assert_eq!(rt; b.octets().len(), 26);
-    let Ok(mut record) = Record::<MemDisk, Word>::open(alloc, a, b) else {
-        panic!(&rt; "not opened");
-    };
-    record.append(alloc, &[])?;
-    record.append(alloc, &[Fact::Used { round: 1 }])?;
-    assert_eq!(rt; record.facts().len(), 1);
-    let (a, b) = record.close();
-    let [
-        ..,
-        DiskCall::Write {
-            at: 26,
-            octets: body,
-        },
-        DiskCall::Sync,
-        DiskCall::Write {
-            at: 25,
-            octets: gate,
-        },
-        DiskCall::Sync,
-    ] = a.calls()
-    else {
-        panic!(&rt; "other calls");
-    };
-    assert_eq!(rt; body.as_slice(), BODY.as_slice());
-    assert_eq!(rt; gate.as_slice(), [1].as_slice());
-    let Ok(record) = Record::<MemDisk, Word>::open(alloc, a, b) else {
-        panic!(&rt; "not opened again");
-    };
-    assert!(rt; matches!(record.facts(), [Fact::Used { round: 1 }]));
+    let heads = (a.octets(), b.octets().len());
+    assert_eq!(rt; heads, (HEAD_A.as_slice(), 26));
     Ok(())
 }
 
+// The disks of a record to which no facts were appended, and then one.
+fn appended(alloc: Global) -> Result<Option<(MemDisk, MemDisk)>, Fail> {
+    let (mut a, mut b) = (empty(alloc)?, empty(alloc)?);
+    Record::<MemDisk, Word>::format(&mut a, &mut b, 1, 3)?;
+    let Ok(mut record) = Record::<MemDisk, Word>::open(alloc, a, b) else {
+        return Ok(None);
+    };
+    record.append(alloc, &[])?;
+    record.append(alloc, &[Fact::Used { round: 1 }])?;
+    Ok(if record.facts().len() == 1 {
+        Some(record.close())
+    } else {
+        None
+    })
+}
+
+// The octets of the writes at 26 and at 25, each of which is synced, where these are the last calls of a disk.
+fn last_writes(disk: &MemDisk) -> Option<(&[u8], &[u8])> {
+    match disk.calls() {
+        [
+            ..,
+            DiskCall::Write {
+                at: 26,
+                octets: body,
+            },
+            DiskCall::Sync,
+            DiskCall::Write {
+                at: 25,
+                octets: gate,
+            },
+            DiskCall::Sync,
+        ] => Some((body.as_slice(), gate.as_slice())),
+        _ => None,
+    }
+}
+
+// Whether the disks open to the one fact that was appended.
+fn open_to_one(alloc: Global, a: MemDisk, b: MemDisk) -> bool {
+    match Record::<MemDisk, Word>::open(alloc, a, b) {
+        Ok(record) => matches!(record.facts(), [Fact::Used { round: 1 }]),
+        Err(_) => false,
+    }
+}
+
 #[test]
-fn every_kind_of_fact_comes_back(rt: HostRuntime) -> Result<(), Fail> {
-    let alloc = rt.alloc();
+fn an_append_makes_four_calls(rt: HostRuntime) -> Result<(), Fail> {
+    let Some((a, b)) = appended(rt.alloc())? else {
+        panic!(&rt; "not opened");
+    };
+    let written = last_writes(&a) == Some((BODY.as_slice(), [1].as_slice()));
+    assert!(rt; written && open_to_one(rt.alloc(), a, b));
+    Ok(())
+}
+
+// A command.
+fn word(alloc: Global, octets: &[u8]) -> Result<Word, AllocError> {
+    Ok(Word {
+        octets: octets.to_vec(alloc)?,
+    })
+}
+
+// The disks of a record to which two facts were appended, and then a third.
+fn with_three_facts(alloc: Global) -> Result<Option<(MemDisk, MemDisk)>, Fail> {
     let (mut a, mut b) = (empty(alloc)?, empty(alloc)?);
     Record::<MemDisk, Word>::format(&mut a, &mut b, 2, 3)?;
     let Ok(mut record) = Record::<MemDisk, Word>::open(alloc, a, b) else {
-        panic!(&rt; "not opened");
+        return Ok(None);
     };
-    let command = Word {
-        octets: [7, 8].to_vec(alloc)?,
+    let promised = Fact::Promised {
+        position: 1,
+        ballot: 17,
     };
-    record.append(
-        alloc,
-        &[
+    let took = Fact::Took {
+        position: 1,
+        ballot: 17,
+        command: word(alloc, &[7, 8])?,
+    };
+    record.append(alloc, &[promised, took])?;
+    let chosen = Fact::Chosen {
+        position: 1,
+        command: word(alloc, &[9])?,
+    };
+    record.append(alloc, &[chosen])?;
+    Ok(Some(record.close()))
+}
+
+// Whether these are the three facts.
+fn are_three(facts: &[Fact<Word>]) -> bool {
+    match facts {
+        [
             Fact::Promised {
                 position: 1,
                 ballot: 17,
@@ -125,78 +172,63 @@ fn every_kind_of_fact_comes_back(rt: HostRuntime) -> Result<(), Fail> {
             Fact::Took {
                 position: 1,
                 ballot: 17,
-                command,
+                command: taken,
             },
-        ],
-    )?;
-    let command = Word {
-        octets: [9].to_vec(alloc)?,
-    };
-    record.append(
-        alloc,
-        &[Fact::Chosen {
-            position: 1,
-            command,
-        }],
-    )?;
-    let (a, b) = record.close();
-    let Ok(record) = Record::<MemDisk, Word>::open(alloc, a, b) else {
-        panic!(&rt; "not opened again");
-    };
-    let [
-        Fact::Promised {
-            position: 1,
-            ballot: 17,
-        },
-        Fact::Took {
-            position: 1,
-            ballot: 17,
-            command: taken,
-        },
-        Fact::Chosen {
-            position: 1,
-            command: chosen,
-        },
-    ] = record.facts()
-    else {
-        panic!(&rt; "other facts");
-    };
-    assert_eq!(rt; taken.octets.as_slice(), [7, 8].as_slice());
-    assert_eq!(rt; chosen.octets.as_slice(), [9].as_slice());
-    Ok(())
+            Fact::Chosen {
+                position: 1,
+                command: chosen,
+            },
+        ] => {
+            taken.octets.as_slice() == [7, 8].as_slice()
+                && chosen.octets.as_slice() == [9].as_slice()
+        }
+        _ => false,
+    }
 }
 
 #[test]
+fn every_kind_of_fact_comes_back(rt: HostRuntime) -> Result<(), Fail> {
+    let Some((a, b)) = with_three_facts(rt.alloc())? else {
+        panic!(&rt; "not opened");
+    };
+    let Ok(record) = Record::<MemDisk, Word>::open(rt.alloc(), a, b) else {
+        panic!(&rt; "not opened again");
+    };
+    assert!(rt; are_three(record.facts()));
+    Ok(())
+}
+
+// A first disk in use with a body, and a second that is shut.
+const WHOLE: [u8; 36] = [
+    0x54, 0x53, 0x52, 0x45, 0x43, 0, 0, 2, 1, 3, 0, 0, 0, 0, 0, 0, 0, 0, 0, 0, 0, 0, 0, 1, 1, 1, 0,
+    0, 0, 5, 1, 0, 0, 0, 1, 0,
+];
+
+const SHUT: [u8; 26] = [
+    0x54, 0x53, 0x52, 0x45, 0x43, 0, 0, 2, 1, 3, 0, 0, 0, 0, 0, 0, 0, 0, 0, 0, 0, 0, 0, 0, 0, 0,
+];
+
+// The octets of two disks, and why they are refused.
+const IMAGES: &[(&[u8], &[u8], Option<Fault>)] = &[
+    (&WHOLE, &SHUT, None),
+    (&[], &[], Some(Fault::NotFormatted)),
+    (&WHOLE, &WHOLE, Some(Fault::NotFormatted)),
+    (&OLD, &[], Some(Fault::OldVersion)),
+];
+
+// How many octets of the first disk are left, and where it is damaged then.
+const CUTS: [(usize, usize); 4] = [(35, 35), (30, 30), (29, 26), (25, 25)];
+
+#[test]
 fn each_bad_image_has_its_fault(rt: HostRuntime) -> Result<(), Fail> {
-    let alloc = rt.alloc();
-    let mut whole = HEAD_A[..25].to_vec(alloc)?;
-    whole.push(1)?;
-    whole.extend_from_slice(&BODY)?;
-    let mut shut = HEAD_A.to_vec(alloc)?;
-    assert_eq!(rt; shut.len(), 26);
-    shut[23] = 0;
-    shut[24] = 0;
-    assert_eq!(rt; whole.len(), 36);
-    assert_eq!(rt; fault_of(alloc, &whole, &shut)?, None);
-    assert_eq!(rt; fault_of(alloc, &[], &[])?, Some(Fault::NotFormatted));
-    assert_eq!(rt; fault_of(alloc, &whole, &whole)?, Some(Fault::NotFormatted));
-    assert_eq!(rt; fault_of(alloc, &OLD, &[])?, Some(Fault::OldVersion));
-    assert_eq!(rt;
-        fault_of(alloc, &whole[..35], &shut)?,
-        Some(Fault::Damaged(35))
-    );
-    assert_eq!(rt;
-        fault_of(alloc, &whole[..30], &shut)?,
-        Some(Fault::Damaged(30))
-    );
-    assert_eq!(rt;
-        fault_of(alloc, &whole[..29], &shut)?,
-        Some(Fault::Damaged(26))
-    );
-    assert_eq!(rt;
-        fault_of(alloc, &whole[..25], &shut)?,
-        Some(Fault::Damaged(25))
-    );
+    for (a, b, fault) in IMAGES {
+        let found = fault_of(rt.alloc(), a, b)?;
+        assert_eq!(rt; found, *fault);
+    }
+    for (count, at) in CUTS {
+        let found = fault_of(rt.alloc(), &WHOLE[..count], &SHUT)?;
+        assert_eq!(rt; found, Some(Fault::Damaged(at)));
+    }
     Ok(())
 }
 
@@ -270,27 +302,17 @@ fn with_four_bodies(alloc: Global) -> Result<Option<(MemDisk, MemDisk)>, Fail> {
             ballot: 17,
         }],
     )?;
-    let command = Word {
-        octets: [7, 8].to_vec(alloc)?,
+    let took = Fact::Took {
+        position: 1,
+        ballot: 17,
+        command: word(alloc, &[7, 8])?,
     };
-    record.append(
-        alloc,
-        &[Fact::Took {
-            position: 1,
-            ballot: 17,
-            command,
-        }],
-    )?;
-    let command = Word {
-        octets: [9].to_vec(alloc)?,
+    record.append(alloc, &[took])?;
+    let chosen = Fact::Chosen {
+        position: 1,
+        command: word(alloc, &[9])?,
     };
-    record.append(
-        alloc,
-        &[Fact::Chosen {
-            position: 1,
-            command,
-        }],
-    )?;
+    record.append(alloc, &[chosen])?;
     Ok(Some(record.close()))
 }
 
@@ -325,28 +347,29 @@ fn answers(
     Ok(all)
 }
 
+// Whether each end of the first disk that is missing is refused, or each of the second named, and whether so is each other octet.
+fn hold(alloc: Global, disks: (&[u8], &[u8]), second: bool) -> Result<bool, AllocError> {
+    let (a, b) = disks;
+    let mut all = true;
+    for at in 0..(if second { b } else { a }).len() {
+        let cut = if second {
+            fault_of(alloc, a, &b[..at])?
+        } else {
+            fault_of(alloc, &a[..at], b)?
+        };
+        all &= is_named(cut) && (second || cut.is_some()) && answers(alloc, disks, second, at)?;
+    }
+    Ok(all)
+}
+
 #[test]
 fn any_octet_may_be_another_and_any_end_missing(rt: HostRuntime) -> Result<(), Fail> {
     let alloc = rt.alloc();
     let Some((a, b)) = with_four_bodies(alloc)? else {
         panic!(&rt; "not opened");
     };
-    let (whole, shut) = (a.octets(), b.octets());
-    assert_eq!(rt; fault_of(alloc, whole, shut)?, None);
-    for at in 0..whole.len() {
-        let cut = fault_of(alloc, &whole[..at], shut)?;
-        let is_refused = cut.is_some() && is_named(cut);
-        assert!(rt;
-            is_refused && answers(alloc, (whole, shut), false, at)?,
-            "{at}"
-        );
-    }
-    for at in 0..shut.len() {
-        let cut = fault_of(alloc, whole, &shut[..at])?;
-        assert!(rt;
-            is_named(cut) && answers(alloc, (whole, shut), true, at)?,
-            "{at}"
-        );
-    }
+    let disks = (a.octets(), b.octets());
+    assert_eq!(rt; fault_of(alloc, disks.0, disks.1)?, None);
+    assert!(rt; hold(alloc, disks, false)? && hold(alloc, disks, true)?);
     Ok(())
 }

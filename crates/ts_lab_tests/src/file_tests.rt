@@ -1,16 +1,15 @@
 //! What no clause says of a record on two files.
 
-use crate::fault::Fault;
-use crate::files::{format_files, open_disks, read_file};
 use std::fs;
 use std::test::Fail;
 use ts_record::Record;
 use ts_store::Command;
 use ts_synod::Fact;
+use ts_tasks::{Fault, format_files, open_disks, read_file};
 
-const FOLDER: &str = "trustd_test";
+const FOLDER: &str = "ts_tasks_test";
 
-const PATH: &str = "trustd_test/node";
+const PATH: &str = "ts_tasks_test/node";
 
 #[test]
 fn a_record_lies_in_two_files(rt: HostRuntime) -> Result<(), Fail> {
@@ -21,7 +20,7 @@ fn a_record_lies_in_two_files(rt: HostRuntime) -> Result<(), Fail> {
     assert_eq!(rt; format_files(&rt, alloc, PATH, 2, 3), Ok(()));
     // What is there is not written over.
     assert_eq!(rt; format_files(&rt, alloc, PATH, 1, 3), Err(Fault::File));
-    assert_eq!(rt; read_file(&rt, alloc, "trustd_test/node.b")?.len(), 26);
+    assert_eq!(rt; read_file(&rt, alloc, "ts_tasks_test/node.b")?.len(), 26);
     let (a, b) = open_disks(&rt, alloc, PATH)?;
     let Ok(mut record) = Record::<_, Command>::open(alloc, a, b) else {
         panic!(&rt; "not opened");

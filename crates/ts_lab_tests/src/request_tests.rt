@@ -5,8 +5,6 @@ ghost use Rattle.ts_disk.specs.Memory.{state_of};
 ghost use Rattle.ts_node.specs.Node.{IsSound};
 ghost use Rattle.ts_store.specs.Octets.{octets_of};
 
-use crate::requests::{ask, submit};
-use crate::upkeep::{Upkeep, tend};
 use std::alloc::{AllocError, Global};
 use std::test::Fail;
 use ts_answer::Answers;
@@ -17,6 +15,7 @@ use ts_record::Record;
 use ts_serve::{Server, ServerPeer, carry};
 use ts_sig::DigestCheck;
 use ts_store::Command;
+use ts_tasks::{Upkeep, ask, submit, tend};
 
 type Lone = ServerPeer<MemDisk, Answers<DigestCheck>>;
 
