@@ -254,13 +254,14 @@ fn lets_the_entry_of_a_delta_decide(rt: HostRuntime) {
     }
 }
 
-/// How often a signature is checked for the status in June under two CRLs, and the status.
-fn counted(cert: &[u8], first: &[u8], second: &[u8]) -> Option<(Status, u32)> {
+/// The status in June under two CRLs, and how many signatures are checked for it. There is a delta CRL that is not used.
+fn counted<'x>(cert: &[u8], first: &'x [u8], second: &'x [u8]) -> Option<(Status, u32)> {
     let cert = Cert::read(cert).ok()?;
     let lists = [Crl::read(first).ok()?, Crl::read(second).ok()?];
+    let deltas = [Crl::read(D_1).ok()?];
     let crls = Crls {
         lists: &lists,
-        deltas: &[],
+        deltas: &deltas,
     };
     let check = Counting::new();
     let status = status(&crls, &cert, &anchor(), Moment(JUNE), &check, false);
