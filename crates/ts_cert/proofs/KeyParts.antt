@@ -1,4 +1,4 @@
--- Algorithm identifiers, keys and unique identifiers, each as it is read and encoded.
+-- Keys and unique identifiers, each as it is read and encoded.
 use Rattle.std.proofs.Common.{◌≡◌, ℕ, ◌+◌, List, [], ◌∷◌, ◌++◌, length, None, Ok, refl, sym, ap, subst, ◌∙◌}
 use Rattle.std.proofs.lemmas.List.{append-nil}
 use Rattle.ts_der.specs.declared.fault.Fault.{Fault}

@@ -1,4 +1,4 @@
--- No two lists of octets are one value.
+-- No two lists of octets are the fields of one certificate.
 use Rattle.std.proofs.Common.{◌≡◌, ℕ, List, ◌++◌, refl, sym, ap, ◌∙◌}
 use Rattle.ts_name.specs.NameEncoding.{IsName}
 use Rattle.ts_shape.proofs.OneEncoding.{One, one-within, one-if-any}
