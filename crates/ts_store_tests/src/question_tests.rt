@@ -150,31 +150,51 @@ fn is_search(
     Ok(Question::search(terms, strings(alloc, count, 0)?).is_ok())
 }
 
+/// A k, how many certificates there are, of how many octets, and whether they are a question.
+const CHAINS: [(u32, usize, usize, bool); 5] = [
+    (1_000_000, 16, 65_536, true),
+    (1_000_001, 1, 0, false),
+    (0, 17, 0, false),
+    (0, 0, 0, false),
+    (0, 1, 65_537, false),
+];
+
+/// How many subtrees are excluded, of how many octets, how many certificates there are, and whether they are a question.
+const SEARCHES: [(usize, usize, usize, bool); 4] = [
+    (64, 65_535, 33, true),
+    (65, 0, 1, false),
+    (1, 65_536, 1, false),
+    (0, 0, 34, false),
+];
+
 #[test]
 fn limits_are_those_of_the_format(rt: HostRuntime) -> Result<(), Fail> {
-    assert!(rt; is_chain(rt.alloc(), 1_000_000, 16, 65_536)?);
-    assert!(rt; !is_chain(rt.alloc(), 1_000_001, 1, 0)?);
-    assert!(rt; !is_chain(rt.alloc(), 0, 17, 0)?);
-    assert!(rt; !is_chain(rt.alloc(), 0, 0, 0)?);
-    assert!(rt; !is_chain(rt.alloc(), 0, 1, 65_537)?);
-    assert!(rt; is_search(rt.alloc(), 64, 65_535, 33)?);
-    assert!(rt; !is_search(rt.alloc(), 65, 0, 1)?);
-    assert!(rt; !is_search(rt.alloc(), 1, 65_536, 1)?);
-    assert!(rt; !is_search(rt.alloc(), 0, 0, 34)?);
+    for (k, count, size, expected) in CHAINS {
+        let found = is_chain(rt.alloc(), k, count, size)?;
+        assert_eq!(rt; found, expected);
+    }
+    for (subtrees, size, count, expected) in SEARCHES {
+        let found = is_search(rt.alloc(), subtrees, size, count)?;
+        assert_eq!(rt; found, expected);
+    }
     Ok(())
+}
+
+/// How many octets the question about a chain of one certificate of 138 octets has.
+fn chain_length(alloc: Global) -> Result<Option<usize>, AllocError> {
+    let certificates = strings(alloc, 1, 138)?;
+    match Question::chain(terms(alloc, None), [7; 32], certificates) {
+        Ok(question) => Ok(Some(question.octets(alloc)?.len())),
+        Err(_) => Ok(None),
+    }
 }
 
 #[test]
 fn a_chain_of_one_certificate_of_138_octets_is_a_question_of_190(
     rt: HostRuntime,
 ) -> Result<(), Fail> {
-    let certificates = strings(rt.alloc(), 1, 138)?;
-    let question = Question::chain(terms(rt.alloc(), None), [7; 32], certificates);
-    let octets = question
-        .ok()
-        .ok_or("within its limits")?
-        .octets(rt.alloc())?;
-    assert_eq!(rt; octets.len(), 190);
+    let found = chain_length(rt.alloc())?;
+    assert_eq!(rt; found, Some(190));
     Ok(())
 }
 

@@ -146,60 +146,68 @@ fn faults_are_named(rt: HostRuntime) -> Result<(), Fail> {
     Ok(())
 }
 
+/// Whether a fault in a frame's place is answered, and again once more has come, which stays.
+fn is_answered_again(alloc: Global) -> Result<bool, AllocError> {
+    let mut feed = Feed::new(alloc);
+    let was_empty = feed.is_empty();
+    feed.push(b"\xff\xff\xff\xff")?;
+    let first = matches!(feed.take(), Err(FeedError::Frame(FrameFault::Length)));
+    feed.push(b"\x00\x00\x00\x02\x02\x15")?;
+    let second = matches!(feed.take(), Err(FeedError::Frame(FrameFault::Length)));
+    Ok(was_empty && first && second && !feed.is_empty())
+}
+
 #[test]
 fn a_fault_is_answered_again(rt: HostRuntime) -> Result<(), Fail> {
-    let mut feed = Feed::new(rt.alloc());
-    assert!(rt; feed.is_empty());
-    feed.push(b"\xff\xff\xff\xff")?;
-    assert!(rt; matches!(feed.take(), Err(FeedError::Frame(FrameFault::Length))));
-    feed.push(b"\x00\x00\x00\x02\x02\x15")?;
-    assert!(rt; matches!(feed.take(), Err(FeedError::Frame(FrameFault::Length))));
-    assert!(rt; !feed.is_empty());
+    assert!(rt; is_answered_again(rt.alloc())?);
     Ok(())
 }
 
-fn is_written(alloc: Global, frame: &Frame, octets: &[u8]) -> bool {
+fn is_written(alloc: Global, frame: Frame, octets: &[u8]) -> bool {
     let mut out = Vec::new(alloc);
-    write_frame(alloc, &mut out, frame).is_ok() && out.as_slice() == octets
+    write_frame(alloc, &mut out, &frame).is_ok() && out.as_slice() == octets
 }
 
-#[test]
-fn frames_are_written(rt: HostRuntime) {
-    assert!(rt; is_written(rt.alloc(), &Frame::Status, b"\x00\x00\x00\x02\x02\x15"));
-    let prefix = Frame::Prefix { prefix: 1 };
-    assert!(rt;
-        is_written(
-            rt.alloc(),
-            &prefix,
-            b"\x00\x00\x00\x06\x02\x27\x00\x00\x00\x01"
-        )
-    );
-    let settled = Frame::Settled {
+fn settled() -> Frame {
+    Frame::Settled {
         position: 1,
         outcome: Outcome::Applied,
-    };
-    assert!(rt;
-        is_written(
-            rt.alloc(),
-            &settled,
-            b"\x00\x00\x00\x07\x02\x22\x00\x00\x00\x01\x00"
-        )
-    );
-    let prepare = Frame::Peer(Message {
+    }
+}
+
+fn prepare() -> Frame {
+    Frame::Peer(Message {
         from: 1,
         to: 2,
         body: Body::Prepare {
             position: 1,
             ballot: 17,
         },
-    });
-    assert!(rt;
+    })
+}
+
+#[test]
+fn frames_are_written(rt: HostRuntime) {
+    let alloc = rt.alloc();
+    let found = [
+        is_written(alloc, Frame::Status, b"\x00\x00\x00\x02\x02\x15"),
         is_written(
-            rt.alloc(),
-            &prepare,
-            b"\x00\x00\x00\x10\x02\x01\x01\x02\x00\x00\x00\x01\x00\x00\x00\x00\x00\x00\x00\x11"
-        )
-    );
+            alloc,
+            Frame::Prefix { prefix: 1 },
+            b"\x00\x00\x00\x06\x02\x27\x00\x00\x00\x01",
+        ),
+        is_written(
+            alloc,
+            settled(),
+            b"\x00\x00\x00\x07\x02\x22\x00\x00\x00\x01\x00",
+        ),
+        is_written(
+            alloc,
+            prepare(),
+            b"\x00\x00\x00\x10\x02\x01\x01\x02\x00\x00\x00\x01\x00\x00\x00\x00\x00\x00\x00\x11",
+        ),
+    ];
+    assert_eq!(rt; found, [true; 4]);
 }
 
 /// So many strings of so many octets.
@@ -234,20 +242,25 @@ fn question(alloc: Global, subtrees: usize) -> Result<Frame, AllocError> {
     }
 }
 
+/// What the question with so many subtrees comes to, and what is written then.
+fn question_written(
+    alloc: Global,
+    subtrees: usize,
+    out: &mut Vec<u8>,
+) -> Result<Result<(), WriteError>, AllocError> {
+    let frame = question(alloc, subtrees)?;
+    Ok(write_frame(alloc, out, &frame))
+}
+
 #[test]
 fn a_question_may_be_longer_than_a_frame(rt: HostRuntime) -> Result<(), Fail> {
     let mut out = Vec::new(rt.alloc());
-    let short = question(rt.alloc(), 0)?;
-    assert!(rt; write_frame(rt.alloc(), &mut out, &short).is_ok());
-    assert!(rt; out.as_slice().starts_with(b"\x00\x00\x00\xc4\x02\x11"));
-    assert_eq!(rt; out.len(), 200);
-    let long = question(rt.alloc(), 64)?;
-    assert!(rt;
-        matches!(
-            write_frame(rt.alloc(), &mut out, &long),
-            Err(WriteError::Length)
-        )
-    );
-    assert_eq!(rt; out.len(), 200);
+    let short = question_written(rt.alloc(), 0, &mut out)?.is_ok();
+    let begins = out.as_slice().starts_with(b"\x00\x00\x00\xc4\x02\x11");
+    let length = out.len();
+    let long = question_written(rt.alloc(), 64, &mut out)?;
+    let is_longer = matches!(long, Err(WriteError::Length));
+    let found = (short, begins, length, is_longer, out.len());
+    assert_eq!(rt; found, (true, true, 200, true, 200));
     Ok(())
 }
