@@ -1,6 +1,8 @@
 //! What no clause says of a record on two files.
 
+use std::alloc::Global;
 use std::fs;
+use std::rt::Files;
 use std::test::Fail;
 use ts_record::Record;
 use ts_store::Command;
@@ -11,27 +13,46 @@ const FOLDER: &str = "ts_tasks_test";
 
 const PATH: &str = "ts_tasks_test/node";
 
+/// Appends a fact to the record. Whether it was opened.
+fn append_round<R: Files>(rt: &R, alloc: Global) -> Result<bool, Fault> {
+    let (a, b) = open_disks(rt, alloc, PATH)?;
+    match Record::<_, Command>::open(alloc, a, b) {
+        Ok(mut record) => {
+            record.append(alloc, &[Fact::Used { round: 7 }])?;
+            Ok(true)
+        }
+        Err(_) => Ok(false),
+    }
+}
+
+/// Whose record it is, and whether it has that fact alone. `None` where it is not opened.
+fn found<R: Files>(rt: &R, alloc: Global) -> Result<Option<(u8, bool)>, Fault> {
+    let (a, b) = open_disks(rt, alloc, PATH)?;
+    Ok(match Record::<_, Command>::open(alloc, a, b) {
+        Ok(record) => {
+            let is_alone = matches!(record.facts(), [Fact::Used { round: 7 }]);
+            Some((record.node(), is_alone))
+        }
+        Err(_) => None,
+    })
+}
+
 #[test]
 fn a_record_lies_in_two_files(rt: HostRuntime) -> Result<(), Fail> {
     let alloc = rt.alloc();
     let _ = fs::remove_dir_all(&rt, FOLDER);
     fs::create_dir(&rt, FOLDER)?;
-    assert!(rt; matches!(open_disks(&rt, alloc, PATH), Err(Fault::File)));
-    assert_eq!(rt; format_files(&rt, alloc, PATH, 2, 3), Ok(()));
+    let is_missing = matches!(open_disks(&rt, alloc, PATH), Err(Fault::File));
     // What is there is not written over.
-    assert_eq!(rt; format_files(&rt, alloc, PATH, 1, 3), Err(Fault::File));
-    assert_eq!(rt; read_file(&rt, alloc, "ts_tasks_test/node.b")?.len(), 26);
-    let (a, b) = open_disks(&rt, alloc, PATH)?;
-    let Ok(mut record) = Record::<_, Command>::open(alloc, a, b) else {
-        panic!(&rt; "not opened");
-    };
-    assert_eq!(rt; record.append(alloc, &[Fact::Used { round: 7 }]), Ok(()));
-    let (a, b) = open_disks(&rt, alloc, PATH)?;
-    let Ok(record) = Record::<_, Command>::open(alloc, a, b) else {
-        panic!(&rt; "not opened again");
-    };
-    assert_eq!(rt; record.node(), 2);
-    assert!(rt; matches!(record.facts(), [Fact::Used { round: 7 }]));
+    let made = (
+        format_files(&rt, alloc, PATH, 2, 3),
+        format_files(&rt, alloc, PATH, 1, 3),
+    );
+    assert_eq!(rt; (is_missing, made), (true, (Ok(()), Err(Fault::File))));
+    let length = read_file(&rt, alloc, "ts_tasks_test/node.b")?.len();
+    let appended = append_round(&rt, alloc)?;
+    let kept = found(&rt, alloc)?;
+    assert_eq!(rt; (length, appended, kept), (26, true, Some((2, true))));
     fs::remove_dir_all(&rt, FOLDER)?;
     Ok(())
 }

@@ -1,7 +1,7 @@
 //! Two nodes in every order of a few events, against the laws of the world: what is learned is chosen, one command is chosen at a
 //! position, and it was submitted.
 
-ghost use Rattle.std.specs.Prelude.{◌∷◌, []};
+ghost use Rattle.std.specs.Prelude.{◌≤◌, ◌∷◌, []};
 ghost use Rattle.ts_node.specs.Inputs.{InputFits};
 
 use crate::group::{Member, NO_TROUBLE, Sent};
@@ -291,13 +291,15 @@ fn look_after(
 ) -> Result<Seen, AllocError> {
     let world = next_world(alloc, world_after(alloc, events)?, event)?;
     let after = records_of(alloc, world)?;
-    let (facts, old, others) = if event.node == 1 {
-        (&after.first, &before.first, &before.second)
+    Ok(if event.node == 1 {
+        let count = before.first.facts().len();
+        let others = before.second.facts();
+        look_behind(after.first.facts(), count, others, chosen, events)
     } else {
-        (&after.second, &before.second, &before.first)
-    };
-    let count = old.facts().len();
-    Ok(look_behind(facts.facts(), count, others.facts(), chosen, events))
+        let count = before.second.facts().len();
+        let others = before.first.facts();
+        look_behind(after.second.facts(), count, others, chosen, events)
+    })
 }
 
 /// An event, and the same at which the node stops.
@@ -325,7 +327,8 @@ fn next_events(alloc: Global, events: &[Event], sent: &[Sent]) -> Result<Vec<Eve
         }
     }
     for which in 0..sent.len() {
-        push_both(&mut next, sent[which].to, Happens::Deliver(which))?;
+        let message = &sent[which];
+        push_both(&mut next, message.to, Happens::Deliver(which))?;
     }
     Ok(next)
 }
