@@ -130,7 +130,7 @@ fn an_append_makes_four_calls(rt: HostRuntime) -> Result<(), Fail> {
 }
 
 // A command.
-fn word(alloc: Global, octets: &[u8]) -> Result<Word, AllocError> {
+fn word_of(alloc: Global, octets: &[u8]) -> Result<Word, AllocError> {
     Ok(Word {
         octets: octets.to_vec(alloc)?,
     })
@@ -150,12 +150,12 @@ fn with_three_facts(alloc: Global) -> Result<Option<(MemDisk, MemDisk)>, Fail> {
     let took = Fact::Took {
         position: 1,
         ballot: 17,
-        command: word(alloc, &[7, 8])?,
+        command: word_of(alloc, &[7, 8])?,
     };
     record.append(alloc, &[promised, took])?;
     let chosen = Fact::Chosen {
         position: 1,
-        command: word(alloc, &[9])?,
+        command: word_of(alloc, &[9])?,
     };
     record.append(alloc, &[chosen])?;
     Ok(Some(record.close()))
@@ -305,12 +305,12 @@ fn with_four_bodies(alloc: Global) -> Result<Option<(MemDisk, MemDisk)>, Fail> {
     let took = Fact::Took {
         position: 1,
         ballot: 17,
-        command: word(alloc, &[7, 8])?,
+        command: word_of(alloc, &[7, 8])?,
     };
     record.append(alloc, &[took])?;
     let chosen = Fact::Chosen {
         position: 1,
-        command: word(alloc, &[9])?,
+        command: word_of(alloc, &[9])?,
     };
     record.append(alloc, &[chosen])?;
     Ok(Some(record.close()))

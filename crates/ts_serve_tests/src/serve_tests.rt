@@ -326,7 +326,7 @@ impl Write for Counts {
 }
 
 /// How many octets are answered of an endless stream, and how that ends.
-fn endless(alloc: Global) -> Result<(u64, Option<ServeFault>), AllocError> {
+fn within_limit(alloc: Global) -> Result<(u64, Option<ServeFault>), AllocError> {
     let mut writer = Counts { octets: 0 };
     match server(alloc, 1, 1, u64::MAX)? {
         Some(mut server) => {
@@ -342,7 +342,7 @@ fn reads_are_limited(rt: HostRuntime) -> Result<(), Fail> {
     assert_eq!(rt; READ_LIMIT, 16_777_216);
     // A Status has six octets, and a Prefix ten: 2,796,202 answers.
     assert_eq!(rt;
-        endless(rt.alloc())?,
+        within_limit(rt.alloc())?,
         (27_962_020, Some(ServeFault::ReadLimit))
     );
     Ok(())
