@@ -1,7 +1,7 @@
 //! Rows by hand: the octets were written by the rules of X.690, and the seconds are those of Python's `datetime`.
 
-use ts_field::{Stamp, TimeForm, next_algorithm, next_bits, next_integer, next_name, next_time};
 use ts_der::{DerFault, Reader};
+use ts_field::{Stamp, TimeForm, next_algorithm, next_bits, next_integer, next_name, next_time};
 
 /// What a time is: its form and its seconds, or the rule that it breaks and where.
 type Read = Result<(TimeForm, i64), (DerFault, usize)>;

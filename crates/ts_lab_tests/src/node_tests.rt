@@ -83,7 +83,11 @@ const STATUSES: [(&[&str], &str, &str); 14] = [
     (&["Y6", "Removes"], " hard", "ask 3 invalid 1 Revoked 6"),
     (&["Y6", "Removes"], " hard deltas", "ask 3 valid -"),
     (&["Y6", "Equal"], " hard", "ask 3 invalid 1 Revoked 6"),
-    (&["Y6", "Equal"], " hard deltas", "ask 3 invalid 1 Revoked 6"),
+    (
+        &["Y6", "Equal"],
+        " hard deltas",
+        "ask 3 invalid 1 Revoked 6",
+    ),
     (&["Y", "Adds"], " hard", "ask 3 valid -"),
     (&["Y", "Adds"], " hard deltas", "ask 3 invalid 1 Revoked 1"),
     (&["Y", "Unnumbered"], " hard", "ask 3 valid -"),
