@@ -129,13 +129,6 @@ fn an_append_makes_four_calls(rt: HostRuntime) -> Result<(), Fail> {
     Ok(())
 }
 
-// A command.
-fn word_of(alloc: Global, octets: &[u8]) -> Result<Word, AllocError> {
-    Ok(Word {
-        octets: octets.to_vec(alloc)?,
-    })
-}
-
 // The disks of a record to which two facts were appended, and then a third.
 fn with_three_facts(alloc: Global) -> Result<Option<(MemDisk, MemDisk)>, Fail> {
     let (mut a, mut b) = (empty(alloc)?, empty(alloc)?);
@@ -143,21 +136,33 @@ fn with_three_facts(alloc: Global) -> Result<Option<(MemDisk, MemDisk)>, Fail> {
     let Ok(mut record) = Record::<MemDisk, Word>::open(alloc, a, b) else {
         return Ok(None);
     };
-    let promised = Fact::Promised {
-        position: 1,
-        ballot: 17,
+    let command = Word {
+        octets: [7, 8].to_vec(alloc)?,
     };
-    let took = Fact::Took {
-        position: 1,
-        ballot: 17,
-        command: word_of(alloc, &[7, 8])?,
+    record.append(
+        alloc,
+        &[
+            Fact::Promised {
+                position: 1,
+                ballot: 17,
+            },
+            Fact::Took {
+                position: 1,
+                ballot: 17,
+                command,
+            },
+        ],
+    )?;
+    let command = Word {
+        octets: [9].to_vec(alloc)?,
     };
-    record.append(alloc, &[promised, took])?;
-    let chosen = Fact::Chosen {
-        position: 1,
-        command: word_of(alloc, &[9])?,
-    };
-    record.append(alloc, &[chosen])?;
+    record.append(
+        alloc,
+        &[Fact::Chosen {
+            position: 1,
+            command,
+        }],
+    )?;
     Ok(Some(record.close()))
 }
 
@@ -302,17 +307,27 @@ fn with_four_bodies(alloc: Global) -> Result<Option<(MemDisk, MemDisk)>, Fail> {
             ballot: 17,
         }],
     )?;
-    let took = Fact::Took {
-        position: 1,
-        ballot: 17,
-        command: word_of(alloc, &[7, 8])?,
+    let command = Word {
+        octets: [7, 8].to_vec(alloc)?,
     };
-    record.append(alloc, &[took])?;
-    let chosen = Fact::Chosen {
-        position: 1,
-        command: word_of(alloc, &[9])?,
+    record.append(
+        alloc,
+        &[Fact::Took {
+            position: 1,
+            ballot: 17,
+            command,
+        }],
+    )?;
+    let command = Word {
+        octets: [9].to_vec(alloc)?,
     };
-    record.append(alloc, &[chosen])?;
+    record.append(
+        alloc,
+        &[Fact::Chosen {
+            position: 1,
+            command,
+        }],
+    )?;
     Ok(Some(record.close()))
 }
 
