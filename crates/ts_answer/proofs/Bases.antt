@@ -1,7 +1,7 @@
 -- Subtrees that are read.
-use Rattle.std.proofs.Common.{◌≡◌, ℕ, List, Ok, sym, ap}
+use Rattle.std.proofs.Common.{◌≡◌, ℕ, List, sym, ap}
 use Rattle.std.specs.Result.{result_unwrap_or}
-use Rattle.ts_name.specs.Subtree.{GeneralSubtree, IsConstraint, constraint_of}
+use Rattle.ts_name.specs.Subtree.{GeneralSubtree, IsConstraint}
 use Rattle.ts_name.proofs.Subtrees.{constraint-again}
 use Rattle.ts_answer.specs.Parts.{base_of, no_subtree}
 

@@ -3,3 +3,4 @@ pub mod Asking
 pub mod Settled
 pub mod OneReply
 pub mod Purposes
+pub mod Lent

@@ -1,8 +1,7 @@
 -- A question has one reply over a store.
-use Rattle.std.proofs.Common.{◌≡◌, ◌∙◌, ◌≤◌, ◌+◌, ◌==◌, ℕ, zero, suc, List, [], ◌∷◌, Option, Some, None, Bool, true, false, length, map, refl, sym, ap, subst, arith, if◌then◌else◌}
+use Rattle.std.proofs.Common.{◌≡◌, ◌∙◌, ◌≤◌, ◌==◌, ℕ, suc, List, [], Option, Some, None, true, length, map, refl, sym, ap, subst, arith, if◌then◌else◌}
 use Rattle.std.specs.Prelude.{unwrap_or, slice_get, nat_le, ◌&&◌}
 use Rattle.ts_path.specs.Conditions.{number_of}
-use Rattle.ts_path.specs.Chain.{Question}
 use Rattle.ts_path.specs.Verdict as path
 use Rattle.ts_path.specs.declared.verdict.Verdict.{Verdict}
 use Rattle.ts_path.specs.declared.verdict.Verdict.TheVariants as verdict
@@ -17,7 +16,7 @@ use Rattle.ts_question.specs.Reply as reply
 use Rattle.ts_question.specs.declared.reason.Reason.{Reason}
 use Rattle.ts_question.specs.declared.reason.Reason.TheVariants.{AnchorPurpose, Signature, TooEarly, Expired, Revoked, Undetermined, IssuerName, UnsupportedConstraint, NotPermitted, Excluded, PolicyRequired, MapsAny, NotCa, PathLength, KeyUsage, CriticalExtension, FinalPolicy, Purpose}
 use Rattle.ts_question.specs.declared.reply.Reply.{Reply}
-use Rattle.ts_question.specs.declared.reply.Reply.TheVariants.{Valid, Invalid, Found, NoPath, SearchLimit, NotYet, Malformed, NoAnchor, Limit}
+use Rattle.ts_question.specs.declared.reply.Reply.TheVariants.{Valid, Invalid, Found, NoPath, SearchLimit}
 use Rattle.ts_store.specs.declared.anchor.TrustAnchor.{TrustAnchor as StoredAnchor}
 use Rattle.ts_store.specs.declared.command.Command.{Command}
 use Rattle.ts_store.specs.Store.{store_after}

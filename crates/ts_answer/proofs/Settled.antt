@@ -1,67 +1,28 @@
 -- The first command of an id: by the store, and by the protocol's walk over the commands.
-use Rattle.std.proofs.Common.{◌≡◌, ◌≢◌, ◌∙◌, ◌+◌, ◌<◌, ◌≤◌, ◌++◌, ◌∷◌, ◌==◌, ℕ, suc, List, [], Option, Some, None, Bool, true, false, Result, Ok, Err, length, take, get_or, refl, sym, ap, subst, arith, append_assoc, length-append, if◌then◌else◌}
-use Rattle.std.proofs.lemmas.List.{append-nil, length-take, take_more}
+use Rattle.std.proofs.Common.{◌≡◌, ◌∙◌, ◌++◌, ◌∷◌, ◌==◌, ℕ, suc, List, [], Option, Some, None, Bool, true, false, Result, Ok, Err, length, refl, sym, ap, subst, arith, append_assoc, length-append, if◌then◌else◌}
+use Rattle.std.proofs.lemmas.List.{append-nil}
 use Rattle.std.specs.declared.cmp.Ordering.{Ordering}
 use Rattle.std.specs.declared.cmp.Ordering.TheVariants.{Less, Equal, Greater}
 use Rattle.std.specs.Cmp.Lexicographic.{slice_cmp}
 use Rattle.std.specs.Ordering.{nat_cmp, is_eq}
 use Rattle.std.proofs.lemmas.Map.Lookups.{exact_bytes}
 use Rattle.ts_synod.specs.Store.{Settling, Store, found, same_id, settling}
-use Rattle.ts_node.specs.Machine.{settling_as, store_of}
+use Rattle.ts_node.specs.Machine.{store_of}
 use Rattle.ts_synod.proofs.Sets.{and_true}
 use Rattle.std.proofs.lemmas.Bool.Decides.{Decides-eqb}
 use Rattle.ts_node.proofs.Settlings.{same_refl}
 use Rattle.ts_store.specs.Commands.{id_of}
-use Rattle.ts_store.specs.Ids.{first_of, with_first}
-use Rattle.ts_store.specs.Store.{State, Step, step, step_by, make, after, store_after, empty}
+use Rattle.ts_store.specs.Ids.{first_of}
+use Rattle.ts_store.specs.Store.{State, step, step_by, make, after, store_after, empty}
 use Rattle.ts_store.specs.Tables.{Tables, change}
 use Rattle.ts_store.specs.declared.command.Command.{Command}
 use Rattle.ts_store.specs.declared.ids.First.{First}
 use Rattle.ts_store.specs.declared.outcome.Outcome.{Outcome}
 use Rattle.ts_store.specs.declared.outcome.Refusal.{Refusal}
 use Rattle.ts_store.proofs.Held.{is-kept}
-use Rattle.ts_store.proofs.Steps.{taken, held, kept, joined}
-use Rattle.ts_answer.specs.Machine.{outcome_after}
-
--- ---- how many commands a store took
-
-taken_from : (s : State) (cs : List Command) → (after s cs).taken ≡ s.taken + length cs
-taken_from s [] = omega arith
-taken_from s (c ∷ cs) =
-    let e = taken_from (step (suc s.taken) c s).state cs in
-    let f = taken (suc s.taken) c s in
-    omega (arith, e, f)
-
-pub taken_all : (cs : List Command) → (store_after cs).taken ≡ length cs
-taken_all cs = let e = taken_from empty cs in omega (arith, e)
-
--- one more command
-pub store_more : (cs : List Command) (c : Command) → store_after (cs ++ c ∷ []) ≡ (step (suc (length cs)) c (store_after cs)).state
-store_more cs c = joined empty cs (c ∷ []) ∙ ap (λ n. (step (suc n) c (store_after cs)).state) (taken_all cs)
-
--- what the command of the next position makes of a store
-module _ (s t : State) (cs : List Command) (c : Command) (n : ℕ) (o : Outcome) (is : s ≡ store_after cs) (next : n + 1 ≡ suc (length cs)) (done : step (n + 1) c s ≡ record { state = t; outcome = o }) where
-  made_of : record { state = t; outcome = o } ≡ step (suc (length cs)) c (store_after cs)
-  made_of = sym done ∙ (λ i. step (next i) c (is i))
-
-  pub came_to : o ≡ outcome_after cs c
-  unfolding outcome_after
-  came_to = ap (λ (x : Step). x.outcome) made_of
-
-  pub store_is : (ds : List Command) → ds ≡ cs ++ c ∷ [] → t ≡ store_after ds
-  store_is ds more = ap (λ (x : Step). x.state) made_of ∙ sym (store_more cs c) ∙ ap store_after (sym more)
-
-pub counted : (s : State) (cs : List Command) → s ≡ store_after cs → s.taken ≡ length cs
-counted s cs is = ap (λ (x : State). x.taken) is ∙ taken_all cs
-
--- the store after the first commands of a list
-pub taken_at : (s : State) (cs : List Command) (i : ℕ) → i ≤ length cs → s ≡ store_after (take i cs) → s.taken ≡ i
-taken_at s cs i low is = let e = counted s (take i cs) is in let f = length-take i cs in omega (arith, e, f, low)
-
-pub store_next : (s t : State) (cs : List Command) (c : Command) (i n : ℕ) (o : Outcome) → s ≡ store_after (take i cs) → i < length cs → c ≡ get_or cs i c → n ≡ s.taken → step (n + 1) c s ≡ record { state = t; outcome = o } → t ≡ store_after (take (i + 1) cs)
-store_next s t cs c i n o is low at' counts done =
-    let e = counted s (take i cs) is in
-    store_is s t (take i cs) c n o is (omega (arith, counts, e)) done (take (i + 1) cs) (take_more cs i c low ∙ ap (λ x. take i cs ++ x ∷ []) (sym at'))
+use Rattle.ts_store.proofs.Steps.{held, kept, joined}
+use Rattle.ts_history.specs.History.{outcome_after}
+use Rattle.ts_history.proofs.Replays.{store_more, taken_all}
 
 -- ---- ids
 

@@ -1,5 +1,5 @@
 -- What a question asks of path validation (RFC 5280 6.1.1), over the tables of a store.
-use Rattle.std.specs.Prelude.{ℕ, Bool, List, map}
+use Rattle.std.specs.Prelude.{ℕ, List, map}
 use Rattle.ts_cert.specs.Certificate.{Certificate}
 use Rattle.ts_cert.specs.CertView.{certificate_in}
 use Rattle.ts_crl.specs.List.{CertificateList}

@@ -1,5 +1,5 @@
 -- What private clauses see of a trust anchor that path validation is lent.
-use Rattle.std.specs.Prelude.{ℕ, Bool, List, map, take, Option, Some, None, if◌then◌else◌}
+use Rattle.std.specs.Prelude.{ℕ, List, map, take, Option, Some, None, if◌then◌else◌}
 use Rattle.ts_cert.specs.CertView.{cert_in}
 use Rattle.ts_path.specs.Asked.{TrustAnchor}
 use Rattle.ts_answer.specs.declared.trusted.Trusted.{Trusted}

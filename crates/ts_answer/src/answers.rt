@@ -1,53 +1,35 @@
 //! The trust store under a node.
 
 ghost use Rattle.std.specs.Prelude.{◌≡◌, ◌<◌, ◌≤◌, ◌++◌, ◌∷◌, [], ℕ, List, length, take, Ok, IfOk, OnOk, OnErr};
+ghost use Rattle.ts_history.specs.History.{outcome_after};
 ghost use Rattle.ts_store.specs.Ids.{first_of};
 ghost use Rattle.ts_store.specs.Store.{store_after};
 ghost use Rattle.ts_question.specs.declared.reply.Reply.TheVariants.{NotYet};
-ghost use Rattle.ts_answer.specs.Machine.{IsAnswer, outcome_after};
+ghost use Rattle.ts_answer.specs.Machine.{IsAnswer};
 ghost use Rattle.ts_answer.specs.Reply.{IsReply};
 
 use crate::judging::reply_over;
 use std::alloc::{AllocError, Global};
 use std::marker::Model;
+use ts_history::History;
 use ts_question::{Answer, Question, Reply};
 use ts_sig::SignatureCheck;
-use ts_store::{Command, First, Outcome, Store};
+use ts_store::{Command, First, Outcome};
 
 /// A trust store that keeps the commands that it took, and answers questions after any number of them.
-///
-/// A question about all commands is answered from the store as it is; for one about fewer the store is made again from the first of them.
 #[derive(Drop)]
 pub struct Answers<S> {
     alloc: Global,
     check: S,
-    commands: Vec<Command>,
-    store: Store,
+    history: History,
 }
 
 impl<S> Model for Answers<S> {
-    ghost use Rattle.std.specs.Prelude.{◌≡◌, ◌≤◌, length};
-    ghost use Rattle.ts_store.specs.Store.{store_after};
     ghost use Rattle.ts_answer.specs.Held.{Held};
 
     ghost Value = { Held S };
 
-    ghost view = { λ a. record { check = a.check; commands = a.commands.items } };
-
-    ghost invariant = { λ a. (a.store ≡ store_after a.commands.items) × (a.store.taken ≡ length a.commands.items) × (length a.commands.items ≤ 1000000) };
-}
-
-/// The store after these commands.
-fn store_of(alloc: Global, commands: &[Command]) -> Result<Store, AllocError>
-    requires { length commands.now ≤ 1000000 }
-    ensures { IfOk result (λ store. store ≡ store_after commands.now) }
-{
-    let mut store = Store::new(alloc);
-    for command in commands {
-        let position = store.taken() + 1;
-        store.apply(position, command)?;
-    }
-    Ok(store)
+    ghost view = { λ a. record { check = a.check; commands = a.history } };
 }
 
 /// An answer, each field of which is in its range. That a reply keeps the ranges follows from its definition, and isn't proved here; what is out
@@ -69,8 +51,7 @@ impl<S: SignatureCheck> Answers<S> {
         Answers {
             alloc,
             check,
-            commands: Vec::new(alloc),
-            store: Store::new(alloc),
+            history: History::new(alloc),
         }
     }
 
@@ -81,8 +62,7 @@ impl<S: SignatureCheck> Answers<S> {
         let Answers {
             alloc: _alloc,
             check,
-            commands: _commands,
-            store: _store,
+            history: _history,
         } = self;
         check
     }
@@ -91,7 +71,7 @@ impl<S: SignatureCheck> Answers<S> {
     pub fn prefix(&self) -> u32
         ensures { result ≡ length self.now.commands }
     {
-        self.store.taken()
+        self.history.count()
     }
 
     /// Takes the command of the next position, of which it keeps a copy, and answers what it came to.
@@ -106,23 +86,14 @@ impl<S: SignatureCheck> Answers<S> {
         ensures refused { OnErr result (self.new.commands ≡ self.old.commands) }
         ensures check { self.new.check ≡ self.old.check }
     {
-        let copy = command.try_copy(self.alloc)?;
-        self.commands.push(copy)?;
-        let position = self.store.taken() + 1;
-        match self.store.apply(position, command) {
-            Ok(outcome) => Ok(outcome),
-            Err(error) => {
-                let _copy = self.commands.pop();
-                Err(error)
-            }
-        }
+        self.history.push(command)
     }
 
     /// The first command that had an id: its position, and what it came to.
     pub fn settled(&self, id: &[u8; 16]) -> Option<First>
         ensures { result ≡ first_of id.now (store_after self.now.commands).ids }
     {
-        self.store.first(id)
+        self.history.first(id)
     }
 
     /// The reply after the first k commands.
@@ -130,11 +101,9 @@ impl<S: SignatureCheck> Answers<S> {
         requires { k ≤ length self.now.commands }
         ensures { IfOk result (IsReply (S.accepts self.now.check) (store_after (take k self.now.commands)).tables question.now) }
     {
-        if k == self.store.taken() {
-            return reply_over(self.alloc, &self.check, self.store.tables(), question);
-        }
-        let store = store_of(self.alloc, &self.commands[..k as usize])?;
-        reply_over(self.alloc, &self.check, store.tables(), question)
+        let snapshot = self.history.at(self.alloc, k)?;
+        let reply = reply_over(self.alloc, &self.check, &snapshot, question)?;
+        Ok(reply)
     }
 
     /// The answer to a question after the first k commands; `NotYet` with their number exactly where fewer were taken.

@@ -7,6 +7,8 @@ ghost use Rattle.ts_path.specs.View.{anchor_in};
 ghost use Rattle.ts_search.specs.Search.{IsAnswer};
 ghost use Rattle.ts_question.specs.declared.question.Target.TheVariants.{Chain, Search};
 ghost use Rattle.ts_constraint.specs.View.{bases_in};
+ghost use Rattle.ts_history.specs.Contents.{contents_of};
+ghost use Rattle.ts_store.specs.Tables.{Tables};
 ghost use Rattle.ts_question.specs.Question.{is_target};
 ghost use Rattle.ts_answer.specs.Parts.{base_of, certificates_of, first_part};
 ghost use Rattle.ts_answer.specs.Asked.{chain_of, question_of, search_of, trust_anchor};
@@ -21,13 +23,13 @@ use crate::trusted::Trusted;
 use crate::verdicts::{malformed, reply_of_search, reply_of_verdict};
 use std::alloc::{AllocError, Global};
 use ts_cert::Cert;
+use ts_history::Snapshot;
 use ts_name::Subtree;
 use ts_path::{Anchor, Inputs, Verdict, validate};
 use ts_question::{OctetStrings, Question, Reply, Target, Terms};
 use ts_revoke::Crls;
 use ts_search::{Answer as SearchAnswer, search};
 use ts_sig::SignatureCheck;
-use ts_store::Tables;
 use ts_time::Moment;
 
 /// The inputs of path validation that a question's terms say, of which policies and subtrees were read.
@@ -64,18 +66,18 @@ fn inputs_of<'a>(
 fn verdict_under<'a, S: SignatureCheck>(
     alloc: Global,
     check: &S,
-    tables: &Tables,
+    snapshot: &Snapshot<'_>,
     anchor: &Anchor<'a>,
     chain: &[Cert<'a>],
     inputs: &Inputs<'a>,
 ) -> Result<Verdict<'a>, AllocError>
     requires some { 1 ≤ length chain.now }
     requires few { length chain.now ≤ 16 }
-    ensures { (terms : _) (stored : _) (octets : _) → AreInputs terms inputs.now → anchor_in anchor.now ≡ trust_anchor stored → map cert_in chain.now ≡ chain_of octets
-        → IfOk result (IsVerdict (question_of (S.accepts check.now) tables.now terms stored octets)) }
+    ensures { (tables : Tables) (terms : _) (stored : _) (octets : _) → snapshot.now ≡ contents_of tables → AreInputs terms inputs.now → anchor_in anchor.now ≡ trust_anchor stored → map cert_in chain.now ≡ chain_of octets
+        → IfOk result (IsVerdict (question_of (S.accepts check.now) tables terms stored octets)) }
 {
-    let lists = lists_of(alloc, tables.crls())?;
-    let deltas = lists_of(alloc, tables.deltas())?;
+    let lists = lists_of(alloc, snapshot.complete())?;
+    let deltas = lists_of(alloc, snapshot.deltas())?;
     let crls = Crls {
         lists: &lists,
         deltas: &deltas,
@@ -88,7 +90,7 @@ fn verdict_under<'a, S: SignatureCheck>(
 fn chain_reply<'a, S: SignatureCheck>(
     alloc: Global,
     check: &S,
-    tables: &'a Tables,
+    snapshot: &'a Snapshot<'a>,
     id: &[u8; 32],
     terms: &'a Terms,
     parts: Parts<'a>,
@@ -96,16 +98,16 @@ fn chain_reply<'a, S: SignatureCheck>(
     requires some { 1 ≤ length parts.certificates.items }
     requires few { length parts.certificates.items ≤ 16 }
     requires read { (octets : List (List ℕ)) × AreParts terms.now octets parts }
-    ensures { (octets : List (List ℕ)) → AreParts terms.now octets parts.entry → IfOk result (IsTargetReply (S.accepts check.now) tables.now terms.now (Chain id.now octets)) }
+    ensures { (tables : Tables) (octets : List (List ℕ)) → snapshot.now ≡ contents_of tables → AreParts terms.now octets parts.entry → IfOk result (IsTargetReply (S.accepts check.now) tables terms.now (Chain id.now octets)) }
 {
-    let Some(stored) = anchor_of(tables.anchors(), id) else {
+    let Some(stored) = anchor_of(snapshot.anchors(), id) else {
         return Ok(Reply::NoAnchor);
     };
     let trusted = Trusted::of(stored);
     let anchor = trusted.anchor();
     let inputs = inputs_of(terms, &parts.policies, &parts.permitted, &parts.excluded);
     let chain = parts.certificates.as_slice();
-    let verdict = verdict_under(alloc, check, tables, &anchor, chain, &inputs)?;
+    let verdict = verdict_under(alloc, check, snapshot, &anchor, chain, &inputs)?;
     let reply = reply_of_verdict(alloc, stored.id, verdict)?;
     Ok(reply)
 }
@@ -114,18 +116,18 @@ fn chain_reply<'a, S: SignatureCheck>(
 fn found_under<'a, S: SignatureCheck>(
     alloc: Global,
     check: &S,
-    tables: &Tables,
+    snapshot: &Snapshot<'_>,
     trusted: &'a [Trusted<'a>],
     certificates: &[Cert<'a>],
     inputs: &Inputs<'a>,
 ) -> Result<SearchAnswer<'a>, AllocError>
     requires some { 1 ≤ length certificates.now }
     requires few { length certificates.now ≤ 33 }
-    ensures { (terms : _) (octets : _) → AreInputs terms inputs.now → map trusted_in trusted.now ≡ map trust_anchor tables.now.anchors → map cert_in certificates.now ≡ chain_of octets
-        → IfOk result (IsAnswer (search_of (S.accepts check.now) tables.now terms octets)) }
+    ensures { (tables : Tables) (terms : _) (octets : _) → snapshot.now ≡ contents_of tables → AreInputs terms inputs.now → map trusted_in trusted.now ≡ map trust_anchor tables.anchors → map cert_in certificates.now ≡ chain_of octets
+        → IfOk result (IsAnswer (search_of (S.accepts check.now) tables terms octets)) }
 {
-    let lists = lists_of(alloc, tables.crls())?;
-    let deltas = lists_of(alloc, tables.deltas())?;
+    let lists = lists_of(alloc, snapshot.complete())?;
+    let deltas = lists_of(alloc, snapshot.deltas())?;
     let crls = Crls {
         lists: &lists,
         deltas: &deltas,
@@ -142,14 +144,14 @@ fn found_under<'a, S: SignatureCheck>(
 fn search_reply<'a, S: SignatureCheck>(
     alloc: Global,
     check: &S,
-    tables: &'a Tables,
+    snapshot: &'a Snapshot<'a>,
     terms: &'a Terms,
     parts: Parts<'a>,
 ) -> Result<Reply, AllocError>
     requires some { 1 ≤ length parts.certificates.items }
     requires few { length parts.certificates.items ≤ 33 }
     requires read { (octets : List (List ℕ)) × AreParts terms.now octets parts }
-    ensures { (octets : List (List ℕ)) → AreParts terms.now octets parts.entry → IfOk result (IsTargetReply (S.accepts check.now) tables.now terms.now (Search octets)) }
+    ensures { (tables : Tables) (octets : List (List ℕ)) → snapshot.now ≡ contents_of tables → AreParts terms.now octets parts.entry → IfOk result (IsTargetReply (S.accepts check.now) tables terms.now (Search octets)) }
 {
     let Parts {
         permitted,
@@ -158,9 +160,9 @@ fn search_reply<'a, S: SignatureCheck>(
         policies,
     } = parts;
     let inputs = inputs_of(terms, &policies, &permitted, &excluded);
-    let trusted = trusted_of(alloc, tables.anchors())?;
-    let answer = found_under(alloc, check, tables, &trusted, &certificates, &inputs)?;
-    let reply = reply_of_search(alloc, tables.anchors(), answer)?;
+    let trusted = trusted_of(alloc, snapshot.anchors())?;
+    let answer = found_under(alloc, check, snapshot, &trusted, &certificates, &inputs)?;
+    let reply = reply_of_search(alloc, snapshot.anchors(), answer)?;
     Ok(reply)
 }
 
@@ -168,41 +170,41 @@ fn search_reply<'a, S: SignatureCheck>(
 fn target_reply<'a, S: SignatureCheck>(
     alloc: Global,
     check: &S,
-    tables: &'a Tables,
+    snapshot: &'a Snapshot<'a>,
     terms: &'a Terms,
     target: &'a Target,
     certificates: &'a OctetStrings,
 ) -> Result<Reply, AllocError>
     requires same { certificates.now ≡ certificates_of target.now }
     requires within { is_target target.now ≡ true }
-    ensures { IfOk result (IsReplyBy (S.accepts check.now) tables.now (record { terms = terms.now; target = target.now }) (first_part terms.now certificates.now)) }
+    ensures { (tables : Tables) → snapshot.now ≡ contents_of tables → IfOk result (IsReplyBy (S.accepts check.now) tables (record { terms = terms.now; target = target.now }) (first_part terms.now certificates.now)) }
 {
     match read_parts(alloc, terms, certificates) {
         Ok(parts) => match target {
             Target::Chain { anchor, .. } => {
-                chain_reply(alloc, check, tables, anchor, terms, parts)
+                chain_reply(alloc, check, snapshot, anchor, terms, parts)
             }
-            Target::Search { .. } => search_reply(alloc, check, tables, terms, parts),
+            Target::Search { .. } => search_reply(alloc, check, snapshot, terms, parts),
         },
         Err(PartFault::Unreadable { index, fault }) => Ok(malformed(index, fault)),
         Err(PartFault::Memory) => Err(AllocError),
     }
 }
 
-/// The reply to a question over the tables of a store.
+/// The reply to a question over the tables of a store, which are lent.
 pub(crate) fn reply_over<S: SignatureCheck>(
     alloc: Global,
     check: &S,
-    tables: &Tables,
+    snapshot: &Snapshot<'_>,
     question: &Question,
 ) -> Result<Reply, AllocError>
-    ensures { IfOk result (IsReply (S.accepts check.now) tables.now question.now) }
+    ensures { (tables : Tables) → snapshot.now ≡ contents_of tables → IfOk result (IsReply (S.accepts check.now) tables question.now) }
 {
     let terms = question.terms();
     let target = question.target();
     match target {
         Target::Chain { certificates, .. } | Target::Search { certificates } => {
-            target_reply(alloc, check, tables, terms, target, certificates)
+            target_reply(alloc, check, snapshot, terms, target, certificates)
         }
     }
 }

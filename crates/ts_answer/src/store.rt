@@ -1,51 +1,56 @@
-//! What path validation is lent of a store.
+//! What path validation is lent of the tables of a store.
 
 ghost use Rattle.std.specs.Prelude.{◌≡◌, map, option_map, IfOk};
 ghost use Rattle.ts_crl.specs.ListView.{crl_in};
+ghost use Rattle.ts_crl.specs.OwnedView.{list_of};
+ghost use Rattle.ts_history.specs.Contents.{anchor_in as lent_in};
 ghost use Rattle.ts_path.specs.View.{anchor_in};
-ghost use Rattle.ts_answer.specs.Asked.{lists_in, trust_anchor};
+ghost use Rattle.ts_answer.specs.Asked.{trust_anchor};
 ghost use Rattle.ts_answer.specs.Reply.{with_id};
 ghost use Rattle.ts_answer.specs.Trusted.{trusted_in};
 
 use crate::trusted::Trusted;
 use std::alloc::{AllocError, Global};
-use ts_crl::Crl;
+use ts_crl::{Crl, OwnedCrl};
+use ts_history::LentAnchor;
 use ts_path::Anchor;
-use ts_store::{StoredCrl, TrustAnchor};
 
 /// The lists, lent. None is read again.
-pub(crate) fn lists_of(alloc: Global, stored: &[StoredCrl]) -> Result<Vec<Crl<'_>>, AllocError>
-    ensures { IfOk result (λ lists. map crl_in lists.items ≡ lists_in stored.now) }
+pub(crate) fn lists_of<'a>(
+    alloc: Global,
+    stored: &[&'a OwnedCrl],
+) -> Result<Vec<Crl<'a>>, AllocError>
+    ensures { IfOk result (λ lists. map crl_in lists.items ≡ map list_of (map (λ c. c.now) stored.now)) }
 {
     let mut lists = Vec::new(alloc);
     for kept in stored {
-        lists.push(kept.crl.view())?;
+        lists.push(kept.view())?;
     }
     Ok(lists)
 }
 
 /// The anchor of this id, if it is in the store.
-pub(crate) fn anchor_of<'a>(anchors: &'a [TrustAnchor], id: &[u8]) -> Option<&'a TrustAnchor>
-    ensures { option_map (λ a. a.now) result ≡ with_id id.now anchors.now }
+pub(crate) fn anchor_of<'a>(anchors: &[LentAnchor<'a>], id: &[u8; 32]) -> Option<LentAnchor<'a>>
+    ensures { option_map lent_in result ≡ with_id id.now (map lent_in anchors.now) }
 {
     for anchor in anchors {
-        if anchor.id.as_slice() == id {
-            return Some(anchor);
+        if anchor.id == *id {
+            return Some(*anchor);
         }
     }
     None
 }
 
 /// The anchors of the store, lent. No certificate is read again.
-pub(crate) fn trusted_of(
+pub(crate) fn trusted_of<'a>(
     alloc: Global,
-    stored: &[TrustAnchor],
-) -> Result<Vec<Trusted<'_>>, AllocError>
-    ensures { IfOk result (λ trusted. map trusted_in trusted.items ≡ map trust_anchor stored.now) }
+    stored: &[LentAnchor<'a>],
+) -> Result<Vec<Trusted<'a>>, AllocError>
+    ensures { IfOk result (λ trusted. map trusted_in trusted.items ≡ map trust_anchor (map lent_in stored.now)) }
 {
     let mut trusted = Vec::new(alloc);
     for anchor in stored {
-        trusted.push(Trusted::of(anchor))?;
+        trusted.push(Trusted::of(*anchor))?;
     }
     Ok(trusted)
 }

@@ -2,16 +2,17 @@
 
 ghost use Rattle.std.specs.Prelude.{◌≡◌, ◌≤◌, suc, true, Some, map, slice_get, length, IfOk, IfSome};
 ghost use Rattle.std.specs.List.{list_all};
+ghost use Rattle.ts_history.specs.Contents.{anchor_in as lent_in};
 ghost use Rattle.ts_answer.specs.Parts.{unreadable};
 ghost use Rattle.ts_answer.specs.Reply.{SaysReason, SaysSearch, SaysVerdict, malformed as malformed_of};
 
 use std::alloc::{AllocError, Global};
 use ts_der::{Oid, OidRef};
+use ts_history::LentAnchor;
 use ts_path::{Reason as PathReason, Verdict};
 use ts_question::{Oids, Places, Reason, Reply, identifier};
 use ts_search::Answer as SearchAnswer;
 use ts_shape::CertFault;
-use ts_store::TrustAnchor;
 
 /// The reply to a question of which a part can't be read.
 pub(crate) fn malformed(index: u8, fault: CertFault) -> Reply
@@ -107,7 +108,7 @@ fn places_of(alloc: Global, chain: &[u8]) -> Result<Places, AllocError>
 }
 
 /// The id of the anchor of this number.
-fn id_at(anchors: &[TrustAnchor], number: usize) -> Option<[u8; 32]>
+fn id_at(anchors: &[LentAnchor<'_>], number: usize) -> Option<[u8; 32]>
     ensures { result ≡ slice_get (map (λ a. a.id) anchors.now) number }
 {
     match anchors.get(number) {
@@ -119,10 +120,10 @@ fn id_at(anchors: &[TrustAnchor], number: usize) -> Option<[u8; 32]>
 /// An answer of a search under these anchors, as a reply.
 pub(crate) fn reply_of_search(
     alloc: Global,
-    anchors: &[TrustAnchor],
+    anchors: &[LentAnchor<'_>],
     answer: SearchAnswer<'_>,
 ) -> Result<Reply, AllocError>
-    ensures { IfOk result (λ reply. SaysSearch anchors.now answer.entry reply) }
+    ensures { IfOk result (λ reply. SaysSearch (map lent_in anchors.now) answer.entry reply) }
 {
     match answer {
         SearchAnswer::Found {

@@ -1,7 +1,7 @@
 mod Blobs
 mod Identifiers
 mod Places
-mod Slots
+pub mod Slots
 pub mod Held
 mod Changing
 pub mod Steps

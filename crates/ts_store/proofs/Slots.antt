@@ -50,8 +50,18 @@ is-found {A} test (x ∷ xs) (suc i) d e more = by (test x) (λ h. is-found test
     by true rest h = absurd cc
     by false rest h = rest (one-less i (place_by test xs) h)
 
+-- it is one of the list's
+pub is-within : {A : Type 0} (test : A → Bool) (xs : List A) (i : ℕ) → Some i ≡ place_by test xs → i < length xs
+is-within test [] i e = absurd (none-some i (sym e))
+is-within test (x ∷ xs) zero e = omega arith
+is-within {A} test (x ∷ xs) (suc i) e = by (test x) (is-within test xs i) e
+  where
+    by : (b : Bool) → (Some i ≡ place_by test xs → i < length xs) → Some (suc i) ≡ cond b (Some 0) (option_map suc (place_by test xs)) → suc i < length (x ∷ xs)
+    by true rest h = absurd cc
+    by false rest h = let low = rest (one-less i (place_by test xs) h) in omega (arith, low)
+
 -- a list takes the place of the first one of its slot
-set-there : (new : StoredCrl) (lists : List StoredCrl) (i : ℕ) → Some i ≡ place_by (has_slot (list_in new)) lists → i < length lists → slice_set lists i new ≡ replaced new lists
+pub set-there : (new : StoredCrl) (lists : List StoredCrl) (i : ℕ) → Some i ≡ place_by (has_slot (list_in new)) lists → i < length lists → slice_set lists i new ≡ replaced new lists
 set-there new [] i e more = absurd (omega (arith, more))
 set-there new (x ∷ xs) zero e more = by (has_slot (list_in new) x) e
   where

@@ -87,8 +87,8 @@ impl Anchors {
     }
 }
 
-/// The SHA-256 of octets.
-pub(crate) fn digest(octets: &[u8]) -> [u8; 32]
+/// The SHA-256 of octets: the id of an anchor's certificate, and of a list.
+pub fn digest(octets: &[u8]) -> [u8; 32]
     ensures { result ≡ sha256 octets.now }
 {
     let mut hasher = Sha256::new();
@@ -96,8 +96,8 @@ pub(crate) fn digest(octets: &[u8]) -> [u8; 32]
     hasher.finalize()
 }
 
-/// The place of the anchor of this id.
-fn place_of(anchors: &[TrustAnchor], id: &[u8]) -> Option<usize>
+/// The place of the anchor of this id, if it is in the table.
+pub fn place_of_anchor(anchors: &[TrustAnchor], id: &[u8]) -> Option<usize>
     ensures place { result ≡ place_in id.now anchors.now }
     ensures within { IfSome result (λ i. i < length anchors.now) }
 {
@@ -113,7 +113,7 @@ fn place_of(anchors: &[TrustAnchor], id: &[u8]) -> Option<usize>
 fn refusal_at(anchors: &[TrustAnchor], id: &[u8; 32]) -> Option<Refusal>
     ensures { result ≡ new_refusal id.now anchors.now }
 {
-    if place_of(anchors, id.as_slice()).is_some() {
+    if place_of_anchor(anchors, id.as_slice()).is_some() {
         return Some(Refusal::AnchorThere);
     }
     if anchors.len() >= MAX_ANCHORS {
@@ -150,7 +150,7 @@ fn add_to(
 fn withdraw_from(anchors: &mut Vec<TrustAnchor>, id: &[u8]) -> Option<Refusal>
     ensures { Becomes result anchors.old.items anchors.new.items (withdraw_anchor id.now anchors.old.items) }
 {
-    match place_of(anchors, id) {
+    match place_of_anchor(anchors, id) {
         Some(i) => {
             let _ = anchors.remove(i);
             None
@@ -168,7 +168,7 @@ fn set_in(
     ensures done { IfOk result (λ refusal. Becomes refusal anchors.old.items anchors.new.items (set_purposes id.now purposes.now anchors.old.items)) }
     ensures memory { OnErr result (anchors.new.items ≡ anchors.old.items) }
 {
-    match place_of(anchors, id) {
+    match place_of_anchor(anchors, id) {
         Some(i) => {
             anchors[i].purposes = purposes.try_copy(alloc)?;
             Ok(None)

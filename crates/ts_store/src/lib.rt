@@ -23,6 +23,7 @@
 //! | `impl ts_synod::Command`, `impl ts_record::Codec` for [`Command`] | a command is one of the protocol, and is kept in a record by its one encoding (`specs/Octets`) |
 //! | [`laws::one_encoding`] | no two commands have one encoding, and no two lists of octets are one command's |
 //! | [`Anchors::add`], [`Anchors::withdraw`], [`Anchors::set_purposes`] | the table after the command, or its refusal, by the definition (`specs/Anchors`); at an `Err` nothing changes |
+//! | [`place_of_anchor`], [`place_of_crl`], [`place_of_slot`], [`digest`] | where an anchor or list of an id is, and the list of a slot; an id |
 //! | [`Crls::put`], [`Crls::remove`], [`Tables::change`] | the same for a table of lists, and of all tables (`specs/Lists`, `specs/Tables`) |
 //! | [`Store::new`], [`Store::apply`] | the definition's empty store, and its step with the step's outcome (`specs/Store`); at an `Err` nothing changes |
 //! | [`Store::first`], [`Store::taken`], [`Store::tables`], [`Store::anchors`], [`Store::crls`], [`Store::deltas`] | what the store's value says |
@@ -56,10 +57,10 @@ mod values;
 mod writing;
 
 pub use anchor::TrustAnchor;
-pub use anchors::{Anchors, MAX_ANCHORS};
+pub use anchors::{Anchors, MAX_ANCHORS, digest, place_of_anchor};
 pub use command::Command;
 pub use ids::First;
-pub use lists::{Crls, MAX_CRLS};
+pub use lists::{Crls, MAX_CRLS, place_of_crl, place_of_slot};
 pub use outcome::{Outcome, Refusal};
 pub use purposes::{MAX_PURPOSES, Purposes};
 pub use store::Store;

@@ -86,8 +86,12 @@ fn has_slot(alloc: Global, held: &StoredCrl, new: Crl<'_>) -> Result<bool, Alloc
     held.crl.view().is_same_slot_in(alloc, new)
 }
 
-/// The place of the first list that has the slot of another one.
-fn place_of_slot(
+/// The place of the first list that has the slot of another one, if one has it.
+///
+/// # Errors
+///
+/// Memory that is refused.
+pub fn place_of_slot(
     alloc: Global,
     lists: &[StoredCrl],
     new: Crl<'_>,
@@ -103,8 +107,8 @@ fn place_of_slot(
     Ok(None)
 }
 
-/// The place of the first list of this id.
-fn place_of_id(lists: &[StoredCrl], id: &[u8]) -> Option<usize>
+/// The place of the first list of this id, if it is in the table.
+pub fn place_of_crl(lists: &[StoredCrl], id: &[u8]) -> Option<usize>
     ensures place { result ≡ place_by (has_id id.now) lists.now }
     ensures within { IfSome result (λ i. i < length lists.now) }
 {
@@ -159,7 +163,7 @@ fn put_in(
 fn remove_from(lists: &mut Vec<StoredCrl>, id: &[u8]) -> Option<Refusal>
     ensures { Becomes result lists.old.items lists.new.items (drop_list id.now lists.old.items) }
 {
-    match place_of_id(lists, id) {
+    match place_of_crl(lists, id) {
         Some(i) => {
             let _ = lists.remove(i);
             None

@@ -1,4 +1,4 @@
-use Rattle.std.proofs.Common.{◌≡◌, map, take, drop, suc, List, ℕ}
+use Rattle.std.proofs.Common.{◌≡◌, map, take}
 use Rattle.ts_answer.proofs.parts.contents_of.Given as goal
 
 abbrev pub invariant-loop-oid : goal.invariant-loop-oid

@@ -1,4 +1,4 @@
-use Rattle.std.proofs.Common.{◌≡◌, map, take, drop, suc, List, ℕ}
+use Rattle.std.proofs.Common.{◌≡◌, map, take, drop}
 use Rattle.ts_constraint.specs.View.{bases_in}
 use Rattle.ts_answer.specs.Parts.{base_of, first_subtree}
 use Rattle.ts_answer.proofs.parts.subtrees_of.Given as goal

@@ -1,4 +1,4 @@
-use Rattle.std.proofs.Common.{◌≡◌, map, take, drop, suc, List, ℕ}
+use Rattle.std.proofs.Common.{◌≡◌, map, take, suc}
 use Rattle.ts_answer.proofs.verdicts.places_of.Given as goal
 
 abbrev pub invariant-loop-place : goal.invariant-loop-place

@@ -1,4 +1,4 @@
-use Rattle.std.proofs.Common.{◌≡◌, map, take, drop, suc, List, ℕ}
+use Rattle.std.proofs.Common.{◌≡◌, map, take}
 use Rattle.ts_answer.proofs.verdicts.policies_of.Given as goal
 
 abbrev pub invariant-loop-policy : goal.invariant-loop-policy

@@ -1,0 +1,222 @@
+//! Answers by hand. The octets were made by another tool.
+
+use sha2::{Digest, Sha256};
+use std::alloc::{AllocError, Global};
+use std::test::Fail;
+use ts_answer::{Answers, is_deliverable};
+use ts_question::{Flags, OctetStrings, Oids, Question, Reply, Terms};
+use ts_sig::DigestCheck;
+use ts_store::{Command, Outcome};
+use ts_synod::{Body, Message};
+
+/// The anchor: CN=R, with a key of one octet, signed by itself.
+const R: &[u8] =
+    b"\x30\x81\x87\x30\x5a\xa0\x03\x02\x01\x02\x02\x01\x01\x30\x06\x06\x04\x88\x37\x01\x01\x30\x0c\x31\x0a\x30\x08\x06\x03\x55\x04\x03\x0c\x01\x52\x30\x1e\x17\x0d\x32\x36\x30\x31\x30\x31\x30\x30\x30\x30\x30\x30\x5a\x17\x0d\x32\x37\x30\x31\x30\x31\x30\x30\x30\x30\x30\x30\x5a\x30\x0c\x31\x0a\x30\x08\x06\x03\x55\x04\x03\x0c\x01\x52\x30\x0c\x30\x06\x06\x04\x88\x37\x01\x01\x03\x02\x00\x61\x30\x06\x06\x04\x88\x37\x01\x01\x03\x21\x00\x12\xb2\xcc\x21\xef\xdb\x2e\xd9\x3c\x4c\xa6\xa4\x36\xcb\xaf\x6b\x00\xac\x52\x0a\x9c\x44\x04\x4f\xa9\x94\xd1\xcc\x1b\xd0\x47\xf4";
+
+/// CN=L, issued by the anchor, from 2026-01-01 to 2027-01-01.
+const L: &[u8] =
+    b"\x30\x81\x87\x30\x5a\xa0\x03\x02\x01\x02\x02\x01\x02\x30\x06\x06\x04\x88\x37\x01\x01\x30\x0c\x31\x0a\x30\x08\x06\x03\x55\x04\x03\x0c\x01\x52\x30\x1e\x17\x0d\x32\x36\x30\x31\x30\x31\x30\x30\x30\x30\x30\x30\x5a\x17\x0d\x32\x37\x30\x31\x30\x31\x30\x30\x30\x30\x30\x30\x5a\x30\x0c\x31\x0a\x30\x08\x06\x03\x55\x04\x03\x0c\x01\x4c\x30\x0c\x30\x06\x06\x04\x88\x37\x01\x01\x03\x02\x00\x62\x30\x06\x06\x04\x88\x37\x01\x01\x03\x21\x00\x40\x04\x70\xc1\x8b\xca\xc5\x44\x3f\x12\xe8\xbf\x03\x61\x99\x2e\xfc\x70\xd1\x31\x33\x5d\x88\xda\xe1\x65\x0d\xf7\x43\x72\x01\x2a";
+
+/// 2026-06-01, in the middle of the certificate's validity.
+const JUNE: i64 = 1_780_272_000;
+
+/// An id: fifteen octets of zero, and this one.
+fn id(last: u8) -> [u8; 16] {
+    [0, 0, 0, 0, 0, 0, 0, 0, 0, 0, 0, 0, 0, 0, 0, last]
+}
+
+/// The SHA-256 of the anchor's certificate.
+fn anchor() -> [u8; 32] {
+    let mut hasher = Sha256::new();
+    hasher.update(R);
+    hasher.finalize()
+}
+
+fn terms(alloc: Global) -> Terms {
+    Terms {
+        moment: JUNE,
+        flags: Flags {
+            explicit_policy: false,
+            inhibit_policy_mapping: false,
+            inhibit_any_policy: false,
+            hard: false,
+            use_deltas: false,
+        },
+        k: None,
+        purpose: None,
+        user_policies: Oids::new(Vec::new(alloc)),
+        permitted_subtrees: OctetStrings::empty(alloc),
+        excluded_subtrees: OctetStrings::empty(alloc),
+    }
+}
+
+/// Whether this certificate is valid under the anchor.
+fn chain(alloc: Global, octets: &[u8]) -> Result<Option<Question>, AllocError> {
+    let mut certificates = Vec::new(alloc);
+    certificates.push(octets.to_vec(alloc)?)?;
+    Ok(Question::chain(terms(alloc), anchor(), certificates).ok())
+}
+
+/// A store that took the anchor, and then its withdrawal.
+fn store(alloc: Global) -> Result<Option<Answers<DigestCheck>>, AllocError> {
+    let mut answers = Answers::new(alloc, DigestCheck);
+    let Ok(add) = Command::add_anchor(id(1), R.to_vec(alloc)?) else {
+        return Ok(None);
+    };
+    let _added = answers.push(&add)?;
+    let _withdrawn = answers.push(&Command::WithdrawAnchor {
+        id: id(2),
+        anchor: anchor(),
+    })?;
+    Ok(Some(answers))
+}
+
+/// The tag of the reply after the first k commands.
+fn tag(answers: &Answers<DigestCheck>, k: u32, question: &Question) -> Result<u8, AllocError> {
+    Ok(match answers.answer(k, question)?.reply() {
+        Reply::Valid { .. } => 1,
+        Reply::Invalid { .. } => 2,
+        Reply::Found { .. } => 3,
+        Reply::NoPath => 4,
+        Reply::SearchLimit => 5,
+        Reply::NotYet { .. } => 6,
+        Reply::Malformed { .. } => 7,
+        Reply::NoAnchor => 8,
+        Reply::Limit => 9,
+    })
+}
+
+/// The tags of the replies after so many commands each, and 0 for each where there is no store.
+fn tags(alloc: Global, ks: [u32; 4], question: &Question) -> Result<[u8; 4], AllocError> {
+    let mut found = [0; 4];
+    if let Some(answers) = store(alloc)? {
+        for place in 0..4 {
+            found[place] = tag(&answers, ks[place], question)?;
+        }
+    }
+    Ok(found)
+}
+
+/// The tags for a chain of this certificate, and 0 for each where there is no question.
+fn judged(alloc: Global, octets: &[u8], ks: [u32; 4]) -> Result<[u8; 4], AllocError> {
+    match chain(alloc, octets)? {
+        Some(question) => tags(alloc, ks, &question),
+        None => Ok([0; 4]),
+    }
+}
+
+#[test]
+fn a_chain_is_judged_at_every_position(rt: HostRuntime) -> Result<(), Fail> {
+    let found = judged(rt.alloc(), L, [0, 1, 2, 3])?;
+    assert_eq!(rt; found, [8, 1, 8, 6]);
+    let found = judged(rt.alloc(), &L[..L.len() - 1], [1, 1, 1, 1])?;
+    assert_eq!(rt; found, [7, 7, 7, 7]);
+    Ok(())
+}
+
+/// What became of the ids 2 and 3 in the store, and how many commands it took.
+fn settled(alloc: Global) -> Result<Option<(Option<(u32, Outcome)>, bool, u32)>, AllocError> {
+    let Some(answers) = store(alloc)? else {
+        return Ok(None);
+    };
+    let second = answers
+        .settled(&id(2))
+        .map(|first| (first.position, first.outcome));
+    let is_third_known = answers.settled(&id(3)).is_some();
+    let prefix = answers.prefix();
+    let _check = answers.close();
+    Ok(Some((second, is_third_known, prefix)))
+}
+
+#[test]
+fn an_id_settles_at_its_first_position(rt: HostRuntime) -> Result<(), Fail> {
+    let found = settled(rt.alloc())?;
+    assert_eq!(rt; found, Some((Some((2, Outcome::Applied)), false, 2)));
+    Ok(())
+}
+
+/// The tags for a search among this certificate, which is the leaf, and 0 for each where there is no question.
+fn searched(alloc: Global, octets: &[u8], ks: [u32; 4]) -> Result<[u8; 4], AllocError> {
+    let mut certificates = Vec::new(alloc);
+    certificates.push(octets.to_vec(alloc)?)?;
+    match Question::search(terms(alloc), certificates) {
+        Ok(question) => tags(alloc, ks, &question),
+        Err(_) => Ok([0; 4]),
+    }
+}
+
+#[test]
+fn a_search_finds_the_leaf(rt: HostRuntime) -> Result<(), Fail> {
+    let found = searched(rt.alloc(), L, [1, 1, 2, 2])?;
+    assert_eq!(rt; found, [3, 3, 4, 4]);
+    Ok(())
+}
+
+#[test]
+fn a_message_out_of_range_is_not_deliverable(rt: HostRuntime) {
+    for (position, ballot, expected) in [(1, 17, true), (0, 17, false), (1, 15, false)] {
+        let message = Message {
+            from: 1,
+            to: 2,
+            body: Body::Prepare { position, ballot },
+        };
+        let found = is_deliverable(&message);
+        assert_eq!(rt; found, expected);
+    }
+}
+
+/// An id: fourteen octets of zero, and a number.
+fn numbered(number: u16) -> [u8; 16] {
+    let [high, low] = number.to_be_bytes();
+    [0, 0, 0, 0, 0, 0, 0, 0, 0, 0, 0, 0, 0, 0, high, low]
+}
+
+/// A store that took so many commands: the anchor and its withdrawal, in turn.
+fn alternating(alloc: Global, count: u16) -> Result<Option<Answers<DigestCheck>>, AllocError> {
+    let mut answers = Answers::new(alloc, DigestCheck);
+    for number in 0..count {
+        let id = numbered(number);
+        let command = if number % 2 == 0 {
+            match Command::add_anchor(id, R.to_vec(alloc)?) {
+                Ok(command) => command,
+                Err(_) => return Ok(None),
+            }
+        } else {
+            Command::WithdrawAnchor {
+                id,
+                anchor: anchor(),
+            }
+        };
+        let _outcome = answers.push(&command)?;
+    }
+    Ok(Some(answers))
+}
+
+/// Whether the chain is valid after an odd number of commands, and without an anchor after an even one.
+fn is_right(
+    answers: &Answers<DigestCheck>,
+    k: u32,
+    question: &Question,
+) -> Result<bool, AllocError> {
+    let wanted = if k % 2 == 1 { 1 } else { 8 };
+    Ok(tag(answers, k, question)? == wanted)
+}
+
+/// Whether that is so after each number of 1,100 commands, from the last to the first and from the first to the last.
+fn are_right(alloc: Global) -> Result<bool, AllocError> {
+    let (Some(answers), Some(question)) = (alternating(alloc, 1_100)?, chain(alloc, L)?) else {
+        return Ok(false);
+    };
+    for k in 0..1_101 {
+        if !is_right(&answers, 1_100 - k, &question)? || !is_right(&answers, k, &question)? {
+            return Ok(false);
+        }
+    }
+    Ok(true)
+}
+
+#[test]
+fn a_chain_is_judged_after_any_number_of_commands(rt: HostRuntime) -> Result<(), Fail> {
+    assert!(rt; are_right(rt.alloc())?);
+    Ok(())
+}

@@ -1,0 +1,17 @@
+use Rattle.std.proofs.Common.{◌∙◌, ap}
+use Rattle.ts_crl.specs.ListView.{crl_in}
+use Rattle.ts_crl.specs.Table.{crl_fault}
+use Rattle.ts_crl.specs.declared.owned.OwnedCrlFault.TheVariants.{Memory}
+use Rattle.ts_store.specs.declared.command.Command.TheVariants.{LoadCrl}
+use Rattle.ts_history.proofs.Applied.{kept_is, loaded}
+use Rattle.ts_history.proofs.taken.crl_taken.Goals as goal
+
+pub returns-in_ok-change-in-Ok-clause-same : goal.returns-in_ok-change-in-Ok-clause-same
+returns-in_ok-change-in-Ok-clause-same c =
+    let kept = kept_is c.as_slice-octets.result.now c.in-Ok.crl Memory (crl_fault c.as_slice-octets.result.now) c.in-Ok.ensures.kept c.in-Ok.ensures.refused in
+    ap (LoadCrl c.args.id) (kept ∙ c.as_slice-octets.ensures.octets)
+
+pub returns-in_ok-change-in-Ok-clause-done : goal.returns-in_ok-change-in-Ok-clause-done
+returns-in_ok-change-in-Ok-clause-done c = λ new e.
+    let kept = kept_is c.as_slice-octets.result.now c.in-Ok.crl Memory (crl_fault c.as_slice-octets.result.now) c.in-Ok.ensures.kept c.in-Ok.ensures.refused in
+    loaded c.args.id c.in-Ok.crl c.args.crl.now (crl_in c.view.result) c.in_ok-change-in-Ok.change c.args.tables.now new (kept ∙ c.as_slice-octets.ensures.octets) c.view.ensures.exact c.in_ok-change-in-Ok.ensures e

@@ -1,0 +1,4 @@
+pub mod Contents
+pub mod Taken
+pub mod Places
+pub mod History

@@ -1,0 +1,37 @@
+-- Which place of the tables a command changes, where it is applied.
+use Rattle.std.specs.Prelude.{ℕ, List, Option, Some, None, if◌then◌else◌}
+use Rattle.ts_crl.specs.List.{CertificateList}
+use Rattle.ts_crl.specs.Profile.{is_delta}
+use Rattle.ts_store.specs.Lists.{has_slot, has_id, place_by}
+use Rattle.ts_store.specs.Tables.{Tables}
+use Rattle.ts_history.specs.declared.taken.Kind.{Kind}
+use Rattle.ts_history.specs.declared.taken.Kind.TheVariants.{Complete, Delta}
+use Rattle.ts_history.specs.declared.taken.Change.{Change}
+use Rattle.ts_history.specs.declared.taken.Change.TheVariants.{Nothing, RemovesAnchor, SetsPurposes, AddsCrl, PutsCrl, RemovesCrl}
+
+abbrev pub removal_at : Option ℕ → Change
+removal_at None = Nothing
+removal_at (Some i) = RemovesAnchor i
+
+abbrev pub setting_at : Option ℕ → Change
+setting_at None = Nothing
+setting_at (Some i) = SetsPurposes i
+
+-- a complete list, else a delta
+abbrev pub crl_removal_at : Option ℕ → Option ℕ → Change
+crl_removal_at (Some i) delta = RemovesCrl Complete i
+crl_removal_at None (Some i) = RemovesCrl Delta i
+crl_removal_at None None = Nothing
+
+abbrev pub crl_removal_in : List ℕ → Tables → Change
+crl_removal_in id tables = crl_removal_at (place_by (has_id id) tables.complete) (place_by (has_id id) tables.deltas)
+
+abbrev pub crl_change_at : Kind → Option ℕ → Change
+crl_change_at kind None = AddsCrl kind
+crl_change_at kind (Some i) = PutsCrl kind i
+
+abbrev pub crl_change_in : CertificateList → Tables → Change
+crl_change_in new tables =
+    if is_delta new
+    then crl_change_at Delta (place_by (has_slot new) tables.deltas)
+    else crl_change_at Complete (place_by (has_slot new) tables.complete)

@@ -1,0 +1,126 @@
+//! The commands that a store took, and its tables after any number of them.
+
+ghost use Rattle.std.specs.Prelude.{◌≡◌, ◌<◌, ◌≤◌, ◌++◌, ◌∷◌, [], length, take, IfOk, OnOk, OnErr};
+ghost use Rattle.ts_store.specs.Ids.{first_of};
+ghost use Rattle.ts_store.specs.Store.{store_after};
+ghost use Rattle.ts_history.specs.Contents.{contents_of, no_contents};
+ghost use Rattle.ts_history.specs.History.{change_if, outcome_after, replayed};
+
+use crate::snapshot::Snapshot;
+use crate::taken::{Change, Taken, taken_of};
+use std::alloc::{AllocError, Global};
+use std::marker::Model;
+use ts_store::{Command, First, Outcome, Store, Tables};
+
+/// The commands that a store took, what each changed, and the store after them. Contracts see the list of the commands.
+#[derive(Drop)]
+pub struct History {
+    alloc: Global,
+    taken: Vec<Taken>,
+    store: Store,
+}
+
+impl Model for History {
+    ghost use Rattle.std.specs.Prelude.{List};
+    ghost use Rattle.ts_store.specs.declared.command.Command.{Command as Stated};
+    ghost use Rattle.ts_history.specs.History.{IsHistory, commands_in};
+
+    ghost Value = { List Stated };
+
+    ghost view = { λ h. commands_in h.taken.items };
+
+    ghost invariant = { λ h. IsHistory h.taken.items h.store };
+}
+
+/// What a command changed, where this is what it would change if it was applied.
+fn change_by(outcome: Outcome, change: Change) -> Change
+    ensures { result ≡ change_if outcome change }
+{
+    match outcome {
+        Outcome::Applied => change,
+        Outcome::Repeated(_) | Outcome::Refused(_) => Change::Nothing,
+    }
+}
+
+impl History {
+    /// No commands.
+    pub fn new(alloc: Global) -> History
+        ensures { result ≡ [] }
+    {
+        History {
+            alloc,
+            taken: Vec::new(alloc),
+            store: Store::new(alloc),
+        }
+    }
+
+    /// How many commands were taken.
+    pub fn count(&self) -> u32
+        ensures { result ≡ length self.now }
+    {
+        self.store.taken()
+    }
+
+    /// Takes the command of the next position, of which it keeps a copy, and answers what it came to.
+    ///
+    /// # Errors
+    ///
+    /// Memory that is refused. Nothing is changed then.
+    pub fn push(&mut self, command: &Command) -> Result<Outcome, AllocError>
+        requires { length self.old < 1000000 }
+        ensures outcome { IfOk result (λ outcome. outcome ≡ outcome_after self.old command.now) }
+        ensures pushed { OnOk result (self.new ≡ self.old ++ command.now ∷ []) }
+        ensures refused { OnErr result (self.new ≡ self.old) }
+    {
+        let Taken { kept, change } = taken_of(self.alloc, self.store.tables(), command)?;
+        self.taken.reserve(1)?;
+        let position = self.store.taken() + 1;
+        let outcome = self.store.apply(position, command)?;
+        let change = change_by(outcome, change);
+        match self.taken.push(Taken { kept, change }) {
+            Ok(()) => Ok(outcome),
+            Err(_) => unreachable!(),
+        }
+    }
+
+    /// The first command that had an id: its position, and what it came to.
+    pub fn first(&self, id: &[u8; 16]) -> Option<First>
+        ensures { result ≡ first_of id.now (store_after self.now).ids }
+    {
+        self.store.first(id)
+    }
+
+    /// The tables after all commands.
+    pub fn tables(&self) -> &Tables
+        ensures { result.now ≡ (store_after self.now).tables }
+    {
+        self.store.tables()
+    }
+
+    /// The tables after the first k commands, lent. Where these are not all, it takes k steps, of which each changes one place of a list of
+    /// references.
+    ///
+    /// # Errors
+    ///
+    /// Memory that is refused.
+    pub fn at(&self, alloc: Global, k: u32) -> Result<Snapshot<'_>, AllocError>
+        requires { k ≤ length self.now }
+        ensures { IfOk result (λ snapshot. snapshot ≡ contents_of (store_after (take k self.now)).tables) }
+    {
+        if k == self.store.taken() {
+            return Snapshot::of(alloc, self.store.tables());
+        }
+        replay(alloc, &self.taken[..k as usize])
+    }
+}
+
+/// The tables after these commands.
+fn replay(alloc: Global, taken: &[Taken]) -> Result<Snapshot<'_>, AllocError>
+    ensures { IfOk result (λ snapshot. snapshot ≡ replayed no_contents taken.now) }
+{
+    let mut snapshot = Snapshot::empty(alloc);
+    for one in taken {
+        snapshot.change(one)?;
+    }
+    Ok(snapshot)
+}

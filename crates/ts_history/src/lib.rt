@@ -1,0 +1,31 @@
+//! The tables of a trust store after any number of its commands.
+//!
+//! ```text
+//! let mut history = History::new(alloc);
+//! let outcome = history.push(&command)?;             // Applied, Repeated(position) or Refused(why)
+//! let now = Snapshot::of(alloc, history.tables())?;  // the tables after all commands, lent
+//! let then = history.at(alloc, k)?;                  // the tables after the first k commands, lent
+//! ```
+//!
+//! Beside each command it is kept which place of the tables the command changed. The tables after the first k commands are made again by
+//! k such changes of lists of references: no certificate and no list is read again, hashed or copied, and no slot is searched.
+//!
+//! | Call | Clauses |
+//! |---|---|
+//! | [`History::new`], [`History::count`] | no commands; how many were taken |
+//! | [`History::push`] | `outcome`: that of the store's definition; `pushed`; `refused`: at an error nothing changes |
+//! | [`History::first`] | the first command of an id, and what it came to |
+//! | [`History::tables`], [`Snapshot::of`] | the tables after all commands |
+//! | [`History::at`] | the tables after the first k commands |
+//! | [`Snapshot::anchors`], [`Snapshot::complete`], [`Snapshot::deltas`] | what tables hold (`specs/Contents`) |
+//!
+//! Memory that is refused is answered as `AllocError`.
+#![tactic(auto)]
+
+mod history;
+mod placing;
+mod snapshot;
+mod taken;
+
+pub use history::History;
+pub use snapshot::{LentAnchor, Snapshot};

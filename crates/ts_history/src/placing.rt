@@ -1,0 +1,78 @@
+//! Which place of the tables a command changes.
+
+ghost use Rattle.std.specs.Prelude.{◌≡◌, IfOk};
+ghost use Rattle.ts_crl.specs.ListView.{crl_in};
+ghost use Rattle.ts_crl.specs.Profile.{is_delta};
+ghost use Rattle.ts_store.specs.Anchors.{place_of as place_in};
+ghost use Rattle.ts_store.specs.Lists.{has_slot as has_slot_of, place_by};
+ghost use Rattle.ts_history.specs.Places.{removal_at, setting_at, crl_change_at, crl_removal_at, crl_change_in, crl_removal_in};
+
+use crate::taken::{Change, Kind};
+use std::alloc::{AllocError, Global};
+use ts_crl::Crl;
+use ts_store::{StoredCrl, Tables, TrustAnchor, place_of_anchor, place_of_crl, place_of_slot};
+
+/// The anchor of this id goes.
+pub(crate) fn removal(anchors: &[TrustAnchor], id: &[u8; 32]) -> Change
+    ensures { result ≡ removal_at (place_in id.now anchors.now) }
+{
+    match place_of_anchor(anchors, id) {
+        Some(at) => Change::RemovesAnchor { at },
+        None => Change::Nothing,
+    }
+}
+
+/// The anchor of this id gets purposes.
+pub(crate) fn setting(anchors: &[TrustAnchor], id: &[u8; 32]) -> Change
+    ensures { result ≡ setting_at (place_in id.now anchors.now) }
+{
+    match place_of_anchor(anchors, id) {
+        Some(at) => Change::SetsPurposes { at },
+        None => Change::Nothing,
+    }
+}
+
+/// The list of this id goes: a complete one, else a delta.
+pub(crate) fn crl_removal(tables: &Tables, id: &[u8; 32]) -> Change
+    ensures { result ≡ crl_removal_in id.now tables.now }
+{
+    if let Some(at) = place_of_crl(tables.crls(), id) {
+        return Change::RemovesCrl {
+            kind: Kind::Complete,
+            at,
+        };
+    }
+    match place_of_crl(tables.deltas(), id) {
+        Some(at) => Change::RemovesCrl {
+            kind: Kind::Delta,
+            at,
+        },
+        None => Change::Nothing,
+    }
+}
+
+/// A list goes into the place of the one of its slot, else behind all of its kind.
+fn change_among(
+    alloc: Global,
+    kind: Kind,
+    lists: &[StoredCrl],
+    new: Crl<'_>,
+) -> Result<Change, AllocError>
+    ensures { IfOk result (λ change. change ≡ crl_change_at kind (place_by (has_slot_of (crl_in new.entry)) lists.now)) }
+{
+    match place_of_slot(alloc, lists, new)? {
+        Some(at) => Ok(Change::PutsCrl { kind, at }),
+        None => Ok(Change::AddsCrl { kind }),
+    }
+}
+
+/// A list goes among the complete ones, or the deltas.
+pub(crate) fn crl_change(alloc: Global, tables: &Tables, new: Crl<'_>) -> Result<Change, AllocError>
+    ensures { IfOk result (λ change. change ≡ crl_change_in (crl_in new.entry) tables.now) }
+{
+    if new.is_delta() {
+        change_among(alloc, Kind::Delta, tables.deltas(), new)
+    } else {
+        change_among(alloc, Kind::Complete, tables.crls(), new)
+    }
+}

@@ -1,0 +1,224 @@
+//! The tables of a store, lent.
+
+ghost use Rattle.std.specs.Prelude.{◌≡◌, ◌++◌, ◌∷◌, [], List, ℕ, map, IfOk, OnOk};
+ghost use Rattle.std.specs.List.{remove};
+ghost use Rattle.ts_history.specs.Contents.{anchor_in, contents_of, no_contents};
+ghost use Rattle.ts_history.specs.Taken.{changed, with_anchor, with_crl_at, with_last, with_purposes_in, with_purposes_of};
+
+use crate::taken::{Change, Kept, Kind, Taken};
+use std::alloc::{AllocError, Global};
+use std::marker::Model;
+use ts_cert::OwnedCert;
+use ts_crl::OwnedCrl;
+use ts_store::{Command, Purposes, StoredCrl, Tables, TrustAnchor};
+
+/// A trust anchor, lent: the SHA-256 of its certificate, the certificate, and its purposes, `None` for any.
+#[derive(Clone, Copy)]
+pub struct LentAnchor<'a> {
+    pub id: [u8; 32],
+    pub certificate: &'a OwnedCert,
+    pub purposes: Option<&'a Purposes>,
+}
+
+/// The tables of a store, lent: nothing of them is copied or read again.
+#[derive(Drop)]
+pub struct Snapshot<'a> {
+    anchors: Vec<LentAnchor<'a>>,
+    complete: Vec<&'a OwnedCrl>,
+    deltas: Vec<&'a OwnedCrl>,
+}
+
+impl<'a> Model for Snapshot<'a> {
+    ghost use Rattle.std.specs.Prelude.{map};
+    ghost use Rattle.ts_history.specs.Contents.{Contents, anchor_in};
+
+    ghost Value = { Contents };
+
+    ghost view = { λ s. record { anchors = map anchor_in s.anchors.items; complete = map (λ c. c.now) s.complete.items; deltas = map (λ c. c.now) s.deltas.items } };
+}
+
+/// The anchors of a table, lent.
+fn anchors_of(alloc: Global, anchors: &[TrustAnchor]) -> Result<Vec<LentAnchor<'_>>, AllocError>
+    ensures { IfOk result (λ lent. map anchor_in lent.items ≡ anchors.now) }
+{
+    let mut lent = Vec::new(alloc);
+    for anchor in anchors {
+        lent.push(LentAnchor {
+            id: anchor.id,
+            certificate: &anchor.certificate,
+            purposes: Some(&anchor.purposes),
+        })?;
+    }
+    Ok(lent)
+}
+
+/// The lists of a table, lent.
+fn crls_of(alloc: Global, lists: &[StoredCrl]) -> Result<Vec<&OwnedCrl>, AllocError>
+    ensures { IfOk result (λ lent. map (λ c. c.now) lent.items ≡ map (λ c. c.crl) lists.now) }
+{
+    let mut lent = Vec::new(alloc);
+    for list in lists {
+        lent.push(&list.crl)?;
+    }
+    Ok(lent)
+}
+
+/// Adds the anchor of a command as the last one.
+fn add_anchor<'a>(anchors: &mut Vec<LentAnchor<'a>>, kept: &'a Kept) -> Result<(), AllocError>
+    ensures { OnOk result (map anchor_in anchors.new.items ≡ with_anchor kept.now (map anchor_in anchors.old.items)) }
+{
+    if let Kept::Anchor {
+        digest,
+        certificate,
+        ..
+    } = kept
+    {
+        anchors.push(LentAnchor {
+            id: *digest,
+            certificate,
+            purposes: None,
+        })?;
+    }
+    Ok(())
+}
+
+/// Removes the anchor at a place.
+fn remove_anchor(anchors: &mut Vec<LentAnchor<'_>>, at: usize)
+    ensures { map anchor_in anchors.new.items ≡ remove (map anchor_in anchors.old.items) at }
+{
+    if at < anchors.len() {
+        let _anchor = anchors.remove(at);
+    }
+}
+
+/// Gives the anchor at a place the purposes that a command sets.
+fn set_purposes<'a>(anchors: &mut Vec<LentAnchor<'a>>, at: usize, command: &'a Command)
+    ensures { map anchor_in anchors.new.items ≡ with_purposes_of command.now at (map anchor_in anchors.old.items) }
+{
+    if let Command::SetPurposes { purposes, .. } = command {
+        if at < anchors.len() {
+            anchors[at].purposes = Some(purposes);
+        }
+    }
+}
+
+/// Gives the anchor at a place the purposes of a command.
+fn set_purposes_in<'a>(anchors: &mut Vec<LentAnchor<'a>>, at: usize, kept: &'a Kept)
+    ensures { map anchor_in anchors.new.items ≡ with_purposes_in kept.now at (map anchor_in anchors.old.items) }
+{
+    if let Kept::Other(command) = kept {
+        set_purposes(anchors, at, command);
+    }
+}
+
+/// Adds the list of a command as the last one.
+fn add_crl<'a>(lists: &mut Vec<&'a OwnedCrl>, kept: &'a Kept) -> Result<(), AllocError>
+    ensures { OnOk result (map (λ c. c.now) lists.new.items ≡ with_last kept.now (map (λ c. c.now) lists.old.items)) }
+{
+    if let Kept::Crl { crl, .. } = kept {
+        lists.push(crl)?;
+    }
+    Ok(())
+}
+
+/// Puts the list of a command at a place.
+fn put_crl<'a>(lists: &mut Vec<&'a OwnedCrl>, at: usize, kept: &'a Kept)
+    ensures { map (λ c. c.now) lists.new.items ≡ with_crl_at kept.now at (map (λ c. c.now) lists.old.items) }
+{
+    if let Kept::Crl { crl, .. } = kept {
+        if at < lists.len() {
+            lists[at] = crl;
+        }
+    }
+}
+
+/// Removes the list at a place.
+fn remove_crl(lists: &mut Vec<&OwnedCrl>, at: usize)
+    ensures { map (λ c. c.now) lists.new.items ≡ remove (map (λ c. c.now) lists.old.items) at }
+{
+    if at < lists.len() {
+        let _list = lists.remove(at);
+    }
+}
+
+impl<'a> Snapshot<'a> {
+    /// Tables that hold nothing.
+    pub(crate) fn empty(alloc: Global) -> Snapshot<'a>
+        ensures { result ≡ no_contents }
+    {
+        Snapshot {
+            anchors: Vec::new(alloc),
+            complete: Vec::new(alloc),
+            deltas: Vec::new(alloc),
+        }
+    }
+
+    /// These tables, lent.
+    pub fn of(alloc: Global, tables: &'a Tables) -> Result<Snapshot<'a>, AllocError>
+        ensures { IfOk result (λ snapshot. snapshot ≡ contents_of tables.now) }
+    {
+        let anchors = anchors_of(alloc, tables.anchors())?;
+        let complete = crls_of(alloc, tables.crls())?;
+        let deltas = crls_of(alloc, tables.deltas())?;
+        Ok(Snapshot {
+            anchors,
+            complete,
+            deltas,
+        })
+    }
+
+    /// Makes what a command changed.
+    pub(crate) fn change(&mut self, taken: &'a Taken) -> Result<(), AllocError>
+        ensures { OnOk result (self.new ≡ changed taken.now.change taken.now.kept self.old) }
+    {
+        let kept = &taken.kept;
+        match taken.change {
+            Change::Nothing => {}
+            Change::AddsAnchor => add_anchor(&mut self.anchors, kept)?,
+            Change::RemovesAnchor { at } => remove_anchor(&mut self.anchors, at),
+            Change::SetsPurposes { at } => set_purposes_in(&mut self.anchors, at, kept),
+            Change::AddsCrl {
+                kind: Kind::Complete,
+            } => add_crl(&mut self.complete, kept)?,
+            Change::AddsCrl { kind: Kind::Delta } => add_crl(&mut self.deltas, kept)?,
+            Change::PutsCrl {
+                kind: Kind::Complete,
+                at,
+            } => put_crl(&mut self.complete, at, kept),
+            Change::PutsCrl {
+                kind: Kind::Delta,
+                at,
+            } => put_crl(&mut self.deltas, at, kept),
+            Change::RemovesCrl {
+                kind: Kind::Complete,
+                at,
+            } => remove_crl(&mut self.complete, at),
+            Change::RemovesCrl {
+                kind: Kind::Delta,
+                at,
+            } => remove_crl(&mut self.deltas, at),
+        }
+        Ok(())
+    }
+
+    /// The trust anchors, in their order.
+    pub fn anchors(&self) -> &[LentAnchor<'a>]
+        ensures { map anchor_in result.now ≡ self.now.anchors }
+    {
+        self.anchors.as_slice()
+    }
+
+    /// The complete lists, in their order.
+    pub fn complete(&self) -> &[&'a OwnedCrl]
+        ensures { map (λ c. c.now) result.now ≡ self.now.complete }
+    {
+        self.complete.as_slice()
+    }
+
+    /// The deltas, in their order.
+    pub fn deltas(&self) -> &[&'a OwnedCrl]
+        ensures { map (λ c. c.now) result.now ≡ self.now.deltas }
+    {
+        self.deltas.as_slice()
+    }
+}

@@ -1,0 +1,159 @@
+//! A command that was taken, and what it changed.
+
+ghost use Rattle.std.specs.Prelude.{◌≡◌, Ok, IfOk};
+ghost use Rattle.ts_store.specs.Tables.{Tables as Stated, change as change_by};
+ghost use Rattle.ts_store.specs.declared.command.Command.TheVariants.{AddAnchor, LoadCrl};
+ghost use Rattle.ts_history.specs.Contents.{contents_of};
+ghost use Rattle.ts_history.specs.Taken.{command_in, changed};
+ghost use Rattle.ts_history.specs.declared.taken.Kept.TheVariants.{Other};
+
+use crate::placing::{crl_change, crl_removal, removal, setting};
+use std::alloc::{AllocError, Global};
+use ts_cert::{OwnedCert, OwnedCertFault};
+use ts_crl::{OwnedCrl, OwnedCrlFault};
+use ts_store::{CertificateOctets, Command, CrlOctets, Tables, digest};
+
+/// A command. The certificate of a new anchor and a list that is loaded are kept as what they are, so that they are lent without being
+/// read again.
+#[derive(Drop)]
+pub(crate) enum Kept {
+    /// Adds a trust anchor: the certificate, and its SHA-256.
+    Anchor {
+        id: [u8; 16],
+        digest: [u8; 32],
+        certificate: OwnedCert,
+    },
+    /// Adds a list of revoked certificates.
+    Crl {
+        id: [u8; 16],
+        crl: OwnedCrl,
+    },
+    /// Any other command, and those whose octets are no certificate or no list.
+    Other(Command),
+}
+
+/// Complete lists, or deltas.
+#[derive(Clone, Copy, Debug, PartialEq, Eq)]
+pub(crate) enum Kind {
+    Complete,
+    Delta,
+}
+
+/// What a command changed, by its place in a table.
+#[derive(Clone, Copy, Debug, PartialEq, Eq)]
+pub(crate) enum Change {
+    /// It was refused, is one whose id was there, or asks for nothing.
+    Nothing,
+    /// Its anchor is the last one.
+    AddsAnchor,
+    /// The anchor at this place is gone.
+    RemovesAnchor { at: usize },
+    /// The anchor at this place has its purposes.
+    SetsPurposes { at: usize },
+    /// Its list is the last one of its kind.
+    AddsCrl { kind: Kind },
+    /// Its list is at this place, where another one of its slot was.
+    PutsCrl { kind: Kind, at: usize },
+    /// The list at this place is gone.
+    RemovesCrl { kind: Kind, at: usize },
+}
+
+/// A command that was taken, and what it changed.
+#[derive(Drop)]
+pub(crate) struct Taken {
+    pub kept: Kept,
+    pub change: Change,
+}
+
+/// A command that adds an anchor, and what it changes where it is applied.
+fn anchor_taken(
+    alloc: Global,
+    id: [u8; 16],
+    certificate: &CertificateOctets,
+) -> Result<Taken, AllocError>
+    ensures same { IfOk result (λ taken. command_in taken.kept ≡ AddAnchor id certificate.now) }
+    ensures done { IfOk result (λ taken. (old new : Stated) → change_by (AddAnchor id certificate.now) old ≡ Ok new → changed taken.change taken.kept (contents_of old) ≡ contents_of new) }
+{
+    let octets = certificate.as_slice();
+    match OwnedCert::read(alloc, octets) {
+        Ok(certificate) => Ok(Taken {
+            kept: Kept::Anchor {
+                id,
+                digest: digest(octets),
+                certificate,
+            },
+            change: Change::AddsAnchor,
+        }),
+        Err(OwnedCertFault::Memory) => Err(AllocError),
+        Err(OwnedCertFault::Unreadable(_)) => {
+            let certificate = certificate.try_copy(alloc)?;
+            Ok(Taken {
+                kept: Kept::Other(Command::AddAnchor { id, certificate }),
+                change: Change::Nothing,
+            })
+        }
+    }
+}
+
+/// A command that loads a list, and what it changes in these tables where it is applied.
+fn crl_taken(
+    alloc: Global,
+    tables: &Tables,
+    id: [u8; 16],
+    crl: &CrlOctets,
+) -> Result<Taken, AllocError>
+    ensures same { IfOk result (λ taken. command_in taken.kept ≡ LoadCrl id crl.now) }
+    ensures done { IfOk result (λ taken. (new : Stated) → change_by (LoadCrl id crl.now) tables.now ≡ Ok new → changed taken.change taken.kept (contents_of tables.now) ≡ contents_of new) }
+{
+    let octets = crl.as_slice();
+    match OwnedCrl::read(alloc, octets) {
+        Ok(crl) => {
+            let change = crl_change(alloc, tables, crl.view())?;
+            Ok(Taken {
+                kept: Kept::Crl { id, crl },
+                change,
+            })
+        }
+        Err(OwnedCrlFault::Memory) => Err(AllocError),
+        Err(OwnedCrlFault::Unreadable(_)) => {
+            let crl = crl.try_copy(alloc)?;
+            Ok(Taken {
+                kept: Kept::Other(Command::LoadCrl { id, crl }),
+                change: Change::Nothing,
+            })
+        }
+    }
+}
+
+/// A copy of another command, and what it changes.
+fn other_taken(alloc: Global, command: &Command, change: Change) -> Result<Taken, AllocError>
+    ensures { IfOk result (λ taken. taken ≡ record { kept = Other command.now; change = change }) }
+{
+    Ok(Taken {
+        kept: Kept::Other(command.try_copy(alloc)?),
+        change,
+    })
+}
+
+/// A copy of a command, and what it changes in these tables where it is applied.
+pub(crate) fn taken_of(
+    alloc: Global,
+    tables: &Tables,
+    command: &Command,
+) -> Result<Taken, AllocError>
+    ensures same { IfOk result (λ taken. command_in taken.kept ≡ command.now) }
+    ensures done { IfOk result (λ taken. (new : Stated) → change_by command.now tables.now ≡ Ok new → changed taken.change taken.kept (contents_of tables.now) ≡ contents_of new) }
+{
+    match command {
+        Command::AddAnchor { id, certificate } => anchor_taken(alloc, *id, certificate),
+        Command::LoadCrl { id, crl } => crl_taken(alloc, tables, *id, crl),
+        Command::WithdrawAnchor { anchor, .. } => {
+            other_taken(alloc, command, removal(tables.anchors(), anchor))
+        }
+        Command::SetPurposes { anchor, .. } => {
+            other_taken(alloc, command, setting(tables.anchors(), anchor))
+        }
+        Command::DropCrl { crl, .. } => other_taken(alloc, command, crl_removal(tables, crl)),
+        Command::Noop { .. } => other_taken(alloc, command, Change::Nothing),
+    }
+}
