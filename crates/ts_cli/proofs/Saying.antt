@@ -5,13 +5,14 @@ use Rattle.clap.specs.Walk.{Text, Row, first_of}
 use Rattle.ts_cli.specs.Values.{IsNumberIn}
 use Rattle.ts_cli.specs.Says.{SaysTask, SaysAny, IsInRange}
 use Rattle.ts_cli.specs.declared.task.Task.{Task}
-use Rattle.ts_cli.specs.declared.task.Task.TheVariants.{Lab, Format, Serve, Submit, Ask, Carry, Status, CatchUp, Compact, Command, Question, Id, Show}
+use Rattle.ts_cli.specs.declared.task.Task.TheVariants.{Lab, Format, Migrate, Serve, Submit, Ask, Carry, Status, CatchUp, Compact, Command, Question, Id, Show}
 
 pub says_any : (own : List Row) (name : Text) (rows : List Row) (task : Task) → SaysTask name rows task → SaysAny own name rows task
 says_any own name rows (Command words) says = absurd says
 says_any own name rows (Question words) says = absurd says
 says_any own name rows Lab says = says
 says_any own name rows (Format file id nodes) says = says
+says_any own name rows (Migrate old new) says = says
 says_any own name rows (Serve file listen table connections) says = says
 says_any own name rows (Submit address file) says = says
 says_any own name rows (Ask address file) says = says
@@ -34,6 +35,7 @@ in_range own name rows (Carry addresses rounds) says =
     let count = length-map addresses.items string_bytes in
     (omega (arith, count, says.least), omega (arith, count, says.most), says.rounds_is.is.from, says.rounds_is.is.to)
 in_range own name rows Lab says = tt
+in_range own name rows (Migrate old new) says = tt
 in_range own name rows (Submit address file) says = tt
 in_range own name rows (Ask address file) says = tt
 in_range own name rows (Command words) says = tt

@@ -15,13 +15,18 @@ use Rattle.ts_cli.specs.declared.question_words.TermWords.{TermWords}
 use Rattle.ts_cli.specs.declared.question_words.Subject.{Subject}
 use Rattle.ts_cli.specs.declared.question_words.Subject.TheVariants.{Chain, Search}
 use Rattle.ts_cli.specs.declared.task.Task.{Task}
-use Rattle.ts_cli.specs.declared.task.Task.TheVariants.{Lab, Format, Serve, Submit, Ask, Carry, Status, CatchUp, Compact, Command, Question, Id, Show}
+use Rattle.ts_cli.specs.declared.task.Task.TheVariants.{Lab, Format, Migrate, Serve, Submit, Ask, Carry, Status, CatchUp, Compact, Command, Question, Id, Show}
 
 pub record IsFormat (name : Text) (rows : List Row) (file : Text) (id nodes : ℕ) : Type 0 where
   pub name_is : name ≡ codes "format"
   pub file_is : IsAt (codes "file") rows file
   pub id_is : IsNumberAt (codes "id") rows 1 nodes id
   pub nodes_is : IsNumberAt (codes "nodes") rows 1 9 nodes
+
+pub record IsMigration (name : Text) (rows : List Row) (old new : Text) : Type 0 where
+  pub name_is : name ≡ codes "migrate"
+  pub old_is : IsAt (codes "old") rows old
+  pub new_is : IsAt (codes "new") rows new
 
 pub record IsServe (name : Text) (rows : List Row) (file listen : Text) (table : Option Text) (connections : ℕ) : Type 0 where
   pub name_is : name ≡ codes "serve"
@@ -143,6 +148,7 @@ SaysQuestion name rows words = IsAsked words.subject name rows (map string_bytes
 abbrev pub SaysTask : Text → List Row → Task → Type 0
 SaysTask name rows Lab = name ≡ codes "lab"
 SaysTask name rows (Format file id nodes) = IsFormat name rows (string_bytes file) id nodes
+SaysTask name rows (Migrate old new) = IsMigration name rows (string_bytes old) (string_bytes new)
 SaysTask name rows (Serve file listen table connections) = IsServe name rows (string_bytes file) (string_bytes listen) (option_map string_bytes table) connections
 SaysTask name rows (Submit address file) = IsSending name (codes "submit") rows (string_bytes address) (string_bytes file)
 SaysTask name rows (Ask address file) = IsSending name (codes "ask") rows (string_bytes address) (string_bytes file)
@@ -161,6 +167,7 @@ SaysAny own name rows (Command words) = SaysCommand own name rows words
 SaysAny own name rows (Question words) = SaysQuestion name rows words
 SaysAny own name rows Lab = SaysTask name rows Lab
 SaysAny own name rows (Format file id nodes) = SaysTask name rows (Format file id nodes)
+SaysAny own name rows (Migrate old new) = SaysTask name rows (Migrate old new)
 SaysAny own name rows (Serve file listen table connections) = SaysTask name rows (Serve file listen table connections)
 SaysAny own name rows (Submit address file) = SaysTask name rows (Submit address file)
 SaysAny own name rows (Ask address file) = SaysTask name rows (Ask address file)
@@ -188,6 +195,7 @@ IsInRange (Format file id nodes) = (1 ≤ id) × (id ≤ nodes) × (nodes ≤ 9)
 IsInRange (Serve file listen table connections) = (1 ≤ connections) × (connections ≤ 1000000)
 IsInRange (Carry addresses rounds) = (1 ≤ length addresses.items) × (length addresses.items ≤ 9) × (1 ≤ rounds) × (rounds ≤ 1000000)
 IsInRange Lab = Unit {0}
+IsInRange (Migrate old new) = Unit {0}
 IsInRange (Submit address file) = Unit {0}
 IsInRange (Ask address file) = Unit {0}
 IsInRange (Command words) = Unit {0}

@@ -34,6 +34,15 @@ fn format(alloc: Global, matches: &ArgMatches<'_>) -> Result<Task, CommandFault>
     })
 }
 
+fn migrate(alloc: Global, matches: &ArgMatches<'_>) -> Result<Task, CommandFault>
+    ensures { IfOk result (SaysTask (codes "migrate") (rows_of (found_of matches.now))) }
+{
+    Ok(Task::Migrate {
+        old: string_at(alloc, matches, "old")?,
+        new: string_at(alloc, matches, "new")?,
+    })
+}
+
 /// How many connections to take, which need not be given.
 fn connections(matches: &ArgMatches<'_>) -> Result<u32, CommandFault>
     ensures { IfOk result (λ n. MatchOption (first_of (codes "connections") (rows_of (found_of matches.now))) (n ≡ 1000000) (λ text. IsNumberIn 1 1000000 text n)) }
@@ -102,6 +111,7 @@ pub(crate) fn task_named(
     match name {
         "lab" => Ok(Task::Lab),
         "format" => format(alloc, matches),
+        "migrate" => migrate(alloc, matches),
         "serve" => serve(alloc, matches),
         "submit" => submit(alloc, matches),
         "ask" => ask(alloc, matches),

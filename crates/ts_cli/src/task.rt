@@ -17,6 +17,13 @@ pub enum Task {
         /// How many nodes there are.
         nodes: u8,
     },
+    /// Make a record from one of version 1.
+    Migrate {
+        /// The record of version 1.
+        old: String,
+        /// The record that is made.
+        new: String,
+    },
     /// Answer clients and other nodes.
     Serve {
         /// The record.

@@ -1,5 +1,7 @@
+pub mod Blocks
 pub mod Choices
 mod Extend
+pub mod Filling
 mod Gates
 mod Journals
 pub mod Moments

@@ -4,7 +4,7 @@ use Rattle.std.proofs.lemmas.Bool.{cases_eq}
 use Rattle.std.specs.List.{flat_map}
 use Rattle.ts_disk.specs.Disk.{State, IsDisk, IsDurable, EveryImage, Torn, written}
 use Rattle.ts_journal.specs.Gate.{Opened}
-use Rattle.ts_journal.specs.Images.{Header, Member, member_of, IsRight, head, block, IsBody, Stands, IsShut, IsEarlier, Behind, InUse, Opens, AnyPair, OpensFrom, OneOrOther, EveryPair, entry}
+use Rattle.ts_journal.specs.Images.{Header, member_of, IsRight, head, block, IsBody, Stands, IsShut, IsEarlier, Behind, InUse, Opens, AnyPair, OpensFrom, OneOrOther, EveryPair, entry}
 use Rattle.ts_journal.specs.Settled.{IsJournal, IsSpare, next, header_of, member_in, Holds, disk_a, disk_b}
 use Rattle.ts_journal.specs.declared.journal.Stage.TheVariants.{Copying}
 use Rattle.ts_journal.specs.declared.journal.Journal.{Journal}
@@ -63,7 +63,7 @@ gate_is h copied old c s gate is = record { blocks = s.blocks; whole = s.whole; 
 split : (h : Header) (copied : List (List ℕ)) (old : List ℕ) → (s : Stands h 0 copied old) → old ≡ head h ++ (0 ∷ flat_map block s.blocks ++ (0 ∷ s.closed.0))
 split h copied old s = s.closed.1 ∙ append_assoc (head h) (0 ∷ flat_map block s.blocks) (0 ∷ s.closed.0)
 
-torn_live : (h : Header) (copied : List (List ℕ)) (old c : List ℕ) → Stands h 0 copied old → Torn 24 1 old c → Switches h copied c
+pub torn_live : (h : Header) (copied : List (List ℕ)) (old c : List ℕ) → Stands h 0 copied old → Torn 24 1 old c → Switches h copied c
 torn_live h copied old c s torn =
     let is = torn_gate (head h) (flat_map block s.blocks ++ (0 ∷ s.closed.0)) old 24 0 (split h copied old s) refl c torn in
     let stands = gate_is h copied old c s (get_or c 24 0) is in

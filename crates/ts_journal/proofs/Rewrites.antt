@@ -27,8 +27,8 @@ torn_head image c is torn =
     (take 24 c, omega (arith, length-take 24 c, torn.no_shorter, ap length is.2.1, length-append is.0 (0 ∷ rest), is.1), (rest, sym (take-append-drop 24 c) ∙ ap (λ l. take 24 c ++ l) split))
 
 -- what follows it is torn
-pub torn_rest : (image c : List ℕ) → IsShut image → Torn 25 1 image c → IsShut c
-torn_rest image c is torn = (is.0, is.1, torn_behind is.0 is.2.0 image 24 is.2.1 is.1 1 c torn)
+pub torn_rest : (image c : List ℕ) (n : ℕ) → IsShut image → Torn 25 n image c → IsShut c
+torn_rest image c n is torn = (is.0, is.1, torn_behind is.0 is.2.0 image 24 is.2.1 is.1 n c torn)
 
 pub long : (image : List ℕ) → IsShut image → 25 ≤ length image
 long image is = omega (arith, ap length is.2.1, length-append is.0 (0 ∷ is.2.0), is.1)
@@ -38,9 +38,9 @@ headed octets image sized is =
     let n : 0 + length octets ≡ 24 = omega (arith, sized) in
     ap (λ n. octets ++ drop n image) n ∙ ap (λ l. octets ++ l) (ap (drop 24) is.2.1 ∙ drop_at is.0 (0 ∷ is.2.0) 24 is.1)
 
-pub begins : (octets image : List ℕ) → length octets ≡ 24 → IsShut image → Begins octets (written (written image 0 octets) 25 (0 ∷ []))
-begins octets image sized is =
-    (drop (25 + 1) (written image 0 octets), written_behind octets is.2.0 (written image 0 octets) 24 (headed octets image sized is) sized (0 ∷ []))
+pub begins : (octets text image : List ℕ) → length octets ≡ 24 → IsShut image → Begins octets text (written (written image 0 octets) 25 text)
+begins octets text image sized is =
+    (drop (25 + length text) (written image 0 octets), written_behind octets is.2.0 (written image 0 octets) 24 (headed octets image sized is) sized text)
 
 -- each image is shut, from the first write on
 pub record Shut (old new : State) : Type 0 where
@@ -54,10 +54,10 @@ head_writes old new n sized is durable shut call =
     torn_head old.read c shut (subst (λ d. Torn 0 24 d c) (durable from.0 from.1) (subst (λ m. Torn 0 m from.0 c) sized from.2)) in
     record { run = goes_on IsShut (Torn 0 n) old old new (started IsShut old is durable shut) call now; now = now }
 
-pub rest_writes : (old mid new : State) → Shut old mid → Call (Torn 25 1) mid new → Shut old new
-rest_writes old mid new shut call =
-    let now : (c : List ℕ) → new.may_leave c → IsShut c = λ c left. let from = call.images c left in torn_rest from.0 c (shut.now from.0 from.1) from.2 in
-    record { run = goes_on IsShut (Torn 25 1) old mid new shut.run call now; now = now }
+pub rest_writes : (old mid new : State) (n : ℕ) → Shut old mid → Call (Torn 25 n) mid new → Shut old new
+rest_writes old mid new n shut call =
+    let now : (c : List ℕ) → new.may_leave c → IsShut c = λ c left. let from = call.images c left in torn_rest from.0 c n (shut.now from.0 from.1) from.2 in
+    record { run = goes_on IsShut (Torn 25 n) old mid new shut.run call now; now = now }
 
 pub syncs : (old mid new : State) → Shut old mid → Call Same mid new → Shut old new
 syncs old mid new shut call =

@@ -2,7 +2,7 @@
 use Rattle.std.specs.Prelude.{◌≡◌, ◌≢◌, ◌⊎◌, ◌<◌, ◌≤◌, ◌^◌, ℕ, Bool, true, false, List, [], ◌∷◌, ◌++◌, length, map}
 use Rattle.std.specs.List.{flat_map, AllByRecursion}
 use Rattle.std.specs.Int.{to_be_bytes, w32, w64}
-use Rattle.ts_disk.specs.Disk.{State}
+use Rattle.ts_disk.specs.Disk.{State, IsDurable}
 use Rattle.ts_journal.specs.Gate.{Closed}
 
 -- whose journal it is, of how many nodes, and how often it was rewritten
@@ -49,6 +49,10 @@ pub record IsWhole (b : Block) : Type 0 where
   pub is_open : b.gate ≢ 0
   pub fits : IsBody b.body
 
+-- their bodies
+abbrev pub bodies_in : List Block → List (List ℕ)
+bodies_in blocks = map (λ b. b.body) blocks
+
 -- header, live gate and blocks
 abbrev pub front : Header → ℕ → List Block → List ℕ
 front h live blocks = head h ++ (live ∷ flat_map block blocks)
@@ -57,7 +61,7 @@ front h live blocks = head h ++ (live ∷ flat_map block blocks)
 pub record Stands (h : Header) (live : ℕ) (bodies : List (List ℕ)) (image : List ℕ) : Type 0 where
   pub blocks : List Block
   pub whole : AllByRecursion IsWhole blocks
-  pub are : map (λ b. b.body) blocks ≡ bodies
+  pub are : bodies_in blocks ≡ bodies
   pub closed : Closed (front h live blocks) image
 
 -- its live gate is closed: nothing else of it is looked at
@@ -72,9 +76,13 @@ IsEarlier generation image = (h : Header) × (live : ℕ) × (rest : List ℕ) �
 abbrev pub Behind : ℕ → List ℕ → Type 0
 Behind generation image = IsShut image ⊎ IsEarlier generation image
 
--- these octets, a closed live gate and a closed gate
-abbrev pub Begins : List ℕ → List ℕ → Type 0
-Begins octets image = (rest : List ℕ) × (image ≡ octets ++ (0 ∷ 0 ∷ rest))
+-- these octets, a closed live gate, and a text
+abbrev pub Begins : List ℕ → List ℕ → List ℕ → Type 0
+Begins octets text image = (rest : List ℕ) × (image ≡ octets ++ (0 ∷ text ++ rest))
+
+-- no disk in use: there is nothing after a header and a live gate, or the live gate is closed
+abbrev pub IsUnused : List ℕ → Type 0
+IsUnused image = (length image ≤ 25) ⊎ IsShut image
 
 -- The first image is that of the disk in use: it is live, with the header of this member, and the other is shut or of an earlier
 -- generation.
@@ -111,6 +119,20 @@ EveryPair P a b new_a new_b = (ca cb : List ℕ) → new_a.left_since a.moment c
 -- what follows the gate of a new block: its length, its body, and a closed gate
 abbrev pub entry : List ℕ → List ℕ
 entry body = to_be_bytes w32 (length body) ++ body ++ 0 ∷ []
+
+-- a durable disk that holds nothing after a header and a live gate, as an empty one does
+pub record IsFresh (disk : State) : Type 0 where
+  pub durable : IsDurable disk
+  pub short : length disk.read ≤ 25
+
+-- a text is these blocks, and a closed gate after them
+pub record IsText (blocks : List Block) (text : List ℕ) : Type 0 where
+  pub whole : AllByRecursion IsWhole blocks
+  pub is : text ≡ flat_map block blocks ++ 0 ∷ []
+
+-- a pair of images that opens, as the journal of any member, opens to these bodies: there are all of them or none
+abbrev pub AllOrNone : List (List ℕ) → List ℕ → List ℕ → Type 0
+AllOrNone bodies a b = (member : Member) (others : List (List ℕ)) → Opens member others a b → others ≡ bodies
 
 -- each pair of images that a crash now may leave is P
 abbrev pub AnyPair : (List ℕ → List ℕ → Type 0) → State → State → Type 0

@@ -90,7 +90,7 @@ impl<D: Disk> Journal<D> {
         ensures failed { IfErr result (λ fault. (fault ≡ Failed) × OneFailed D.state self.old self.new) }
     {
         let octets = head_octets(self.node, self.nodes, self.generation + 1);
-        begin(&mut self.spare, &octets)?;
+        begin(&mut self.spare, &octets, &[0])?;
         self.copy_end = 25;
         self.stage = Stage::Copying;
         Ok(())

@@ -15,6 +15,7 @@
 //! | Call | Clauses |
 //! |---|---|
 //! | `format` | `first`, `second`: the octets; `opens`: each pair of images opens to no bodies |
+//! | `format_with` | `opens`: each pair of images opens to the bodies of the blocks that it is given; `moments`: on disks that held nothing, each pair opens to all of them or does not open, at every moment |
 //! | `look_at`, `choose` | `chosen`, `none`: which disk is in use, and that none is |
 //! | `Journal::append` | `holds`, and `moments`: each pair of images opens to the bodies before, or to those and the new one, from the disk in use |
 //! | `Journal::shut`, `begin`, `copy` | `holds`, and `moments`: each pair opens to the bodies, from the disk in use |
@@ -25,10 +26,12 @@
 
 mod choice;
 mod durable;
+mod filled;
 mod header;
 mod journal;
 mod rewrite;
 
 pub use choice::{Choice, Look, Owner, choose, look_at};
+pub use filled::format_with;
 pub use header::{format, head_octets};
 pub use journal::{Journal, Stage};

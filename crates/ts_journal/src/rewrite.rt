@@ -28,18 +28,18 @@ pub(crate) fn shut<D: Disk>(disk: &mut D, is_live: bool, generation: u64) -> Res
     }
 }
 
-// Writes the octets before the live gate of a shut disk, and a closed gate after it.
-pub(crate) fn begin<D: Disk>(disk: &mut D, octets: &[u8]) -> Result<(), DiskFault>
+// Writes the octets before the live gate of a shut disk, and a text after it.
+pub(crate) fn begin<D: Disk>(disk: &mut D, octets: &[u8], text: &[u8]) -> Result<(), DiskFault>
     requires durable { IsDurable (D.state disk.old) }
     requires shut { IsShut (D.state disk.old).read }
     requires length { length octets.now ≡ 24 }
     ensures durable { OnOk result (IsDurable (D.state disk.new)) }
-    ensures begun { OnOk result (Begins octets.now (D.state disk.new).read) }
+    ensures begun { OnOk result (Begins octets.now text.now (D.state disk.new).read) }
     ensures moments { EveryImage IsShut (D.state disk.old) (D.state disk.new) }
     ensures fault { IfErr result (λ fault. fault ≡ Failed) }
     ensures cause { HasCause (D.state disk.old) (D.state disk.new) result }
 {
     disk.write_at(0, octets)?;
-    disk.write_at(LIVE_GATE + 1, &[0])?;
+    disk.write_at(LIVE_GATE + 1, text)?;
     disk.sync()
 }

@@ -1,12 +1,13 @@
 -- A list of facts has one encoding, and no two lists have the same.
-use Rattle.std.proofs.Common.{◌==◌, false, zero, suc, ◌≡◌, ◌≢◌, ◌<◌, ◌≤◌, ◌^◌, ℕ, List, [], ◌∷◌, ◌++◌, length, drop, Option, Some, None, get_or, take, refl, sym, ◌∙◌, ap, arith, append_assoc}
+use Rattle.std.proofs.Common.{◌==◌, false, zero, suc, ◌≡◌, ◌≢◌, ◌<◌, ◌≤◌, ◌^◌, ℕ, List, [], ◌∷◌, ◌++◌, length, drop, get_or, take, refl, sym, ◌∙◌, ap, arith, append_assoc}
 use Rattle.std.proofs.lemmas.List.{append-nil, drop_at, take_at}
 use Rattle.std.proofs.lemmas.Grind.{flat_map-append}
 use Rattle.std.specs.Int.{to_be_bytes, w64}
 use Rattle.ts_record.specs.Facts.{blob, encoding, encodings, IsPosition, IsBallot, IsBlob, Fits, AllFit, NoFact}
 use Rattle.ts_synod.specs.declared.message.Fact.{Fact}
 use Rattle.ts_synod.specs.declared.message.Fact.TheVariants.{Used, Promised, Took, Chosen}
-use Rattle.ts_record.proofs.Numbers.{one4, one8}
+use Rattle.ts_journal.proofs.Blocks.{one4}
+use Rattle.ts_record.proofs.Numbers.{one8}
 
 -- what a loop has read of a body
 pub record ReadSoFar {C : Type 0} (octets : C → List ℕ) (before facts : List (Fact C)) (body rest : List ℕ) : Type 0 where

@@ -1,6 +1,7 @@
 mod Forces
 mod Laws
 mod Ledgers
+mod Migration
 mod Numbers
 mod Opened
 mod Places

@@ -1,8 +1,8 @@
 -- A record after an open.
-use Rattle.std.proofs.Common.{◌≡◌, ◌⊎◌, ◌≤◌, inl, inr, ◌+◌, ℕ, Bool, true, false, cond, List, [], ◌∷◌, ◌++◌, length, map, drop, Option, Some, refl, sym, ◌∙◌, ap, subst, arith, append_assoc, length-append}
+use Rattle.std.proofs.Common.{◌≡◌, ◌⊎◌, ◌≤◌, inl, inr, ◌+◌, ℕ, Bool, true, false, cond, List, [], ◌∷◌, ◌++◌, length, drop, refl, sym, ◌∙◌, ap, subst, arith, append_assoc, length-append}
 use Rattle.std.specs.List.{flat_map}
 use Rattle.ts_disk.specs.Disk.{State, IsDisk, IsDurable, Call, Same, EveryImage}
-use Rattle.ts_journal.specs.Images.{head, Header, Member, member_of, Block, block}
+use Rattle.ts_journal.specs.Images.{head, Member, member_of, block, bodies_in}
 use Rattle.ts_journal.specs.Settled.{Holds, IsSpare, header_of}
 use Rattle.ts_journal.specs.Choice.{header_of_owner, IsLive, IsOther, IsChosen}
 use Rattle.ts_journal.specs.declared.choice.Choice.{Choice}
@@ -11,13 +11,14 @@ use Rattle.ts_journal.specs.declared.journal.Stage.{Stage}
 use Rattle.ts_journal.specs.declared.journal.Stage.TheVariants.{Live, Closed, Begun, Copying}
 use Rattle.ts_synod.specs.declared.message.Fact.{Fact}
 use Rattle.ts_record.specs.Facts.{AreFacts, OpensTo}
-use Rattle.ts_record.specs.Blocks.{IsRead}
+use Rattle.ts_record.specs.Blocks.{version_2, IsRead}
 use Rattle.ts_journal.proofs.Moments.{goes_on}
 use Rattle.ts_record.specs.Opening.{IsRefused, IsFault, NothingNew}
 use Rattle.ts_record.specs.Rewrite.{rewrite_at, IsUnderWay}
 use Rattle.ts_record.specs.declared.fault.Fault.{Fault}
 use Rattle.ts_record.specs.declared.fault.Fault.TheVariants.{Memory, DiskFailed, Broken, GenerationsExhausted, NotFormatted, OldVersion, Damaged}
-use Rattle.ts_record.proofs.Opened.{read_is, not_unreadable, not_unchosen, stands_chosen, owner_chosen}
+use Rattle.ts_record.proofs.Opened.{read_is, holding, not_unreadable, not_unchosen, stands_chosen, owner_chosen}
+use Rattle.ts_record.proofs.Walk.{whole_blocks}
 
 pub stays_durable : (old new : State) → IsDurable old → Call Same old new → new.read ≡ old.read → IsDurable new
 stays_durable old new durable call same c left = let from = call.images c left in sym from.2 ∙ durable from.0 from.1 ∙ sym same
@@ -69,14 +70,14 @@ spare_of Copying state j durable other = absurd other
 
 -- what was read is on the disk in use
 pub keeps_of : {D C : Type 0} (state : D → State) (octets : C → List ℕ) (j : Journal D) (facts : List (Fact C)) → IsLive (header_of j) (state j.current).read → IsOther j.stage j.generation (state j.spare).read
-    → IsDurable (state j.current) → IsDurable (state j.spare) → IsRead octets (state j.current).read facts j.end → (bodies copied : List (List ℕ)) × Holds state bodies copied j × AreFacts octets bodies facts
+    → IsDurable (state j.current) → IsDurable (state j.spare) → IsRead octets version_2 (state j.current).read facts j.end → (bodies copied : List (List ℕ)) × Holds state bodies copied j × AreFacts octets bodies facts
 keeps_of state octets j facts live other durable still read =
     let h = header_of j in
     let blocks = read.0.blocks in
     let image = (state j.current).read in
     let more = drop (j.end + 1) image in
     let rest : live.rest ≡ flat_map block blocks ++ 0 ∷ more = sym (ap (drop 25) live.is) ∙ read.0.split ∙ ap (λ l. flat_map block blocks ++ l) read.1 in (
-      map (λ (b : Block). b.body) blocks,
+      bodies_in blocks,
       [],
       record {
         right = live.right;
@@ -86,7 +87,7 @@ keeps_of state octets j facts live other durable still read =
           durable = durable;
           stands = record {
             blocks = blocks;
-            whole = read.0.whole;
+            whole = whole_blocks version_2 blocks (omega arith) read.0.whole;
             are = refl;
             closed = (more, live.is ∙ ap (λ l. head h ++ (live.live ∷ l)) rest ∙ sym (append_assoc (head h) (live.live ∷ flat_map block blocks) (0 ∷ more)));
           };
@@ -99,10 +100,10 @@ keeps_of state octets j facts live other durable still read =
 
 module _ {C : Type 0} (octets : C → List ℕ) (one_encoding : (c d : C) → 1 ≤ length (octets c) → octets c ≡ octets d → c ≡ d) where
   -- where the pair opens to facts, these are read
-  pub read_all : (choice : Choice) (m : Member) (a b : List ℕ) (facts others : List (Fact C)) (end : ℕ) → IsChosen choice a b → IsRead octets (cond choice.swapped b a) facts end → OpensTo octets m others a b → facts ≡ others
+  pub read_all : (choice : Choice) (m : Member) (a b : List ℕ) (facts others : List (Fact C)) (end : ℕ) → IsChosen choice a b → IsRead octets version_2 (cond choice.swapped b a) facts end → OpensTo octets m others a b → facts ≡ others
   read_all choice m a b facts others end chosen read opens =
       let s = stands_chosen choice.swapped choice.owner choice.stage m opens.0 a b chosen.live chosen.other opens.1 in
-      read_is octets one_encoding (cond choice.swapped b a) facts others end s.0 s.1 opens.0 read s.2 opens.2
+      read_is octets one_encoding version_2 (cond choice.swapped b a) facts others end (omega arith) read (holding octets s.0 s.1 opens.0 others (cond choice.swapped b a) s.2 opens.2)
 
 -- the record that is read is that member's
 pub owner_read : {C : Type 0} (octets : C → List ℕ) (choice : Choice) (m : Member) (a b : List ℕ) (facts : List (Fact C)) (node nodes : ℕ) → IsChosen choice a b → OpensTo octets m facts a b → node ≡ choice.owner.node → nodes ≡ choice.owner.nodes
@@ -122,7 +123,8 @@ no_fault octets m old_a old_b new_a new_b OldVersion facts is opens = absurd (no
 no_fault octets m old_a old_b new_a new_b (Damaged at) facts is opens =
     let choice = is.0 in
     let s = stands_chosen choice.swapped choice.owner choice.stage m opens.0 old_a.read old_b.read is.1.live is.1.other opens.1 in
-    absurd (not_unreadable octets (cond choice.swapped old_b.read old_a.read) facts at s.0 s.1 opens.0 is.2 s.2 opens.2)
+    let image = cond choice.swapped old_b.read old_a.read in
+    absurd (not_unreadable version_2 (omega arith) octets image facts at is.2 (holding octets s.0 s.1 opens.0 facts image s.2 opens.2))
 
 -- no rewrite is under way on a record that was opened
 pub none_under_way : {C : Type 0} (octets : C → List ℕ) (stage : Stage) (generation : ℕ) (image : List ℕ) (facts list : List (Fact C)) (copied : List (List ℕ)) (done : ℕ) → IsOther stage generation image → IsUnderWay octets facts copied (rewrite_at stage list done)

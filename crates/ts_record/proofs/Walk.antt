@@ -1,13 +1,14 @@
 -- The walk over the blocks of an image.
-use Rattle.std.proofs.Common.{◌≡◌, ◌≢◌, ◌⊎◌, ◌≤◌, ◌<◌, ◌+◌, ℕ, List, [], ◌∷◌, ◌++◌, length, map, get_or, take, drop, sym, ◌∙◌, ap, subst, arith, append_assoc, length-append, length-take, length-drop, take-append-drop}
+use Rattle.std.proofs.Common.{◌≡◌, ◌≢◌, ◌⊎◌, ◌≤◌, ◌<◌, ◌+◌, ℕ, List, [], ◌∷◌, ◌++◌, length, get_or, take, drop, sym, ◌∙◌, ap, subst, arith, append_assoc, length-append, length-take, length-drop, take-append-drop}
 use Rattle.std.proofs.lemmas.List.{append-nil, map-append, drop_more, drop-drop, drop_all}
 use Rattle.std.proofs.lemmas.Grind.{flat_map-append}
 use Rattle.std.specs.List.{flat_map, AllByRecursion}
 use Rattle.std.specs.Int.{to_be_bytes, w32}
-use Rattle.ts_journal.specs.Images.{Block, block, IsWhole}
+use Rattle.ts_journal.specs.Images.{Block, block, bodies_in, IsWhole}
 use Rattle.ts_synod.specs.declared.message.Fact.{Fact}
 use Rattle.ts_record.specs.Facts.{encodings, AllFit, AreFacts}
-use Rattle.ts_record.specs.Blocks.{IsLength, ReadTo, IsFacts, Stops, no_gate, no_length, no_body}
+use Rattle.ts_record.specs.Blocks.{IsLength, IsBlock, ReadTo, IsFacts, Stops, no_gate, no_length, no_body}
+use Rattle.ts_record.specs.declared.layout.Layout.{Layout}
 
 all_push : {X : Type 0} (P : X → Type 0) (xs : List X) (x : X) → AllByRecursion P xs → P x → AllByRecursion P (xs ++ x ∷ [])
 all_push P [] x each last = (last, tt)
@@ -23,14 +24,14 @@ are_more {C} octets bodies facts more body are fit is = record {
 }
 
 -- a gate, a length, and what follows
-pub record Opening (image : List ℕ) (at n : ℕ) : Type 0 where
+pub record Opening (layout : Layout) (image : List ℕ) (at n : ℕ) : Type 0 where
   pub gate : ℕ
   pub wide : gate ≢ 0
-  pub fits : IsLength n
+  pub fits : IsLength layout n
   pub split : drop at image ≡ gate ∷ (to_be_bytes w32 n ++ drop (at + 5) image)
 
-pub opening : (image part : List ℕ) (at n : ℕ) → at < length image → get_or image at 0 ≢ 0 → part ≡ drop (at + 1) image → IsLength n → part ≡ to_be_bytes w32 n ++ drop 4 part → Opening image at n
-opening image part at n more wide is fits split =
+pub opening : (layout : Layout) (image part : List ℕ) (at n : ℕ) → at < length image → get_or image at 0 ≢ 0 → part ≡ drop (at + 1) image → IsLength layout n → part ≡ to_be_bytes w32 n ++ drop 4 part → Opening layout image at n
+opening layout image part at n more wide is fits split =
     let five : at + 1 + 4 ≡ at + 5 = omega arith in record {
       gate = get_or image at 0;
       wide = wide;
@@ -38,9 +39,9 @@ opening image part at n more wide is fits split =
       split = drop_more image at 0 more ∙ ap (λ l. get_or image at 0 ∷ l) (sym is ∙ split ∙ ap (λ l. to_be_bytes w32 n ++ l) (ap (drop 4) is ∙ drop-drop 4 (at + 1) image ∙ ap (λ k. drop k image) five));
     }
 
-pub one_block : {C : Type 0} (octets : C → List ℕ) (image : List ℕ) (facts later more : List (Fact C)) (at n : ℕ) (body : List ℕ) → ReadTo octets image facts at → Opening image at n → n ≤ length (drop (at + 5) image)
-    → body ≡ take n (drop (at + 5) image) → AllFit octets more → body ≡ encodings octets more → later ≡ facts ++ more → ReadTo octets image later (at + 5 + n)
-one_block {C} octets image facts later more at n body read o room body_is fit encoded later_is =
+pub one_block : {C : Type 0} (octets : C → List ℕ) (layout : Layout) (image : List ℕ) (facts later more : List (Fact C)) (at n : ℕ) (body : List ℕ) → ReadTo octets layout image facts at → Opening layout image at n → n ≤ length (drop (at + 5) image)
+    → body ≡ take n (drop (at + 5) image) → AllFit octets more → body ≡ encodings octets more → later ≡ facts ++ more → ReadTo octets layout image later (at + 5 + n)
+one_block {C} octets layout image facts later more at n body read o room body_is fit encoded later_is =
     let b : Block = record { gate = o.gate; body = body } in
     let sized : length body ≡ n = omega (arith, ap length body_is, length-take n (drop (at + 5) image), room) in
     let rest : List ℕ = drop (at + 5 + n) image in
@@ -49,23 +50,29 @@ one_block {C} octets image facts later more at n body read o room body_is fit en
     let joined : flat_map block (read.blocks ++ b ∷ []) ≡ flat_map block read.blocks ++ block b = flat_map-append block read.blocks (b ∷ []) ∙ ap (λ l. flat_map block read.blocks ++ l) (append-nil (block b)) in
     record {
       blocks = read.blocks ++ b ∷ [];
-      whole = all_push IsWhole read.blocks b read.whole (record { is_open = o.wide; fits = record { some = omega (arith, sized, o.fits.from); short = omega (arith, sized, o.fits.to) } });
-      are = subst (λ fs. AreFacts octets (map (λ (x : Block). x.body) (read.blocks ++ b ∷ [])) fs) (sym later_is)
-          (subst (λ bs. AreFacts octets bs (facts ++ more)) (sym (map-append (λ (x : Block). x.body) read.blocks (b ∷ []))) (are_more octets (map (λ (x : Block). x.body) read.blocks) facts more body read.are fit encoded));
+      whole = all_push (IsBlock layout) read.blocks b read.whole (o.wide, record { from = omega (arith, sized, o.fits.from); to = omega (arith, sized, o.fits.to) });
+      are = subst (λ fs. AreFacts octets (bodies_in (read.blocks ++ b ∷ [])) fs) (sym later_is)
+          (subst (λ bs. AreFacts octets bs (facts ++ more)) (sym (map-append (λ (x : Block). x.body) read.blocks (b ∷ []))) (are_more octets (bodies_in read.blocks) facts more body read.are fit encoded));
       within = omega (arith, room, length-drop (at + 5) image, o.fits.from);
       split = read.split ∙ ap (λ l. flat_map block read.blocks ++ l) here ∙ sym (append_assoc (flat_map block read.blocks) (block b) rest) ∙ ap (λ l. l ++ rest) (sym joined);
       ends = omega (arith, read.ends, sized, ap length joined, length-append (flat_map block read.blocks) (block b));
     }
 
-pub stop_at_end : {C : Type 0} (octets : C → List ℕ) (image : List ℕ) (at : ℕ) → length image ≤ at → Stops octets image at at
-stop_at_end octets image at le = no_gate at (drop_all at image le)
+pub stop_at_end : {C : Type 0} (octets : C → List ℕ) (layout : Layout) (image : List ℕ) (at : ℕ) → length image ≤ at → Stops octets layout image at at
+stop_at_end octets layout image at le = no_gate at (drop_all at image le)
 
-pub stop_at_length : {C : Type 0} (octets : C → List ℕ) (image part : List ℕ) (at : ℕ) → at < length image → get_or image at 0 ≢ 0 → part ≡ drop (at + 1) image
-    → ((n : ℕ) (after : List ℕ) → IsLength n → part ≡ to_be_bytes w32 n ++ after → ⊥) → Stops octets image at (at + 1)
-stop_at_length octets image part at more wide is none = no_length at (get_or image at 0) wide (drop_more image at 0 more) (λ n after fits split. none n after fits (is ∙ split))
+pub stop_at_length : {C : Type 0} (octets : C → List ℕ) (layout : Layout) (image part : List ℕ) (at : ℕ) → at < length image → get_or image at 0 ≢ 0 → part ≡ drop (at + 1) image
+    → ((n : ℕ) (after : List ℕ) → IsLength layout n → part ≡ to_be_bytes w32 n ++ after → ⊥) → Stops octets layout image at (at + 1)
+stop_at_length octets layout image part at more wide is none = no_length at (get_or image at 0) wide (drop_more image at 0 more) (λ n after fits split. none n after fits (is ∙ split))
 
-pub stop_at_body : {C : Type 0} (octets : C → List ℕ) (image : List ℕ) (at n : ℕ) → Opening image at n → (length (drop (at + 5) image) < n ⊎ (IsFacts octets (take n (drop (at + 5) image)) → ⊥)) → Stops octets image at (at + 5)
-stop_at_body octets image at n o bad = no_body at o.gate n o.wide o.fits o.split bad
+pub stop_at_body : {C : Type 0} (octets : C → List ℕ) (layout : Layout) (image : List ℕ) (at n : ℕ) → Opening layout image at n → (length (drop (at + 5) image) < n ⊎ (IsFacts octets (take n (drop (at + 5) image)) → ⊥)) → Stops octets layout image at (at + 5)
+stop_at_body octets layout image at n o bad = no_body at o.gate n o.wide o.fits o.split bad
 
 pub no_facts : {C : Type 0} (octets : C → List ℕ) (body other : List ℕ) → body ≡ other → ((more : List (Fact C)) → AllFit octets more → body ≡ encodings octets more → ⊥) → IsFacts octets other → ⊥
 no_facts octets body other is none facts = none facts.0 facts.1 (is ∙ facts.2)
+
+-- blocks of a layout whose bodies are no longer than a body may be are whole
+pub whole_blocks : (layout : Layout) (blocks : List Block) → layout.longest_body ≤ 4194500 → AllByRecursion (IsBlock layout) blocks → AllByRecursion IsWhole blocks
+whole_blocks layout [] short each = tt
+whole_blocks layout (b ∷ blocks) short each =
+    (record { is_open = each.0.0; fits = record { some = each.0.1.from; short = omega (arith, each.0.1.to, short) } }, whole_blocks layout blocks short each.1)

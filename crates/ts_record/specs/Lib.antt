@@ -3,6 +3,7 @@ pub mod Compacted
 pub mod Facts
 pub mod Faults
 pub mod Kept
+pub mod Old
 pub mod Opening
 pub mod Places
 pub mod Record

@@ -4,7 +4,7 @@ use Rattle.ts_journal.specs.Images.{Header, EveryPair}
 use Rattle.ts_journal.specs.Choice.{IsLive, IsChosen, Unchosen}
 use Rattle.ts_journal.specs.declared.choice.Choice.{Choice}
 use Rattle.ts_disk.specs.Disk.{State}
-use Rattle.ts_record.specs.Blocks.{IsUnreadable}
+use Rattle.ts_record.specs.Blocks.{version_2, IsUnreadable}
 use Rattle.ts_record.specs.Record.{EitherFailed}
 use Rattle.ts_record.specs.declared.fault.Fault.{Fault}
 use Rattle.ts_record.specs.declared.fault.Fault.TheVariants.{Memory, DiskFailed, Broken, GenerationsExhausted, NotFormatted, OldVersion, Damaged}
@@ -36,7 +36,7 @@ IsFault octets old_a old_b new_a new_b Broken = ⊥
 IsFault octets old_a old_b new_a new_b GenerationsExhausted = ⊥
 IsFault octets old_a old_b new_a new_b NotFormatted = IsRefused old_a.read old_b.read NotFormatted
 IsFault octets old_a old_b new_a new_b OldVersion = IsRefused old_a.read old_b.read OldVersion
-IsFault octets old_a old_b new_a new_b (Damaged at) = (choice : Choice) × IsChosen choice old_a.read old_b.read × IsUnreadable octets (cond choice.swapped old_b.read old_a.read) at
+IsFault octets old_a old_b new_a new_b (Damaged at) = (choice : Choice) × IsChosen choice old_a.read old_b.read × IsUnreadable octets version_2 (cond choice.swapped old_b.read old_a.read) at
 
 -- at every moment of a call each pair of images that a crash may leave is one that it could leave before the call
 abbrev pub NothingNew : State → State → State → State → Type 0

@@ -1,24 +1,24 @@
 // The blocks of an image are read.
-ghost use Rattle.std.specs.Prelude.{◌≡◌, ◌≤◌, ◌<◌, ◌+◌, ◌⊎◌, ◌++◌, ◌∷◌, ℕ, List, length, drop, IfOk, IfErr, IfSome, IfNone, MatchOption};
+ghost use Rattle.std.specs.Prelude.{◌≡◌, ◌≤◌, ◌<◌, ◌+◌, ◌^◌, ◌⊎◌, ◌++◌, ◌∷◌, ℕ, List, length, drop, IfOk, IfErr, IfSome, IfNone, MatchOption};
 ghost use Rattle.std.specs.Int.{to_be_bytes, w32};
 ghost use Rattle.ts_synod.specs.declared.message.Fact.{Fact};
 ghost use Rattle.ts_record.specs.declared.fault.Fault.TheVariants.{Memory, Damaged};
 ghost use Rattle.ts_record.specs.Blocks.{IsRead, IsUnreadable, IsLength};
 
+use crate::layout::Layout;
 use crate::reading::{read_facts, u32_at};
 use crate::{Codec, Fault};
 use std::alloc::Global;
 use ts_synod::Fact;
 
-const MAX_BODY: usize = 4_194_500;
-
 // The length of a body that begins here.
-fn length_at(rest: &[u8]) -> Option<usize>
-    ensures { MatchOption result ((n : ℕ) (after : List ℕ) → IsLength n → rest.now ≡ to_be_bytes w32 n ++ after → ⊥)
-        (λ n. IsLength n × (rest.now ≡ to_be_bytes w32 n ++ drop 4 rest.now) × (4 ≤ length rest.now)) }
+fn length_at(layout: Layout, rest: &[u8]) -> Option<usize>
+    requires { layout.longest_body < 2 ^ 32 }
+    ensures { MatchOption result ((n : ℕ) (after : List ℕ) → IsLength layout n → rest.now ≡ to_be_bytes w32 n ++ after → ⊥)
+        (λ n. IsLength layout n × (rest.now ≡ to_be_bytes w32 n ++ drop 4 rest.now) × (4 ≤ length rest.now)) }
 {
     let size = u32_at(rest)? as usize;
-    if size < 1 || MAX_BODY < size {
+    if size < 1 || layout.longest_body < size {
         return None;
     }
     Some(size)
@@ -31,19 +31,24 @@ pub(crate) struct Contents<C> {
     pub end: usize,
 }
 
-// Reads the blocks after a live gate, up to the closed gate after the last.
-pub(crate) fn read_blocks<C: Codec>(alloc: Global, octets: &[u8]) -> Result<Contents<C>, Fault>
-    requires { 25 ≤ length octets.now }
-    ensures read { IfOk result (λ contents. IsRead C.octets octets.now contents.facts.items contents.end) }
-    ensures fault { IfErr result (λ fault. (fault ≡ Memory) ⊎ ((at : ℕ) × (fault ≡ Damaged at) × IsUnreadable C.octets octets.now at)) }
+// Reads the blocks from the first gate on, up to the closed gate after the last.
+pub(crate) fn read_blocks<C: Codec>(
+    alloc: Global,
+    layout: Layout,
+    octets: &[u8],
+) -> Result<Contents<C>, Fault>
+    requires long { layout.first_gate ≤ length octets.now }
+    requires short { layout.longest_body < 2 ^ 32 }
+    ensures read { IfOk result (λ contents. IsRead C.octets layout octets.now contents.facts.items contents.end) }
+    ensures fault { IfErr result (λ fault. (fault ≡ Memory) ⊎ ((at : ℕ) × (fault ≡ Damaged at) × IsUnreadable C.octets layout octets.now at)) }
 {
     let mut facts = Vec::new(alloc);
-    let mut at = 25;
+    let mut at = layout.first_gate;
     while at < octets.len() {
         if octets[at] == 0 {
             return Ok(Contents { facts, end: at });
         }
-        let Some(size) = length_at(&octets[at + 1..]) else {
+        let Some(size) = length_at(layout, &octets[at + 1..]) else {
             return Err(Fault::Damaged(at + 1));
         };
         let body = at + 5;

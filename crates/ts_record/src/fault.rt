@@ -19,7 +19,7 @@ pub enum Fault {
     GenerationsExhausted,
     /// The two disks are not those of a record.
     NotFormatted,
-    /// The first disk has a record of version 1.
+    /// The first disk has a record of version 1, which `Record::migrate` reads.
     OldVersion,
     /// The gate, length or body that begins at this offset can't be read.
     Damaged(usize),

@@ -3,11 +3,12 @@ ghost use Rattle.std.specs.Prelude.{◌≡◌, ◌≢◌, ◌≤◌, ◌⊎◌, 
 ghost use Rattle.ts_disk.specs.Disk.{IsDurable, DeviceFailed};
 ghost use Rattle.ts_journal.specs.Choice.{IsChosen, Unchosen};
 ghost use Rattle.ts_record.specs.declared.fault.Fault.TheVariants.{Memory, DiskFailed, NotFormatted, OldVersion, Damaged};
-ghost use Rattle.ts_record.specs.Blocks.{IsRead};
+ghost use Rattle.ts_record.specs.Blocks.{version_2, IsRead};
 ghost use Rattle.ts_record.specs.Opening.{BeginsOld, IsRefused, IsFault, NothingNew};
 ghost use Rattle.ts_record.specs.Record.{EitherFailed};
 
 use crate::blocks::{Contents, read_blocks};
+use crate::layout::VERSION_2;
 use crate::{Codec, Fault};
 use std::alloc::Global;
 use ts_disk::Disk;
@@ -20,7 +21,7 @@ pub(crate) struct Found<C> {
     pub contents: Contents<C>,
 }
 
-fn is_same(a: &[u8], b: &[u8]) -> bool
+pub(crate) fn is_same(a: &[u8], b: &[u8]) -> bool
     ensures equal { result ≡ true → a.now ≡ b.now }
     ensures different { result ≡ false → a.now ≢ b.now }
 {
@@ -63,7 +64,7 @@ pub(crate) fn opened<D: Disk, C: Codec>(
     ensures same_a { (D.state a.new).read ≡ (D.state a.old).read }
     ensures same_b { (D.state b.new).read ≡ (D.state b.old).read }
     ensures chosen { IfOk result (λ found. IsChosen found.choice (D.state a.old).read (D.state b.old).read) }
-    ensures read { IfOk result (λ found. IsRead C.octets (cond found.choice.swapped (D.state b.old).read (D.state a.old).read)
+    ensures read { IfOk result (λ found. IsRead C.octets version_2 (cond found.choice.swapped (D.state b.old).read (D.state a.old).read)
         found.contents.facts.items found.contents.end) }
     ensures fault { IfErr result (λ fault. IsFault C.octets (D.state a.old) (D.state b.old) (D.state a.new) (D.state b.new) fault) }
 {
@@ -74,6 +75,7 @@ pub(crate) fn opened<D: Disk, C: Codec>(
     let Some(choice) = choose(&first, &second) else {
         return Err(refusal(&first, &second));
     };
-    let contents = read_blocks(alloc, if choice.swapped { &second } else { &first })?;
+    let image = if choice.swapped { &second } else { &first };
+    let contents = read_blocks(alloc, VERSION_2, image)?;
     Ok(Found { choice, contents })
 }

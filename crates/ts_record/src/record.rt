@@ -7,7 +7,7 @@ ghost use Rattle.ts_record.specs.Facts.{AllFit, encodings, OpensTo};
 ghost use Rattle.ts_journal.specs.Choice.{header_of_owner, IsLive, IsOther, IsChosen};
 ghost use Rattle.ts_journal.specs.declared.choice.Choice.{Choice};
 ghost use Rattle.ts_synod.specs.declared.message.Fact.{Fact};
-ghost use Rattle.ts_record.specs.Blocks.{IsRead};
+ghost use Rattle.ts_record.specs.Blocks.{version_2, IsRead};
 ghost use Rattle.ts_record.specs.Opening.{IsFault, NothingNew};
 ghost use Rattle.ts_record.specs.Record.{ToBeforeOrAfter, OpensToFrom, OpensToForce, EitherFailed};
 ghost use Rattle.ts_record.specs.Rewrite.{idle, with_more, IsLast, Steps};
@@ -61,7 +61,7 @@ fn record_of<D: Disk, C: Codec>(
     requires other { IsOther found.choice.stage found.choice.owner.generation (D.state spare).read }
     requires durable { IsDurable (D.state current) }
     requires still { IsDurable (D.state spare) }
-    requires read { IsRead C.octets (D.state current).read found.contents.facts.items found.contents.end }
+    requires read { IsRead C.octets version_2 (D.state current).read found.contents.facts.items found.contents.end }
     ensures a { result.a ≡ cond found.choice.swapped spare current }
     ensures b { result.b ≡ cond found.choice.swapped current spare }
     ensures facts { result.facts ≡ found.contents.facts.items }

@@ -14,6 +14,8 @@ mod journal_tests;
 #[cfg(test)]
 mod log_tests;
 #[cfg(test)]
+mod migration_tests;
+#[cfg(test)]
 mod proposer_tests;
 #[cfg(test)]
 mod record_tests;

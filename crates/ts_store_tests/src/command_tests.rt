@@ -30,6 +30,8 @@ const LINES: &[(&str, &str)] = &[
     ("format r --id 1 --nodes 10", "Value(Nodes)"),
     ("format r --id 01 --nodes 3", "Value(Node)"),
     ("format r --id 1", "Wrong"),
+    ("migrate o n", "Migrate { old: \"o\", new: \"n\" }"),
+    ("migrate o", "Wrong"),
     (
         "serve r --listen a:0",
         "Serve { file: \"r\", listen: \"a:0\", table: None, connections: 1000000 }",

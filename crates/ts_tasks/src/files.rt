@@ -122,3 +122,21 @@ pub fn format_files<R: Files>(
     Record::<FileDisk<R::File>, Command>::format(&mut a, &mut b, node, nodes)?;
     Ok(())
 }
+
+/// Makes a record from one of version 1, on two files that hold no octets or are missing, and answers the number of its facts. The old
+/// file is not written.
+///
+/// # Errors
+///
+/// `File`, also where one of the two files holds octets; `Memory`; `Record`.
+pub fn migrate_files<R: Files>(rt: &R, alloc: Global, old: &str, new: &str) -> Result<u32, Fault> {
+    let mut old = match open(rt, alloc, old) {
+        Ok(disk) => disk,
+        Err(error) => return Err(fault_of(&error)),
+    };
+    let other = second(alloc, new)?;
+    let mut a = create_empty(rt, alloc, new)?;
+    let mut b = create_empty(rt, alloc, other.as_str())?;
+    let facts = Record::<FileDisk<R::File>, Command>::migrate(alloc, &mut old, &mut a, &mut b)?;
+    Ok(facts)
+}

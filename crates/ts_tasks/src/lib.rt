@@ -10,7 +10,7 @@
 //! | [`run`] | it is safe and ends, and each call that it makes is made where its contract allows it; what it prints and which fault it ends with, no clause says |
 //! | [`read_file`] | `short`: no more octets than a frame may have |
 //! | [`submit`], [`ask`], [`tend`] | the peer that is asked can be asked again |
-//! | [`format_files`], [`open_disks`] | they end; what files give and take, no contract can say |
+//! | [`format_files`], [`migrate_files`], [`open_disks`] | they end; what files give and take, no contract can say |
 #![tactic(auto)]
 
 mod fault;
@@ -22,7 +22,7 @@ mod running;
 mod upkeep;
 
 pub use fault::Fault;
-pub use files::{format_files, open_disks, read_file};
+pub use files::{format_files, migrate_files, open_disks, read_file};
 pub use requests::{ask, submit};
 pub use running::run;
 pub use upkeep::{Upkeep, tend};

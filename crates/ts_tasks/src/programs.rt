@@ -3,7 +3,7 @@
 ghost use Rattle.std.specs.Prelude.{◌≤◌};
 
 use crate::fault::Fault;
-use crate::files::{format_files, open_disks, read_all};
+use crate::files::{format_files, migrate_files, open_disks, read_all};
 use std::alloc::Global;
 use std::io::Print;
 use std::net::{Net, TcpListener, TcpStream};
@@ -31,6 +31,23 @@ pub fn format_record(
 {
     format_files(rt, rt.alloc(), file, node, nodes)?;
     match println!(rt; "formatted") {
+        Ok(()) => Ok(()),
+        Err(_) => Err(Fault::Write),
+    }
+}
+
+/// Makes a record from one of version 1, and says how many facts it holds.
+///
+/// # Errors
+///
+/// Those of the two records' files; `Write`.
+pub fn migrate_record(
+    rt: &(impl AllocGlobal + Files + Print),
+    old: &str,
+    new: &str,
+) -> Result<(), Fault> {
+    let facts = migrate_files(rt, rt.alloc(), old, new)?;
+    match println!(rt; "migrated {facts}") {
         Ok(()) => Ok(()),
         Err(_) => Err(Fault::Write),
     }

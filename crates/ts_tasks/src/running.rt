@@ -4,7 +4,7 @@ ghost use Rattle.ts_cli.specs.Says.{IsInRange};
 
 use crate::fault::Fault;
 use crate::making::{make_command, make_question, print_id, show_file};
-use crate::programs::{format_record, serve_record};
+use crate::programs::{format_record, migrate_record, serve_record};
 use crate::requests::{ask_file, carry_messages, submit_file};
 use crate::upkeep::{Upkeep, tend_server};
 use std::io::Print;
@@ -25,6 +25,7 @@ pub fn run<
     match task {
         Task::Lab => Ok(()),
         Task::Format { file, id, nodes } => format_record(rt, file.as_str(), *id, *nodes),
+        Task::Migrate { old, new } => migrate_record(rt, old.as_str(), new.as_str()),
         Task::Serve {
             file,
             listen,

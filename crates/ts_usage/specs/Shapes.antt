@@ -81,6 +81,9 @@ lab = leaf (codes "lab") []
 unfoldable pub format : Shape
 format = leaf (codes "format") (word (codes "file") ∷ needed (option (codes "id")) ∷ needed (option (codes "nodes")) ∷ [])
 
+unfoldable pub migrate : Shape
+migrate = leaf (codes "migrate") (word (codes "old") ∷ word (codes "new") ∷ [])
+
 unfoldable pub serve : Shape
 serve = leaf (codes "serve") (word (codes "file") ∷ needed (option (codes "listen")) ∷ option (codes "table") ∷ option (codes "connections") ∷ [])
 
@@ -101,7 +104,7 @@ named name = leaf name []
 
 -- the tasks of a node
 unfoldable pub node_tasks : App
-node_tasks = with_tasks (choice (codes "trustd") [] []) (lab ∷ format ∷ serve ∷ sending (codes "submit") ∷ sending (codes "ask") ∷ carry ∷ [])
+node_tasks = with_tasks (choice (codes "trustd") [] []) (lab ∷ format ∷ migrate ∷ serve ∷ sending (codes "submit") ∷ sending (codes "ask") ∷ carry ∷ [])
 
 -- the tasks of a node's upkeep, after others
 unfoldable pub with_upkeep : App → App

@@ -28,6 +28,17 @@ fn format<'a>(alloc: Global) -> Result<Command<'a>, AllocError>
     )
 }
 
+/// A record of version 1 is written again as one of version 2.
+fn migrate<'a>(alloc: Global) -> Result<Command<'a>, AllocError>
+    ensures shape { IfOk result (IsShape shapes.migrate) }
+    ensures local { IfOk result IsLocal }
+{
+    let about = "Makes the record NEW and NEW.b from OLD, a record of version 1";
+    let old = word(alloc, "old", "OLD", "The record of version 1, which stays");
+    let new = word(alloc, "new", "NEW", "The new record, a name without a file");
+    with(with(leaf(alloc, "migrate", about), old), new)
+}
+
 /// A node is served.
 fn serve<'a>(alloc: Global) -> Result<Command<'a>, AllocError>
     ensures shape { IfOk result (IsShape shapes.serve) }
@@ -108,6 +119,7 @@ fn node_tasks<'a>(alloc: Global) -> Result<Command<'a>, AllocError>
         leaf(alloc, "lab", "Answers the script on standard input"),
     );
     let program = among(program, format(alloc));
+    let program = among(program, migrate(alloc));
     let program = among(program, serve(alloc));
     let what = "Hands a command to a node";
     let program = among(

@@ -1,4 +1,4 @@
-use Rattle.std.proofs.Common.{subst}
+use Rattle.std.proofs.Common.{[], ◌∷◌, subst}
 use Rattle.ts_journal.specs.Images.{Begins}
 use Rattle.ts_journal.specs.Settled.{IsSpare, next, header_of}
 use Rattle.ts_journal.proofs.Others.{behind_moves, shut_is_behind, begun_journal}
@@ -22,7 +22,7 @@ returns-clause-holds g c = λ bodies copied holds.
     let state = g.D.Disk.state in
     let h = header_of j in
     let k = subst (λ st. IsSpare st h copied j.copy_end (state j.spare)) c.requires.stage holds.spare in
-    let begun = subst (λ octets. Begins octets (state c.begin.new.disk).read) c.head_octets-octets.ensures c.in_ok-begin.ensures.begun in
+    let begun = subst (λ octets. Begins octets (0 ∷ []) (state c.begin.new.disk).read) c.head_octets-octets.ensures c.in_ok-begin.ensures.begun in
     record {
       right = holds.right;
       live = holds.live;
