@@ -80,7 +80,7 @@ Behind generation image = IsShut image ⊎ IsEarlier generation image
 abbrev pub Begins : List ℕ → List ℕ → List ℕ → Type 0
 Begins octets text image = (rest : List ℕ) × (image ≡ octets ++ (0 ∷ text ++ rest))
 
--- no disk in use: there is nothing after a header and a live gate, or the live gate is closed
+-- not in use: nothing follows a header and a live gate, or the live gate is closed
 abbrev pub IsUnused : List ℕ → Type 0
 IsUnused image = (length image ≤ 25) ⊎ IsShut image
 

@@ -5,10 +5,8 @@ ghost use Rattle.ts_disk.specs.Disk.{IsDurable, HasCause, DeviceFailed, EveryIma
 ghost use Rattle.ts_journal.specs.Images.{head, Block, bodies_in, IsFresh, IsText, Begins, IsUnused, OpensFrom, AllOrNone, AnyPair, EveryPair};
 
 use crate::header::head_octets;
-use crate::rewrite::begin;
+use crate::rewrite::{LIVE_GATE, begin};
 use ts_disk::{Disk, DiskFault, put};
-
-const LIVE_GATE: usize = 24;
 
 // Writes the octets before a closed live gate, and a text after it, over what a disk holds, and syncs. A fresh disk
 // is not in use at any moment: its live gate is written first, and closed.

@@ -4,12 +4,13 @@
 //! length, and a body. Of the disks whose live gate is open, the one of the greater generation is in use.
 //!
 //! ```text
-//! format(&mut a, &mut b, 1, 3)?;            // node 1 of 3: the first disk is live, of generation 1
-//! journal.append(&entry)?;                  // length, body and closed gate; sync; open gate; sync
-//! journal.shut()?;                          // a rewrite: the other disk's live gate is closed,
-//! journal.begin()?;                         // its header of the next generation is written,
-//! journal.copy(&entry)?;                    // bodies are appended to it,
-//! journal.switch()?;                        // and its live gate is opened
+//! format(&mut a, &mut b, 1, 3)?;             // node 1 of 3: the first disk is live, of generation 1
+//! format_with(&mut a, &mut b, 1, 3, &text)?; // the same, with bodies from the start
+//! journal.append(&entry)?;                   // length, body and closed gate; sync; open gate; sync
+//! journal.shut()?;                           // a rewrite: the other disk's live gate is closed,
+//! journal.begin()?;                          // its header of the next generation is written,
+//! journal.copy(&entry)?;                     // bodies are appended to it,
+//! journal.switch()?;                         // and its live gate is opened
 //! ```
 //!
 //! | Call | Clauses |

@@ -7,7 +7,7 @@ ghost use Rattle.ts_journal.specs.Images.{IsShut, IsEarlier, Behind, Begins};
 use crate::durable::flush;
 use ts_disk::{Disk, DiskFault, put};
 
-const LIVE_GATE: usize = 24;
+pub(crate) const LIVE_GATE: usize = 24;
 
 // Closes the live gate of a disk of an earlier generation, and syncs. A closed gate is never written, as a torn
 // write could open it.
