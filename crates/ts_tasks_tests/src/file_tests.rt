@@ -7,7 +7,7 @@ use std::test::Fail;
 use ts_record::Record;
 use ts_store::Command;
 use ts_synod::Fact;
-use ts_tasks::{Fault, format_files, open_disks, read_file};
+use ts_tasks::{Fault, format_files, migrate_files, open_disks, read_file};
 
 const FOLDER: &str = "ts_tasks_test";
 
@@ -26,8 +26,8 @@ fn append_round<R: Files>(rt: &R, alloc: Global) -> Result<bool, Fault> {
 }
 
 /// Whose record it is, and whether it has that fact alone. `None` where it is not opened.
-fn found<R: Files>(rt: &R, alloc: Global) -> Result<Option<(u8, bool)>, Fault> {
-    let (a, b) = open_disks(rt, alloc, PATH)?;
+fn found<R: Files>(rt: &R, alloc: Global, path: &str) -> Result<Option<(u8, bool)>, Fault> {
+    let (a, b) = open_disks(rt, alloc, path)?;
     Ok(match Record::<_, Command>::open(alloc, a, b) {
         Ok(record) => {
             let is_alone = matches!(record.facts(), [Fact::Used { round: 7 }]);
@@ -51,8 +51,31 @@ fn a_record_lies_in_two_files(rt: HostRuntime) -> Result<(), Fail> {
     assert_eq!(rt; (is_missing, made), (true, (Ok(()), Err(Fault::File))));
     let length = read_file(&rt, alloc, "ts_tasks_test/node.b")?.len();
     let appended = append_round(&rt, alloc)?;
-    let kept = found(&rt, alloc)?;
+    let kept = found(&rt, alloc, PATH)?;
     assert_eq!(rt; (length, appended, kept), (26, true, Some((2, true))));
     fs::remove_dir_all(&rt, FOLDER)?;
+    Ok(())
+}
+
+/// A record of version 1, in which node 2 of 3 has used round 7.
+const OLD: [u8; 27] = [
+    0x54, 0x53, 0x52, 0x45, 0x43, 0, 0, 1, 2, 3, 0, 0, 0, 0, 0, 0, 1, 0, 0, 0, 5, 1, 0, 0, 0, 7, 0,
+];
+
+#[test]
+fn a_record_of_version_1_is_migrated(rt: HostRuntime) -> Result<(), Fail> {
+    let alloc = rt.alloc();
+    let _ = fs::remove_dir_all(&rt, "ts_tasks_old");
+    fs::create_dir(&rt, "ts_tasks_old")?;
+    fs::write(&rt, "ts_tasks_old/old", &OLD)?;
+    let made = (
+        migrate_files(&rt, alloc, "ts_tasks_old/old", "ts_tasks_old/new"),
+        migrate_files(&rt, alloc, "ts_tasks_old/old", "ts_tasks_old/new"),
+    );
+    assert_eq!(rt; made, (Ok(1), Err(Fault::File)));
+    let kept = found(&rt, alloc, "ts_tasks_old/new")?;
+    let old = read_file(&rt, alloc, "ts_tasks_old/old")?;
+    assert_eq!(rt; (kept, old.as_slice()), (Some((2, true)), OLD.as_slice()));
+    fs::remove_dir_all(&rt, "ts_tasks_old")?;
     Ok(())
 }
