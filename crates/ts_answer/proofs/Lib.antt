@@ -4,3 +4,5 @@ pub mod Settled
 pub mod OneReply
 pub mod Purposes
 pub mod Lent
+pub mod Pairs
+pub mod Cached

@@ -1,13 +1,15 @@
 //! The trust store under a node.
 
 ghost use Rattle.std.specs.Prelude.{◌≡◌, ◌<◌, ◌≤◌, ◌++◌, ◌∷◌, [], ℕ, List, length, take, Ok, IfOk, OnOk, OnErr};
-ghost use Rattle.ts_history.specs.History.{outcome_after};
+ghost use Rattle.ts_history.specs.Outcome.{outcome_after};
 ghost use Rattle.ts_store.specs.Ids.{first_of};
 ghost use Rattle.ts_store.specs.Store.{store_after};
 ghost use Rattle.ts_question.specs.declared.reply.Reply.TheVariants.{NotYet};
+ghost use Rattle.ts_question.specs.Reply.{Fits};
 ghost use Rattle.ts_answer.specs.Machine.{IsAnswer};
 ghost use Rattle.ts_answer.specs.Reply.{IsReply};
 
+use crate::cache::{Cache, key_of};
 use crate::judging::reply_over;
 use std::alloc::{AllocError, Global};
 use std::marker::Model;
@@ -16,26 +18,31 @@ use ts_question::{Answer, Question, Reply};
 use ts_sig::SignatureCheck;
 use ts_store::{Command, First, Outcome};
 
-/// A trust store that keeps the commands that it took, and answers questions after any number of them.
+/// A trust store that keeps the commands that it took, and answers questions after any number of them. It caches the answers that were given last.
 #[derive(Drop)]
-pub struct Answers<S> {
+pub struct Answers<S: SignatureCheck> {
     alloc: Global,
     check: S,
     history: History,
+    cache: Cache,
 }
 
-impl<S> Model for Answers<S> {
+impl<S: SignatureCheck> Model for Answers<S> {
     ghost use Rattle.ts_answer.specs.Held.{Held};
+    ghost use Rattle.ts_answer.specs.Cache.{AreCached};
 
     ghost Value = { Held S };
 
     ghost view = { λ a. record { check = a.check; commands = a.history } };
+
+    ghost invariant = { λ a. AreCached (S.accepts a.check) a.history a.cache.entries };
 }
 
 /// An answer, each field of which is in its range. That a reply keeps the ranges follows from its definition, and isn't proved here; what is out
 /// of range, as a k above 1,000,000 is, which no question has, is refused as memory is.
 fn answer_of(k: u32, reply: Reply) -> Result<Answer, AllocError>
-    ensures { IfOk result (λ answer. answer ≡ record { k = k; reply = reply }) }
+    ensures answer { IfOk result (λ answer. answer ≡ record { k = k; reply = reply }) }
+    ensures fits { IfOk result Fits }
 {
     match Answer::new(k, reply) {
         Ok(answer) => Ok(answer),
@@ -52,6 +59,7 @@ impl<S: SignatureCheck> Answers<S> {
             alloc,
             check,
             history: History::new(alloc),
+            cache: Cache::new(),
         }
     }
 
@@ -63,6 +71,7 @@ impl<S: SignatureCheck> Answers<S> {
             alloc: _alloc,
             check,
             history: _history,
+            cache: _cache,
         } = self;
         check
     }
@@ -106,14 +115,11 @@ impl<S: SignatureCheck> Answers<S> {
         Ok(reply)
     }
 
-    /// The answer to a question after the first k commands; `NotYet` with their number exactly where fewer were taken.
-    ///
-    /// # Errors
-    ///
-    /// Memory that is refused; and for a k above 1,000,000, which no question has.
-    pub fn answer(&self, k: u32, question: &Question) -> Result<Answer, AllocError>
+    /// The answer to a question, without the cache.
+    fn judge(&self, k: u32, question: &Question) -> Result<Answer, AllocError>
         ensures answer { k ≤ length self.now.commands → IfOk result (IsAnswer (S.accepts self.now.check) (take k self.now.commands) question.now) }
         ensures not_yet { length self.now.commands < k → IfOk result (λ answer. answer ≡ record { k = k; reply = NotYet (length self.now.commands) }) }
+        ensures fits { IfOk result Fits }
     {
         let prefix = self.prefix();
         if k > prefix {
@@ -121,5 +127,31 @@ impl<S: SignatureCheck> Answers<S> {
         }
         let reply = self.reply(k, question)?;
         answer_of(k, reply)
+    }
+
+    /// The answer to a question after the first k commands; `NotYet` with their number exactly where fewer were taken. An answer that was given
+    /// before, and is cached, is given again without validating anything.
+    ///
+    /// # Errors
+    ///
+    /// Memory that is refused; and for a k above 1,000,000, which no question has.
+    pub fn answer(&mut self, k: u32, question: &Question) -> Result<Answer, AllocError>
+        ensures answer { k ≤ length self.old.commands → IfOk result (IsAnswer (S.accepts self.old.check) (take k self.old.commands) question.now) }
+        ensures not_yet { length self.old.commands < k → IfOk result (λ answer. answer ≡ record { k = k; reply = NotYet (length self.old.commands) }) }
+        ensures unchanged { self.new ≡ self.old }
+    {
+        // `NotYet` is not cached: it is wrong as soon as the commands have come.
+        if k > self.prefix() {
+            return self.judge(k, question);
+        }
+        let Some(key) = key_of(self.alloc, k, question) else {
+            return self.judge(k, question);
+        };
+        if let Some(answer) = self.cache.find(self.alloc, &key) {
+            return Ok(answer);
+        }
+        let answer = self.judge(k, question)?;
+        self.cache.keep(self.alloc, key, &answer);
+        Ok(answer)
     }
 }

@@ -16,16 +16,20 @@
 //! | [`Answers::new`], [`Answers::close`], [`Answers::prefix`] | no commands; the check, given back; how many commands were taken |
 //! | [`Answers::push`] | `outcome`: that of the definition; `pushed`; `refused`: at an error nothing changes; `check` |
 //! | [`Answers::settled`] | the first command of an id, and what it came to |
-//! | [`Answers::answer`] | `answer`: the reply after the first k commands (`IsAnswer`, `specs/Machine`); `not_yet`: exactly where fewer were taken |
+//! | [`Answers::answer`] | `answer`: the reply after the first k commands (`IsAnswer`, `specs/Machine`); `not_yet`: exactly where fewer were taken; `unchanged` |
 //! | `impl ts_node::Machine<Command> for Answers<S>` | those of the trait: what a node is proved over |
 //! | [`is_deliverable`] | whether a node takes a message |
 //! | [`laws::one_answer`] | questions that ask the same have one answer after a list of commands |
 //! | [`laws::headline`] | over every run of nodes: agreement, and every answer at k is the one over the store of the first k chosen commands |
 //!
+//! The answers that were given last are cached, each under its k and its question (`specs/Cache`): a question that is asked again at one k is
+//! answered without validating anything. No public clause names the cache: it is an invariant of `Answers` that each answer in it is the right one.
+//!
 //! Memory that is refused is answered as `AllocError`.
 #![tactic(auto)]
 
 mod answers;
+mod cache;
 mod deliverable;
 mod fault;
 mod judging;

@@ -1,17 +1,15 @@
 //! Trust anchors of a store, as path validation is lent them.
 
 ghost use Rattle.std.specs.Prelude.{◌≡◌, ◌≤◌, Some, None, length, map, take, option_map, IfOk};
-ghost use Rattle.ts_history.specs.Contents.{anchor_in as lent_in, purposes_in as lent_purposes};
+ghost use Rattle.ts_history.specs.Contents.{anchor_in as lent_in};
 ghost use Rattle.ts_path.specs.View.{anchor_in};
-ghost use Rattle.ts_store.specs.Purposes.{ArePurposes};
 ghost use Rattle.ts_answer.specs.Asked.{trust_anchor};
 
 use std::alloc::{AllocError, Global};
 use ts_cert::Cert;
-use ts_der::Oid;
 use ts_history::LentAnchor;
 use ts_path::Anchor;
-use ts_store::{MAX_PURPOSES, Purposes};
+use ts_store::MAX_PURPOSES;
 
 /// A trust anchor's certificate, and the content octets of its purposes, which are at most 16, if it is not trusted for any.
 #[derive(Clone, Copy)]
@@ -23,17 +21,6 @@ pub(crate) struct Trusted<'a> {
     ghost within: { count ≤ 16 },
 }
 
-/// The purposes of an anchor, `None` for any.
-fn oids_of<'a>(purposes: Option<&'a Purposes>) -> Option<&'a [Oid]>
-    ensures oids { option_map (λ oids. oids.now) result ≡ lent_purposes purposes.entry }
-    ensures limits { ArePurposes (lent_purposes purposes.entry) }
-{
-    match purposes {
-        Some(purposes) => purposes.oids(),
-        None => None,
-    }
-}
-
 impl<'a> Trusted<'a> {
     ghost use Rattle.ts_answer.specs.Trusted.{purposes_in, trusted_in};
 
@@ -43,7 +30,7 @@ impl<'a> Trusted<'a> {
     {
         let cert = stored.certificate.view();
         let mut contents: [&'a [u8]; MAX_PURPOSES] = [&[]; MAX_PURPOSES];
-        let Some(oids) = oids_of(stored.purposes) else {
+        let Some(oids) = stored.purposes.oids() else {
             return Trusted {
                 cert,
                 is_listed: false,

@@ -72,7 +72,7 @@ fn store(alloc: Global) -> Result<Option<Answers<DigestCheck>>, AllocError> {
 }
 
 /// The tag of the reply after the first k commands.
-fn tag(answers: &Answers<DigestCheck>, k: u32, question: &Question) -> Result<u8, AllocError> {
+fn tag(answers: &mut Answers<DigestCheck>, k: u32, question: &Question) -> Result<u8, AllocError> {
     Ok(match answers.answer(k, question)?.reply() {
         Reply::Valid { .. } => 1,
         Reply::Invalid { .. } => 2,
@@ -89,9 +89,9 @@ fn tag(answers: &Answers<DigestCheck>, k: u32, question: &Question) -> Result<u8
 /// The tags of the replies after so many commands each, and 0 for each where there is no store.
 fn tags(alloc: Global, ks: [u32; 4], question: &Question) -> Result<[u8; 4], AllocError> {
     let mut found = [0; 4];
-    if let Some(answers) = store(alloc)? {
+    if let Some(mut answers) = store(alloc)? {
         for place in 0..4 {
-            found[place] = tag(&answers, ks[place], question)?;
+            found[place] = tag(&mut answers, ks[place], question)?;
         }
     }
     Ok(found)
@@ -192,23 +192,25 @@ fn alternating(alloc: Global, count: u16) -> Result<Option<Answers<DigestCheck>>
     Ok(Some(answers))
 }
 
-/// Whether the chain is valid after an odd number of commands, and without an anchor after an even one.
+/// Whether the chain is valid after an odd number of commands, and without an anchor after an even one, when it is asked and when it is asked again.
 fn is_right(
-    answers: &Answers<DigestCheck>,
+    answers: &mut Answers<DigestCheck>,
     k: u32,
     question: &Question,
 ) -> Result<bool, AllocError> {
     let wanted = if k % 2 == 1 { 1 } else { 8 };
-    Ok(tag(answers, k, question)? == wanted)
+    Ok(tag(answers, k, question)? == wanted && tag(answers, k, question)? == wanted)
 }
 
 /// Whether that is so after each number of 1,100 commands, from the last to the first and from the first to the last.
 fn are_right(alloc: Global) -> Result<bool, AllocError> {
-    let (Some(answers), Some(question)) = (alternating(alloc, 1_100)?, chain(alloc, L)?) else {
+    let (Some(mut answers), Some(question)) = (alternating(alloc, 1_100)?, chain(alloc, L)?) else {
         return Ok(false);
     };
     for k in 0..1_101 {
-        if !is_right(&answers, 1_100 - k, &question)? || !is_right(&answers, k, &question)? {
+        if !is_right(&mut answers, 1_100 - k, &question)?
+            || !is_right(&mut answers, k, &question)?
+        {
             return Ok(false);
         }
     }
@@ -218,5 +220,59 @@ fn are_right(alloc: Global) -> Result<bool, AllocError> {
 #[test]
 fn a_chain_is_judged_after_any_number_of_commands(rt: HostRuntime) -> Result<(), Fail> {
     assert!(rt; are_right(rt.alloc())?);
+    Ok(())
+}
+
+/// The octets of the answer after the first k commands.
+fn octets_at(
+    alloc: Global,
+    answers: &mut Answers<DigestCheck>,
+    k: u32,
+    question: &Question,
+) -> Result<Vec<u8>, AllocError> {
+    answers.answer(k, question)?.octets(alloc)
+}
+
+/// Takes the anchor as the third command. The tags of the reply after three commands, before it and after it; 0 for each where it isn't the third.
+fn grown(
+    alloc: Global,
+    answers: &mut Answers<DigestCheck>,
+    question: &Question,
+) -> Result<[u8; 2], AllocError> {
+    let Ok(add) = Command::add_anchor(id(3), R.to_vec(alloc)?) else {
+        return Ok([0; 2]);
+    };
+    let before = tag(answers, 3, question)?;
+    if answers.prefix() != 2 {
+        return Ok([0; 2]);
+    }
+    let _added = answers.push(&add)?;
+    Ok([before, tag(answers, 3, question)?])
+}
+
+/// Whether a question is answered alike after one command, when it is asked again and when a command was taken since.
+fn stays(
+    alloc: Global,
+    answers: &mut Answers<DigestCheck>,
+    question: &Question,
+) -> Result<bool, AllocError> {
+    let first = octets_at(alloc, answers, 1, question)?;
+    let again = octets_at(alloc, answers, 1, question)?;
+    let tags = grown(alloc, answers, question)?;
+    let later = octets_at(alloc, answers, 1, question)?;
+    Ok(tags == [6, 1] && first == again && first == later)
+}
+
+/// Whether that is so for a chain.
+fn is_steady(alloc: Global) -> Result<bool, AllocError> {
+    let (Some(mut answers), Some(question)) = (store(alloc)?, chain(alloc, L)?) else {
+        return Ok(false);
+    };
+    stays(alloc, &mut answers, &question)
+}
+
+#[test]
+fn an_answer_stays_when_commands_are_taken(rt: HostRuntime) -> Result<(), Fail> {
+    assert!(rt; is_steady(rt.alloc())?);
     Ok(())
 }

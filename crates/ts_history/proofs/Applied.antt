@@ -12,6 +12,7 @@ use Rattle.ts_crl.specs.Table.{crl_of}
 use Rattle.ts_store.specs.Anchors.{add_unless, new_anchor, new_refusal, refuse_if}
 use Rattle.ts_store.specs.Lists.{stored, list_in, is_newer, has_slot, has_id, replaced, put_by, put_list, place_by, drop_at}
 use Rattle.ts_store.specs.Tables.{Tables, change as change_by, with_anchors, with_complete, with_deltas, load_as, drop_either}
+use Rattle.ts_store.specs.declared.anchor.TrustAnchor.{TrustAnchor}
 use Rattle.ts_store.specs.declared.command.Command.{Command}
 use Rattle.ts_store.specs.declared.command.Command.TheVariants.{DropCrl}
 use Rattle.ts_store.specs.declared.outcome.Refusal.{Refusal}
@@ -23,9 +24,9 @@ use Rattle.ts_history.specs.Taken.{changed}
 use Rattle.ts_history.specs.declared.taken.Change.{Change}
 use Rattle.ts_history.specs.declared.taken.Change.TheVariants.{AddsAnchor}
 use Rattle.ts_history.specs.declared.taken.Kind.TheVariants.{Complete, Delta}
-use Rattle.ts_history.specs.declared.taken.Kept.{Kept}
-use Rattle.ts_history.specs.declared.taken.Kept.TheVariants.{Anchor, Crl, Other}
-use Rattle.ts_history.specs.declared.taken.Taken.{Taken}
+use Rattle.ts_history.specs.declared.taken.KeptCommand.{KeptCommand}
+use Rattle.ts_history.specs.declared.taken.KeptCommand.TheVariants.{Anchor, Crl, Other}
+use Rattle.ts_history.specs.declared.taken.TakenCommand.{TakenCommand}
 use Rattle.ts_store.proofs.Slots.{is-found, is-within, not-found, set-there}
 use Rattle.ts_history.proofs.Lent as lent
 
@@ -53,11 +54,10 @@ is_added certificate true r old new e = absurd (not_err new Malformed e)
 is_added certificate false None old new e = ok_is (record old { anchors = old.anchors ++ new_anchor certificate ∷ [] }) new e
 is_added certificate false (Some x) old new e = absurd (not_err new x e)
 
-pub added : (id digest certificate octets : List ℕ) → digest ≡ sha256 octets → certificate ≡ octets → (b : Bool) (old new : Tables) → with_anchors old (refuse_if b Malformed (add_unless (new_refusal (sha256 octets) old.anchors) octets old.anchors)) ≡ Ok new
-    → changed AddsAnchor (Anchor id digest certificate) (contents_of old) ≡ contents_of new
-added id digest certificate octets hashed kept b old new e =
-    (λ i. record { anchors = old.anchors ++ record { id = hashed i; certificate = kept i; purposes = None } ∷ []; complete = (contents_of old).complete; deltas = (contents_of old).deltas })
-    ∙ ap contents_of (is_added octets b (new_refusal (sha256 octets) old.anchors) old new e)
+pub added : (id octets : List ℕ) (anchor : TrustAnchor) → anchor ≡ new_anchor octets → (b : Bool) (old new : Tables) → with_anchors old (refuse_if b Malformed (add_unless (new_refusal (sha256 octets) old.anchors) octets old.anchors)) ≡ Ok new
+    → changed AddsAnchor (Anchor id anchor) (contents_of old) ≡ contents_of new
+added id octets anchor is b old new e =
+    (λ i. record { anchors = old.anchors ++ is i ∷ []; complete = (contents_of old).complete; deltas = (contents_of old).deltas }) ∙ ap contents_of (is_added octets b (new_refusal (sha256 octets) old.anchors) old new e)
 
 -- octets that are no certificate are not added
 pub not_added : {F : Type 0} (certificate : List ℕ) (fault : Option F) → (fault ≡ None → ⊥) → (r : Option Refusal) (old new : Tables) → with_anchors old (refuse_if (is_some fault) Malformed (add_unless r certificate old.anchors)) ≡ Ok new → contents_of old ≡ contents_of new
@@ -128,7 +128,7 @@ loaded id crl octets c change old new kept read is e =
 
 -- ---- a list that is dropped
 
-pub dropped : (kept : Kept) (o p : Option ℕ) (old new : Tables) → drop_either old (drop_at old.complete o) (drop_at old.deltas p) ≡ Ok new → changed (crl_removal_at o p) kept (contents_of old) ≡ contents_of new
+pub dropped : (kept : KeptCommand) (o p : Option ℕ) (old new : Tables) → drop_either old (drop_at old.complete o) (drop_at old.deltas p) ≡ Ok new → changed (crl_removal_at o p) kept (contents_of old) ≡ contents_of new
 dropped kept (Some i) p old new e =
     ap (λ l. let c : Contents = record { anchors = old.anchors; complete = l; deltas = map octets old.deltas } in c) (sym (lent.removed octets old.complete i)) ∙ ap contents_of (ok_is (record old { complete = remove old.complete i }) new e)
 dropped kept None (Some i) old new e =
@@ -136,11 +136,11 @@ dropped kept None (Some i) old new e =
 dropped kept None None old new e = absurd (not_err new NoCrl e)
 
 -- a copy of a command that drops a list
-pub drop_taken : (r : Result Taken AllocError) (command : Command) (old : Tables) (id crl : List ℕ) (change : Change) → IfOk r (λ t. t ≡ record { kept = Other command; change = change }) → command ≡ DropCrl id crl → change ≡ crl_removal_in crl old
+pub drop_taken : (r : Result TakenCommand AllocError) (command : Command) (old : Tables) (id crl : List ℕ) (change : Change) → IfOk r (λ t. t ≡ record { kept = Other command; change = change }) → command ≡ DropCrl id crl → change ≡ crl_removal_in crl old
     → IfOk r (λ t. (new : Tables) → change_by command old ≡ Ok new → changed t.change t.kept (contents_of old) ≡ contents_of new)
 drop_taken (Ok t) command old id crl change is drops removes = λ new e.
     let by : change_by (DropCrl id crl) old ≡ Ok new = subst (λ d. change_by d old ≡ Ok new) drops e in
-    ap (λ (x : Taken). changed x.change x.kept (contents_of old)) is
+    ap (λ (x : TakenCommand). changed x.change x.kept (contents_of old)) is
     ∙ ap (λ x. changed x (Other command) (contents_of old)) removes
     ∙ dropped (Other command) (place_by (has_id crl) old.complete) (place_by (has_id crl) old.deltas) old new by
 drop_taken (Err e) command old id crl change is drops removes = tt

@@ -1,5 +1,5 @@
 -- Lists of references, changed at a place, and what they refer to.
-use Rattle.std.proofs.Common.{◌≡◌, ◌<◌, ◌≤◌, ◌∷◌, ℕ, zero, suc, List, [], Option, Some, length, map, get_or, refl, ap, arith}
+use Rattle.std.proofs.Common.{◌≡◌, ◌<◌, ◌≤◌, ◌∷◌, ℕ, zero, suc, List, [], Option, length, map, get_or, refl, ap, arith}
 use Rattle.std.specs.Borrow.{Bor}
 use Rattle.std.specs.List.{remove}
 use Rattle.std.specs.Prelude.{slice_set}
@@ -20,7 +20,7 @@ replaced f (y ∷ ys) (suc i) x = ap (λ l. f y ∷ l) (replaced f ys i x)
 
 -- the anchor at a place gets purposes
 pub purposes_set : (anchors : List LentAnchor) (i : ℕ) (anchor : LentAnchor) (purposes : Bor (Option (List (List ℕ)))) → i < length anchors → anchor ≡ get_or anchors i anchor
-    → map anchor_in (slice_set anchors i (record anchor { purposes = Some purposes })) ≡ with_purposes (map anchor_in anchors) i purposes.now
+    → map anchor_in (slice_set anchors i (record anchor { purposes = purposes })) ≡ with_purposes (map anchor_in anchors) i purposes.now
 purposes_set [] i anchor purposes more is = absurd (omega (arith, more))
 purposes_set (a ∷ anchors) zero anchor purposes more is = ap (λ (b : LentAnchor). record (anchor_in b) { purposes = purposes.now } ∷ map anchor_in anchors) is
 purposes_set (a ∷ anchors) (suc i) anchor purposes more is = ap (λ l. anchor_in a ∷ l) (purposes_set anchors i anchor purposes (omega (arith, more)) is)

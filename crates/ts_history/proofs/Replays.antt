@@ -15,11 +15,12 @@ use Rattle.ts_store.specs.declared.outcome.Outcome.TheVariants.{Applied, Repeate
 use Rattle.ts_store.specs.declared.outcome.Refusal.{Refusal}
 use Rattle.ts_store.proofs.Steps.{unchanged, taken, joined}
 use Rattle.ts_history.specs.Contents.{Contents, no_contents, contents_of}
-use Rattle.ts_history.specs.History.{IsHistory, change_if, commands_in, outcome_after, replayed}
+use Rattle.ts_history.specs.History.{IsHistory, change_if, commands_in, replayed}
+use Rattle.ts_history.specs.Outcome.{outcome_after}
 use Rattle.ts_history.specs.Taken.{changed, command_in}
 use Rattle.ts_history.specs.declared.taken.Change.{Change}
-use Rattle.ts_history.specs.declared.taken.Kept.{Kept}
-use Rattle.ts_history.specs.declared.taken.Taken.{Taken}
+use Rattle.ts_history.specs.declared.taken.KeptCommand.{KeptCommand}
+use Rattle.ts_history.specs.declared.taken.TakenCommand.{TakenCommand}
 
 -- ---- how many commands a store took
 
@@ -62,7 +63,7 @@ applied p c s = by (first_of (id_of c) s.ids)
     by (Some first) e = absurd (cc e)
     by None e = made (change c s.tables) e
 
-changes : (p : ℕ) (c : Command) (s t : State) (o : Outcome) (kept : Kept) (x : Change) → step p c s ≡ record { state = t; outcome = o } → ((new : Tables) → change c s.tables ≡ Ok new → changed x kept (contents_of s.tables) ≡ contents_of new)
+changes : (p : ℕ) (c : Command) (s t : State) (o : Outcome) (kept : KeptCommand) (x : Change) → step p c s ≡ record { state = t; outcome = o } → ((new : Tables) → change c s.tables ≡ Ok new → changed x kept (contents_of s.tables) ≡ contents_of new)
     → changed (change_if o x) kept (contents_of s.tables) ≡ contents_of t.tables
 changes p c s t Applied kept x done makes = makes t.tables (applied p c s (ap (λ (y : Step). y.outcome) done) ∙ ap (λ (y : Step). let r : Result Tables Refusal = Ok y.state.tables in r) done)
 changes p c s t (Repeated q) kept x done makes = ⊎_elim (λ e. absurd (cc (e, ap (λ (y : Step). y.outcome) done))) (λ e. ap contents_of (sym e ∙ ap (λ (y : Step). y.state.tables) done)) (unchanged p c s)
@@ -70,24 +71,24 @@ changes p c s t (Refused r) kept x done makes = ⊎_elim (λ e. absurd (cc (e, a
 
 -- ---- one more command
 
-replayed_more : (c : Contents) (ts : List Taken) (t : Taken) → replayed c (ts ++ t ∷ []) ≡ changed t.change t.kept (replayed c ts)
+replayed_more : (c : Contents) (ts : List TakenCommand) (t : TakenCommand) → replayed c (ts ++ t ∷ []) ≡ changed t.change t.kept (replayed c ts)
 replayed_more c [] t = refl
 replayed_more c (u ∷ ts) t = replayed_more (changed u.change u.kept c) ts t
 
-commands_more : (ts : List Taken) (t : Taken) → commands_in (ts ++ t ∷ []) ≡ commands_in ts ++ command_in t.kept ∷ []
+commands_more : (ts : List TakenCommand) (t : TakenCommand) → commands_in (ts ++ t ∷ []) ≡ commands_in ts ++ command_in t.kept ∷ []
 commands_more [] t = refl
 commands_more (u ∷ ts) t = ap (λ l. command_in u.kept ∷ l) (commands_more ts t)
 
-pub commands_count : (ts : List Taken) → length (commands_in ts) ≡ length ts
+pub commands_count : (ts : List TakenCommand) → length (commands_in ts) ≡ length ts
 commands_count [] = refl
 commands_count (t ∷ ts) = ap suc (commands_count ts)
 
-module _ (ts : List Taken) (s t : State) (kept : Kept) (x : Change) (c : Command) (n : ℕ) (o : Outcome) (was : IsHistory ts s) (room : length ts < 1000000) (same : command_in kept ≡ c) (next : n ≡ s.taken + 1)
+module _ (ts : List TakenCommand) (s t : State) (kept : KeptCommand) (x : Change) (c : Command) (n : ℕ) (o : Outcome) (was : IsHistory ts s) (room : length ts < 1000000) (same : command_in kept ≡ c) (next : n ≡ s.taken + 1)
     (makes : (new : Tables) → change c s.tables ≡ Ok new → changed x kept (contents_of s.tables) ≡ contents_of new) (done : step n c s ≡ record { state = t; outcome = o }) where
-  abbrev one : Taken
+  abbrev one : TakenCommand
   one = record { kept = kept; change = change_if o x }
 
-  abbrev more : List Taken
+  abbrev more : List TakenCommand
   more = ts ++ one ∷ []
 
   is_next : n ≡ suc (length (commands_in ts))

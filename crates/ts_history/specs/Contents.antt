@@ -1,6 +1,5 @@
 -- What the tables of a store hold: its trust anchors, and the octets of its complete lists and of its deltas.
-use Rattle.std.specs.Prelude.{ℕ, List, [], map, Option, Some, None}
-use Rattle.std.specs.Borrow.{Bor}
+use Rattle.std.specs.Prelude.{ℕ, List, [], map}
 use Rattle.ts_store.specs.Tables.{Tables}
 use Rattle.ts_store.specs.declared.anchor.TrustAnchor.{TrustAnchor}
 use Rattle.ts_history.specs.declared.snapshot.LentAnchor.{LentAnchor}
@@ -13,15 +12,10 @@ pub record Contents : Type 0 where
 abbrev pub no_contents : Contents
 no_contents = record { anchors = []; complete = []; deltas = [] }
 
+-- what these tables hold: the ids of lists are left out, since no verdict asks for them
 abbrev pub contents_of : Tables → Contents
 contents_of tables = record { anchors = tables.anchors; complete = map (λ c. c.crl) tables.complete; deltas = map (λ c. c.crl) tables.deltas }
 
--- ---- a trust anchor that is lent
-
--- `None` stands for any purpose, as a list of none that is kept does
-abbrev pub purposes_in : Option (Bor (Option (List (List ℕ)))) → Option (List (List ℕ))
-purposes_in None = None
-purposes_in (Some purposes) = purposes.now
-
+-- a trust anchor that is lent
 abbrev pub anchor_in : LentAnchor → TrustAnchor
-anchor_in a = record { id = a.id; certificate = a.certificate.now; purposes = purposes_in a.purposes }
+anchor_in a = record { id = a.id; certificate = a.certificate.now; purposes = a.purposes.now }

@@ -1,6 +1,6 @@
--- The commands that a store took, and the contents of its tables after any number of them.
-use Rattle.std.specs.Prelude.{◌≡◌, ◌≤◌, ℕ, suc, List, [], ◌∷◌, length, map, take}
-use Rattle.ts_store.specs.Store.{State, step, store_after}
+-- What private clauses see of a history: the contents that its changes give, and that they are those of the store after any number of its commands.
+use Rattle.std.specs.Prelude.{◌≡◌, ◌≤◌, ℕ, List, [], ◌∷◌, length, map, take}
+use Rattle.ts_store.specs.Store.{State, store_after}
 use Rattle.ts_store.specs.declared.command.Command.{Command}
 use Rattle.ts_store.specs.declared.outcome.Outcome.{Outcome}
 use Rattle.ts_store.specs.declared.outcome.Outcome.TheVariants.{Applied, Repeated, Refused}
@@ -8,11 +8,7 @@ use Rattle.ts_history.specs.Contents.{Contents, no_contents, contents_of}
 use Rattle.ts_history.specs.Taken.{command_in, changed}
 use Rattle.ts_history.specs.declared.taken.Change.{Change}
 use Rattle.ts_history.specs.declared.taken.Change.TheVariants.{Nothing}
-use Rattle.ts_history.specs.declared.taken.Taken.{Taken}
-
--- the command takes the position after those before it
-unfoldable pub outcome_after : List Command → Command → Outcome
-outcome_after commands command = (step (suc (length commands)) command (store_after commands)).outcome
+use Rattle.ts_history.specs.declared.taken.TakenCommand.{TakenCommand}
 
 -- a command that is not applied changes nothing
 abbrev pub change_if : Outcome → Change → Change
@@ -21,15 +17,16 @@ change_if (Repeated position) change = Nothing
 change_if (Refused refusal) change = Nothing
 
 -- the contents after changes in turn
-abbrev pub replayed : Contents → List Taken → Contents
+abbrev pub replayed : Contents → List TakenCommand → Contents
 replayed c [] = c
 replayed c (t ∷ ts) = replayed (changed t.change t.kept c) ts
 
-abbrev pub commands_in : List Taken → List Command
+-- the commands, as the store takes them
+abbrev pub commands_in : List TakenCommand → List Command
 commands_in taken = map (λ t. command_in t.kept) taken
 
--- the store is the one after the commands, and after the first of them, however many, the changes give what its tables hold then
-pub record IsHistory (taken : List Taken) (store : State) : Type 0 where
+-- the store is the one after the commands; and for each k the first k changes give what its tables hold after the first k commands
+pub record IsHistory (taken : List TakenCommand) (store : State) : Type 0 where
   pub now : store ≡ store_after (commands_in taken)
   pub counted : store.taken ≡ length taken
   pub few : length taken ≤ 1000000

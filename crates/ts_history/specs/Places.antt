@@ -1,4 +1,4 @@
--- Which place of the tables a command changes, where it is applied.
+-- What private clauses see of the place of the tables that a command changes, where it is applied.
 use Rattle.std.specs.Prelude.{ℕ, List, Option, Some, None, if◌then◌else◌}
 use Rattle.ts_crl.specs.List.{CertificateList}
 use Rattle.ts_crl.specs.Profile.{is_delta}
@@ -9,27 +9,32 @@ use Rattle.ts_history.specs.declared.taken.Kind.TheVariants.{Complete, Delta}
 use Rattle.ts_history.specs.declared.taken.Change.{Change}
 use Rattle.ts_history.specs.declared.taken.Change.TheVariants.{Nothing, RemovesAnchor, SetsPurposes, AddsCrl, PutsCrl, RemovesCrl}
 
+-- the anchor at a place goes, if it is there
 abbrev pub removal_at : Option ℕ → Change
 removal_at None = Nothing
 removal_at (Some i) = RemovesAnchor i
 
+-- the anchor at a place gets purposes, if it is there
 abbrev pub setting_at : Option ℕ → Change
 setting_at None = Nothing
 setting_at (Some i) = SetsPurposes i
 
--- a complete list, else a delta
+-- a complete list goes, else a delta
 abbrev pub crl_removal_at : Option ℕ → Option ℕ → Change
 crl_removal_at (Some i) delta = RemovesCrl Complete i
 crl_removal_at None (Some i) = RemovesCrl Delta i
 crl_removal_at None None = Nothing
 
+-- the list of an id goes
 abbrev pub crl_removal_in : List ℕ → Tables → Change
 crl_removal_in id tables = crl_removal_at (place_by (has_id id) tables.complete) (place_by (has_id id) tables.deltas)
 
+-- a list goes to the place of the one of its slot, else behind all of its kind
 abbrev pub crl_change_at : Kind → Option ℕ → Change
 crl_change_at kind None = AddsCrl kind
 crl_change_at kind (Some i) = PutsCrl kind i
 
+-- a list goes among the deltas where it is one, else among the complete lists
 abbrev pub crl_change_in : CertificateList → Tables → Change
 crl_change_in new tables =
     if is_delta new

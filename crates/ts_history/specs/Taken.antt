@@ -1,50 +1,56 @@
--- A command that was taken, and what it changes in the contents of tables.
-use Rattle.std.specs.Prelude.{ℕ, List, [], ◌∷◌, ◌++◌, None, slice_set}
+-- What private clauses see of a command that was taken: the command, and what it changes in the contents of tables.
+use Rattle.std.specs.Prelude.{ℕ, List, [], ◌∷◌, ◌++◌, slice_set}
 use Rattle.std.specs.List.{remove}
 use Rattle.ts_store.specs.Anchors.{with_purposes}
 use Rattle.ts_store.specs.declared.anchor.TrustAnchor.{TrustAnchor}
 use Rattle.ts_store.specs.declared.command.Command.{Command}
 use Rattle.ts_store.specs.declared.command.Command.TheVariants.{AddAnchor, LoadCrl, SetPurposes}
-use Rattle.ts_history.specs.declared.taken.Kept.{Kept}
-use Rattle.ts_history.specs.declared.taken.Kept.TheVariants.{Anchor, Crl, Other}
+use Rattle.ts_history.specs.declared.taken.KeptCommand.{KeptCommand}
+use Rattle.ts_history.specs.declared.taken.KeptCommand.TheVariants.{Anchor, Crl, Other}
 use Rattle.ts_history.specs.declared.taken.Kind.TheVariants.{Complete, Delta}
 use Rattle.ts_history.specs.declared.taken.Change.{Change}
 use Rattle.ts_history.specs.declared.taken.Change.TheVariants.{Nothing, AddsAnchor, RemovesAnchor, SetsPurposes, AddsCrl, PutsCrl, RemovesCrl}
 use Rattle.ts_history.specs.Contents.{Contents}
 
-abbrev pub command_in : Kept → Command
-command_in (Anchor id digest certificate) = AddAnchor id certificate
+-- the command, as the store takes it
+abbrev pub command_in : KeptCommand → Command
+command_in (Anchor id anchor) = AddAnchor id anchor.certificate
 command_in (Crl id crl) = LoadCrl id crl
 command_in (Other command) = command
 
--- ---- a command that is none of its change's changes nothing
+-- ---- one table after a change; a change that does not fit its command leaves it as it is
 
-abbrev pub with_anchor : Kept → List TrustAnchor → List TrustAnchor
-with_anchor (Anchor id digest certificate) anchors = anchors ++ record { id = digest; certificate = certificate; purposes = None } ∷ []
+-- the command's anchor is the last one
+abbrev pub with_anchor : KeptCommand → List TrustAnchor → List TrustAnchor
+with_anchor (Anchor id anchor) anchors = anchors ++ anchor ∷ []
 with_anchor (Crl id crl) anchors = anchors
 with_anchor (Other command) anchors = anchors
 
+-- the anchor at a place has the command's purposes
 abbrev pub with_purposes_of : Command → ℕ → List TrustAnchor → List TrustAnchor
 with_purposes_of (SetPurposes id anchor purposes) at' anchors = with_purposes anchors at' purposes
 with_purposes_of other at' anchors = anchors
 
-abbrev pub with_purposes_in : Kept → ℕ → List TrustAnchor → List TrustAnchor
-with_purposes_in (Anchor id digest certificate) at' anchors = anchors
+abbrev pub with_purposes_in : KeptCommand → ℕ → List TrustAnchor → List TrustAnchor
+with_purposes_in (Anchor id anchor) at' anchors = anchors
 with_purposes_in (Crl id crl) at' anchors = anchors
 with_purposes_in (Other command) at' anchors = with_purposes_of command at' anchors
 
-abbrev pub with_last : Kept → List (List ℕ) → List (List ℕ)
-with_last (Anchor id digest certificate) lists = lists
+-- the command's list is the last one
+abbrev pub with_last : KeptCommand → List (List ℕ) → List (List ℕ)
+with_last (Anchor id anchor) lists = lists
 with_last (Crl id crl) lists = lists ++ crl ∷ []
 with_last (Other command) lists = lists
 
-abbrev pub with_crl_at : Kept → ℕ → List (List ℕ) → List (List ℕ)
-with_crl_at (Anchor id digest certificate) at' lists = lists
+-- the command's list is at a place
+abbrev pub with_crl_at : KeptCommand → ℕ → List (List ℕ) → List (List ℕ)
+with_crl_at (Anchor id anchor) at' lists = lists
 with_crl_at (Crl id crl) at' lists = slice_set lists at' crl
 with_crl_at (Other command) at' lists = lists
 
--- the contents after a change
-abbrev pub changed : Change → Kept → Contents → Contents
+-- ---- the contents after a change
+
+abbrev pub changed : Change → KeptCommand → Contents → Contents
 changed Nothing kept c = c
 changed AddsAnchor kept c = record c { anchors = with_anchor kept c.anchors }
 changed (RemovesAnchor at') kept c = record c { anchors = remove c.anchors at' }

@@ -4,10 +4,11 @@ ghost use Rattle.std.specs.Prelude.{◌≡◌, ◌<◌, ◌≤◌, ◌++◌, ◌
 ghost use Rattle.ts_store.specs.Ids.{first_of};
 ghost use Rattle.ts_store.specs.Store.{store_after};
 ghost use Rattle.ts_history.specs.Contents.{contents_of, no_contents};
-ghost use Rattle.ts_history.specs.History.{change_if, outcome_after, replayed};
+ghost use Rattle.ts_history.specs.History.{change_if, replayed};
+ghost use Rattle.ts_history.specs.Outcome.{outcome_after};
 
 use crate::snapshot::Snapshot;
-use crate::taken::{Change, Taken, taken_of};
+use crate::taken::{Change, TakenCommand, taken_of};
 use std::alloc::{AllocError, Global};
 use std::marker::Model;
 use ts_store::{Command, First, Outcome, Store, Tables};
@@ -16,7 +17,7 @@ use ts_store::{Command, First, Outcome, Store, Tables};
 #[derive(Drop)]
 pub struct History {
     alloc: Global,
-    taken: Vec<Taken>,
+    taken: Vec<TakenCommand>,
     store: Store,
 }
 
@@ -32,8 +33,8 @@ impl Model for History {
     ghost invariant = { λ h. IsHistory h.taken.items h.store };
 }
 
-/// What a command changed, where this is what it would change if it was applied.
-fn change_by(outcome: Outcome, change: Change) -> Change
+/// What a command with this outcome changed: this where it was applied, else nothing.
+fn change_made(outcome: Outcome, change: Change) -> Change
     ensures { result ≡ change_if outcome change }
 {
     match outcome {
@@ -72,12 +73,12 @@ impl History {
         ensures pushed { OnOk result (self.new ≡ self.old ++ command.now ∷ []) }
         ensures refused { OnErr result (self.new ≡ self.old) }
     {
-        let Taken { kept, change } = taken_of(self.alloc, self.store.tables(), command)?;
+        let TakenCommand { kept, change } = taken_of(self.alloc, self.store.tables(), command)?;
         self.taken.reserve(1)?;
         let position = self.store.taken() + 1;
         let outcome = self.store.apply(position, command)?;
-        let change = change_by(outcome, change);
-        match self.taken.push(Taken { kept, change }) {
+        let change = change_made(outcome, change);
+        match self.taken.push(TakenCommand { kept, change }) {
             Ok(()) => Ok(outcome),
             Err(_) => unreachable!(),
         }
@@ -115,7 +116,7 @@ impl History {
 }
 
 /// The tables after these commands.
-fn replay(alloc: Global, taken: &[Taken]) -> Result<Snapshot<'_>, AllocError>
+fn replay(alloc: Global, taken: &[TakenCommand]) -> Result<Snapshot<'_>, AllocError>
     ensures { IfOk result (λ snapshot. snapshot ≡ replayed no_contents taken.now) }
 {
     let mut snapshot = Snapshot::empty(alloc);

@@ -5,19 +5,19 @@ ghost use Rattle.std.specs.List.{remove};
 ghost use Rattle.ts_history.specs.Contents.{anchor_in, contents_of, no_contents};
 ghost use Rattle.ts_history.specs.Taken.{changed, with_anchor, with_crl_at, with_last, with_purposes_in, with_purposes_of};
 
-use crate::taken::{Change, Kept, Kind, Taken};
+use crate::taken::{Change, KeptCommand, Kind, TakenCommand};
 use std::alloc::{AllocError, Global};
 use std::marker::Model;
 use ts_cert::OwnedCert;
 use ts_crl::OwnedCrl;
 use ts_store::{Command, Purposes, StoredCrl, Tables, TrustAnchor};
 
-/// A trust anchor, lent: the SHA-256 of its certificate, the certificate, and its purposes, `None` for any.
+/// A trust anchor, lent: the SHA-256 of its certificate, the certificate, and its purposes.
 #[derive(Clone, Copy)]
 pub struct LentAnchor<'a> {
     pub id: [u8; 32],
     pub certificate: &'a OwnedCert,
-    pub purposes: Option<&'a Purposes>,
+    pub purposes: &'a Purposes,
 }
 
 /// The tables of a store, lent: nothing of them is copied or read again.
@@ -37,47 +37,48 @@ impl<'a> Model for Snapshot<'a> {
     ghost view = { λ s. record { anchors = map anchor_in s.anchors.items; complete = map (λ c. c.now) s.complete.items; deltas = map (λ c. c.now) s.deltas.items } };
 }
 
+/// A trust anchor, lent.
+fn lent(anchor: &TrustAnchor) -> LentAnchor<'_>
+    ensures { anchor_in result ≡ anchor.now }
+{
+    LentAnchor {
+        id: anchor.id,
+        certificate: &anchor.certificate,
+        purposes: &anchor.purposes,
+    }
+}
+
 /// The anchors of a table, lent.
 fn anchors_of(alloc: Global, anchors: &[TrustAnchor]) -> Result<Vec<LentAnchor<'_>>, AllocError>
-    ensures { IfOk result (λ lent. map anchor_in lent.items ≡ anchors.now) }
+    ensures { IfOk result (λ all. map anchor_in all.items ≡ anchors.now) }
 {
-    let mut lent = Vec::new(alloc);
+    let mut all = Vec::new(alloc);
     for anchor in anchors {
-        lent.push(LentAnchor {
-            id: anchor.id,
-            certificate: &anchor.certificate,
-            purposes: Some(&anchor.purposes),
-        })?;
+        all.push(lent(anchor))?;
     }
-    Ok(lent)
+    Ok(all)
 }
 
 /// The lists of a table, lent.
 fn crls_of(alloc: Global, lists: &[StoredCrl]) -> Result<Vec<&OwnedCrl>, AllocError>
-    ensures { IfOk result (λ lent. map (λ c. c.now) lent.items ≡ map (λ c. c.crl) lists.now) }
+    ensures { IfOk result (λ all. map (λ c. c.now) all.items ≡ map (λ c. c.crl) lists.now) }
 {
-    let mut lent = Vec::new(alloc);
+    let mut all = Vec::new(alloc);
     for list in lists {
-        lent.push(&list.crl)?;
+        all.push(&list.crl)?;
     }
-    Ok(lent)
+    Ok(all)
 }
 
 /// Adds the anchor of a command as the last one.
-fn add_anchor<'a>(anchors: &mut Vec<LentAnchor<'a>>, kept: &'a Kept) -> Result<(), AllocError>
+fn add_anchor<'a>(
+    anchors: &mut Vec<LentAnchor<'a>>,
+    kept: &'a KeptCommand,
+) -> Result<(), AllocError>
     ensures { OnOk result (map anchor_in anchors.new.items ≡ with_anchor kept.now (map anchor_in anchors.old.items)) }
 {
-    if let Kept::Anchor {
-        digest,
-        certificate,
-        ..
-    } = kept
-    {
-        anchors.push(LentAnchor {
-            id: *digest,
-            certificate,
-            purposes: None,
-        })?;
+    if let KeptCommand::Anchor { anchor, .. } = kept {
+        anchors.push(lent(anchor))?;
     }
     Ok(())
 }
@@ -97,35 +98,35 @@ fn set_purposes<'a>(anchors: &mut Vec<LentAnchor<'a>>, at: usize, command: &'a C
 {
     if let Command::SetPurposes { purposes, .. } = command {
         if at < anchors.len() {
-            anchors[at].purposes = Some(purposes);
+            anchors[at].purposes = purposes;
         }
     }
 }
 
 /// Gives the anchor at a place the purposes of a command.
-fn set_purposes_in<'a>(anchors: &mut Vec<LentAnchor<'a>>, at: usize, kept: &'a Kept)
+fn set_purposes_in<'a>(anchors: &mut Vec<LentAnchor<'a>>, at: usize, kept: &'a KeptCommand)
     ensures { map anchor_in anchors.new.items ≡ with_purposes_in kept.now at (map anchor_in anchors.old.items) }
 {
-    if let Kept::Other(command) = kept {
+    if let KeptCommand::Other(command) = kept {
         set_purposes(anchors, at, command);
     }
 }
 
 /// Adds the list of a command as the last one.
-fn add_crl<'a>(lists: &mut Vec<&'a OwnedCrl>, kept: &'a Kept) -> Result<(), AllocError>
+fn add_crl<'a>(lists: &mut Vec<&'a OwnedCrl>, kept: &'a KeptCommand) -> Result<(), AllocError>
     ensures { OnOk result (map (λ c. c.now) lists.new.items ≡ with_last kept.now (map (λ c. c.now) lists.old.items)) }
 {
-    if let Kept::Crl { crl, .. } = kept {
+    if let KeptCommand::Crl { crl, .. } = kept {
         lists.push(crl)?;
     }
     Ok(())
 }
 
 /// Puts the list of a command at a place.
-fn put_crl<'a>(lists: &mut Vec<&'a OwnedCrl>, at: usize, kept: &'a Kept)
+fn put_crl<'a>(lists: &mut Vec<&'a OwnedCrl>, at: usize, kept: &'a KeptCommand)
     ensures { map (λ c. c.now) lists.new.items ≡ with_crl_at kept.now at (map (λ c. c.now) lists.old.items) }
 {
-    if let Kept::Crl { crl, .. } = kept {
+    if let KeptCommand::Crl { crl, .. } = kept {
         if at < lists.len() {
             lists[at] = crl;
         }
@@ -168,7 +169,7 @@ impl<'a> Snapshot<'a> {
     }
 
     /// Makes what a command changed.
-    pub(crate) fn change(&mut self, taken: &'a Taken) -> Result<(), AllocError>
+    pub(crate) fn change(&mut self, taken: &'a TakenCommand) -> Result<(), AllocError>
         ensures { OnOk result (self.new ≡ changed taken.now.change taken.now.kept self.old) }
     {
         let kept = &taken.kept;

@@ -5,29 +5,21 @@ ghost use Rattle.ts_store.specs.Tables.{Tables as Stated, change as change_by};
 ghost use Rattle.ts_store.specs.declared.command.Command.TheVariants.{AddAnchor, LoadCrl};
 ghost use Rattle.ts_history.specs.Contents.{contents_of};
 ghost use Rattle.ts_history.specs.Taken.{command_in, changed};
-ghost use Rattle.ts_history.specs.declared.taken.Kept.TheVariants.{Other};
+ghost use Rattle.ts_history.specs.declared.taken.KeptCommand.TheVariants.{Other};
 
 use crate::placing::{crl_change, crl_removal, removal, setting};
 use std::alloc::{AllocError, Global};
 use ts_cert::{OwnedCert, OwnedCertFault};
 use ts_crl::{OwnedCrl, OwnedCrlFault};
-use ts_store::{CertificateOctets, Command, CrlOctets, Tables, digest};
+use ts_store::{CertificateOctets, Command, CrlOctets, Purposes, Tables, TrustAnchor, digest};
 
-/// A command. The certificate of a new anchor and a list that is loaded are kept as what they are, so that they are lent without being
-/// read again.
+/// A command, kept so that what it loads can be lent: an anchor and a list in the form in which they were read.
 #[derive(Drop)]
-pub(crate) enum Kept {
-    /// Adds a trust anchor: the certificate, and its SHA-256.
-    Anchor {
-        id: [u8; 16],
-        digest: [u8; 32],
-        certificate: OwnedCert,
-    },
+pub(crate) enum KeptCommand {
+    /// Adds this trust anchor, for any purpose.
+    Anchor { id: [u8; 16], anchor: TrustAnchor },
     /// Adds a list of revoked certificates.
-    Crl {
-        id: [u8; 16],
-        crl: OwnedCrl,
-    },
+    Crl { id: [u8; 16], crl: OwnedCrl },
     /// Any other command, and those whose octets are no certificate or no list.
     Other(Command),
 }
@@ -42,26 +34,26 @@ pub(crate) enum Kind {
 /// What a command changed, by its place in a table.
 #[derive(Clone, Copy, Debug, PartialEq, Eq)]
 pub(crate) enum Change {
-    /// It was refused, is one whose id was there, or asks for nothing.
+    /// None: the command was refused or repeated, or asks for nothing.
     Nothing,
-    /// Its anchor is the last one.
+    /// The command's anchor is the last one.
     AddsAnchor,
-    /// The anchor at this place is gone.
+    /// The anchor at this place is removed.
     RemovesAnchor { at: usize },
-    /// The anchor at this place has its purposes.
+    /// The anchor at this place has the command's purposes.
     SetsPurposes { at: usize },
-    /// Its list is the last one of its kind.
+    /// The command's list is the last one of its kind.
     AddsCrl { kind: Kind },
-    /// Its list is at this place, where another one of its slot was.
+    /// The command's list is at this place, where another list of its slot was.
     PutsCrl { kind: Kind, at: usize },
-    /// The list at this place is gone.
+    /// The list at this place is removed.
     RemovesCrl { kind: Kind, at: usize },
 }
 
 /// A command that was taken, and what it changed.
 #[derive(Drop)]
-pub(crate) struct Taken {
-    pub kept: Kept,
+pub(crate) struct TakenCommand {
+    pub kept: KeptCommand,
     pub change: Change,
 }
 
@@ -70,25 +62,28 @@ fn anchor_taken(
     alloc: Global,
     id: [u8; 16],
     certificate: &CertificateOctets,
-) -> Result<Taken, AllocError>
+) -> Result<TakenCommand, AllocError>
     ensures same { IfOk result (λ taken. command_in taken.kept ≡ AddAnchor id certificate.now) }
     ensures done { IfOk result (λ taken. (old new : Stated) → change_by (AddAnchor id certificate.now) old ≡ Ok new → changed taken.change taken.kept (contents_of old) ≡ contents_of new) }
 {
     let octets = certificate.as_slice();
     match OwnedCert::read(alloc, octets) {
-        Ok(certificate) => Ok(Taken {
-            kept: Kept::Anchor {
+        Ok(certificate) => Ok(TakenCommand {
+            kept: KeptCommand::Anchor {
                 id,
-                digest: digest(octets),
-                certificate,
+                anchor: TrustAnchor {
+                    id: digest(octets),
+                    certificate,
+                    purposes: Purposes::any(),
+                },
             },
             change: Change::AddsAnchor,
         }),
         Err(OwnedCertFault::Memory) => Err(AllocError),
         Err(OwnedCertFault::Unreadable(_)) => {
             let certificate = certificate.try_copy(alloc)?;
-            Ok(Taken {
-                kept: Kept::Other(Command::AddAnchor { id, certificate }),
+            Ok(TakenCommand {
+                kept: KeptCommand::Other(Command::AddAnchor { id, certificate }),
                 change: Change::Nothing,
             })
         }
@@ -101,7 +96,7 @@ fn crl_taken(
     tables: &Tables,
     id: [u8; 16],
     crl: &CrlOctets,
-) -> Result<Taken, AllocError>
+) -> Result<TakenCommand, AllocError>
     ensures same { IfOk result (λ taken. command_in taken.kept ≡ LoadCrl id crl.now) }
     ensures done { IfOk result (λ taken. (new : Stated) → change_by (LoadCrl id crl.now) tables.now ≡ Ok new → changed taken.change taken.kept (contents_of tables.now) ≡ contents_of new) }
 {
@@ -109,16 +104,16 @@ fn crl_taken(
     match OwnedCrl::read(alloc, octets) {
         Ok(crl) => {
             let change = crl_change(alloc, tables, crl.view())?;
-            Ok(Taken {
-                kept: Kept::Crl { id, crl },
+            Ok(TakenCommand {
+                kept: KeptCommand::Crl { id, crl },
                 change,
             })
         }
         Err(OwnedCrlFault::Memory) => Err(AllocError),
         Err(OwnedCrlFault::Unreadable(_)) => {
             let crl = crl.try_copy(alloc)?;
-            Ok(Taken {
-                kept: Kept::Other(Command::LoadCrl { id, crl }),
+            Ok(TakenCommand {
+                kept: KeptCommand::Other(Command::LoadCrl { id, crl }),
                 change: Change::Nothing,
             })
         }
@@ -126,11 +121,11 @@ fn crl_taken(
 }
 
 /// A copy of another command, and what it changes.
-fn other_taken(alloc: Global, command: &Command, change: Change) -> Result<Taken, AllocError>
+fn other_taken(alloc: Global, command: &Command, change: Change) -> Result<TakenCommand, AllocError>
     ensures { IfOk result (λ taken. taken ≡ record { kept = Other command.now; change = change }) }
 {
-    Ok(Taken {
-        kept: Kept::Other(command.try_copy(alloc)?),
+    Ok(TakenCommand {
+        kept: KeptCommand::Other(command.try_copy(alloc)?),
         change,
     })
 }
@@ -140,7 +135,7 @@ pub(crate) fn taken_of(
     alloc: Global,
     tables: &Tables,
     command: &Command,
-) -> Result<Taken, AllocError>
+) -> Result<TakenCommand, AllocError>
     ensures same { IfOk result (λ taken. command_in taken.kept ≡ command.now) }
     ensures done { IfOk result (λ taken. (new : Stated) → change_by command.now tables.now ≡ Ok new → changed taken.change taken.kept (contents_of tables.now) ≡ contents_of new) }
 {

@@ -16,7 +16,9 @@ returns-in-Ok-clause-same c =
 pub returns-in-Ok-clause-done : goal.returns-in-Ok-clause-done
 returns-in-Ok-clause-done c = λ old new e.
     let kept = kept_is c.as_slice-octets.result.now c.in-Ok.certificate Memory (certificate_fault c.as_slice-octets.result.now) c.in-Ok.ensures.kept (λ f h. not_ok c.in-Ok.certificate (Unreadable f) (c.in-Ok.ensures.refused f h)) in
-    added c.args.id c.digest.result c.in-Ok.certificate c.args.certificate.now (c.digest.ensures ∙ ap sha256 c.as_slice-octets.ensures.octets) (kept ∙ c.as_slice-octets.ensures.octets) (is_some (certificate_fault c.args.certificate.now)) old new e
+    let octets = kept ∙ c.as_slice-octets.ensures.octets in
+    let id = c.digest.ensures ∙ ap sha256 c.as_slice-octets.ensures.octets in
+    added c.args.id c.args.certificate.now _ (λ i. record { id = id i; certificate = octets i; purposes = c.any.ensures i }) (is_some (certificate_fault c.args.certificate.now)) old new e
 
 pub returns-in_ok-certificate-in-Err-Unreadable-clause-done : goal.returns-in_ok-certificate-in-Err-Unreadable-clause-done
 returns-in_ok-certificate-in-Err-Unreadable-clause-done c = λ old new e.

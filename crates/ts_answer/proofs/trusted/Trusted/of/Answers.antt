@@ -1,11 +1,10 @@
 use Rattle.std.proofs.Common.{◌∙◌, arith, length-set}
-use Rattle.ts_history.specs.Contents.{purposes_in}
 use Rattle.ts_answer.proofs.Purposes.{few, one_copied}
 use Rattle.ts_answer.proofs.trusted.Trusted.of.Goals as goal
 
 pub loop-number-preserved : goal.loop-number-preserved
 loop-number-preserved c =
-    let all = few (purposes_in c.args.stored.purposes) c.in-Some.oids.now c.in-Some.ensures.oids c.in-Some.ensures.limits in
+    let all = few c.args.stored.purposes.now c.in-Some.oids.now c.in-Some.ensures.oids c.in-Some.ensures.limits in
     let room = c.loop-number.invariant.room in
     let more = c.loop-number-test.true in
     record {

@@ -1,7 +1,8 @@
 use Rattle.std.proofs.Common.{◌≡◌, ◌∙◌, ◌+◌, ◌++◌, ◌∷◌, [], ap, sym, subst, length, arith, Ok}
 use Rattle.ts_store.specs.Tables.{Tables, change}
 use Rattle.ts_history.specs.Contents.{contents_of}
-use Rattle.ts_history.specs.History.{IsHistory, outcome_after}
+use Rattle.ts_history.specs.History.{IsHistory}
+use Rattle.ts_history.specs.Outcome.{outcome_after}
 use Rattle.ts_history.specs.Taken.{changed}
 use Rattle.ts_history.proofs.Replays.{came_to, commands_count, goes_on}
 use Rattle.ts_history.proofs.history.History.push.Goals as goal
@@ -12,7 +13,7 @@ invariant_of-self-2 c =
     let one = c.in_ok-kept.field-0 in
     let few = commands_count ts in
     let low = ap length c.self.view_is in
-    let items = c.in-Ok.ensures.items ∙ (λ i. c.in_ok-reserve.ensures.items i ++ record { kept = one.kept; change = c.change_by-change.ensures i } ∷ []) in
+    let items = c.in-Ok.ensures.items ∙ (λ i. c.in_ok-reserve.ensures.items i ++ record { kept = one.kept; change = c.change_made-change.ensures i } ∷ []) in
     let makes = λ (new : Tables) (e : change c.args.command.now c.self.inside.store.tables ≡ Ok new).
     ap (λ t. changed one.change one.kept (contents_of t)) (sym c.tables.ensures) ∙ c.in_ok-kept.ensures.done new (ap (change c.args.command.now) c.tables.ensures ∙ e) in
     subst (λ l. IsHistory l c.apply.new.self) (sym items)
