@@ -11,7 +11,8 @@ use ts_cli::{Task, report, task_of_process};
 use ts_lab::lab;
 use ts_tasks::{Fault, run};
 
-/// Ends with the status of the task that the command line asks for, and with 2 for a wrong command line.
+/// Ends with the status of the task that the command line asks for, and with 2 for a wrong command
+/// line.
 fn main(rt: HostRuntime) -> ExitCode {
     let status = match task_of_process(&rt) {
         Ok(task) => status_of_task(&rt, &task),

@@ -1,5 +1,5 @@
--- What an acceptor has promised and taken, and the facts of a node that this comes from ('Paxos Made Simple' 2.5: what an acceptor
--- must remember over a restart).
+-- What an acceptor has promised and taken, and the facts of a node that this comes from ('Paxos
+-- Made Simple' 2.5: what an acceptor must remember over a restart).
 use Rattle.std.proofs.Common.{◌≡◌, ℕ, List, Option, Some, None}
 use Rattle.std.specs.Ordering.{nat_cmp}
 use Rattle.std.specs.BTreeMap.{BTreeMap, get}

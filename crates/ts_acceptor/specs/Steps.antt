@@ -1,5 +1,6 @@
 -- The steps of an acceptor: what a step keeps and sends, and which step can be kept.
-use Rattle.std.proofs.Common.{◌≡◌, ◌≢◌, ◌<◌, ◌≤◌, ℕ, List, [], ◌∷◌, Option, Some, None, true, is_some}
+use Rattle.std.proofs.Common.{◌≡◌, ◌≢◌, ◌<◌, ◌≤◌, ℕ, List, [], ◌∷◌, Option, Some, None, true}
+use Rattle.std.proofs.Common.{is_some}
 use Rattle.std.specs.Ordering.{nat_cmp}
 use Rattle.std.specs.BTreeMap.{get}
 use Rattle.ts_synod.specs.declared.message.Fact.{Fact}
@@ -19,7 +20,8 @@ pub record Makes {C : Type 0} (step : Step C) (rule : Output C) : Type 0 where
 
 -- there are places for a promise and for a vote at p
 abbrev pub HasPlaces : {C : Type 0} → Acceptor C → ℕ → Type 0
-HasPlaces a p = (is_some (get nat_cmp a.promised p) ≡ true) × (is_some (get nat_cmp a.taken p) ≡ true)
+HasPlaces a p = (is_some (get nat_cmp a.promised p) ≡ true)
+    × (is_some (get nat_cmp a.taken p) ≡ true)
 
 -- the vote, if there is one, is of another ballot
 abbrev pub IsOfOther : {C : Type 0} → ℕ → Option (Vote C) → Type 0
@@ -29,8 +31,10 @@ IsOfOther b (Some v) = v.ballot ≢ b
 -- the change is that of these facts, it is allowed to the acceptor, and there are places for it
 abbrev pub IsChangeOf : {C : Type 0} → Acceptor C → Change C → List (Fact C) → Type 0
 IsChangeOf a Nothing facts = facts ≡ []
-IsChangeOf a (Promise p b) facts = (facts ≡ Promised p b ∷ []) × (promised_at a p < b) × HasPlaces a p
-IsChangeOf a (Take p b c) facts = (facts ≡ Took p b c ∷ []) × (promised_at a p ≤ b) × IsOfOther b (taken_at a p) × HasPlaces a p
+IsChangeOf a (Promise p b) facts =
+    (facts ≡ Promised p b ∷ []) × (promised_at a p < b) × HasPlaces a p
+IsChangeOf a (Take p b c) facts =
+    (facts ≡ Took p b c ∷ []) × (promised_at a p ≤ b) × IsOfOther b (taken_at a p) × HasPlaces a p
 
 -- the step was made for this acceptor as it is
 abbrev pub IsLatest : {C : Type 0} → Acceptor C → Step C → Type 0

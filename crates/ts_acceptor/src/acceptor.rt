@@ -7,14 +7,16 @@ ghost use Rattle.ts_synod.specs.declared.message.Body.TheVariants.{Accepted, Bus
 ghost use Rattle.ts_synod.specs.declared.message.Fact.TheVariants.{Promised, Took};
 ghost use Rattle.ts_synod.specs.Messages.{broadcast, send};
 ghost use Rattle.ts_synod.specs.Acceptor.{accept, only_messages, on_prepare, on_accept};
-ghost use Rattle.ts_acceptor.specs.Acceptor.{promised_at, taken_at, config_of, HasVotes, StandsFor, Unchanged};
+ghost use Rattle.ts_acceptor.specs.Acceptor.{promised_at, taken_at, config_of, HasVotes, StandsFor};
+ghost use Rattle.ts_acceptor.specs.Acceptor.{Unchanged};
 ghost use Rattle.ts_acceptor.specs.Steps.{Makes, HasPlaces, IsOfOther, IsLatest};
 
 use std::alloc::{AllocError, Global};
 use std::collections::BTreeMap;
 use ts_synod::{Ballot, Body, Command, Fact, Message, Vote, broadcast, copy_of_vote, put_at};
 
-/// What a node promised and took at each position. A place of the maps that waits for a step holds 0 or `None`.
+/// What a node promised and took at each position. A place of the maps that waits for a step holds
+/// 0 or `None`.
 #[derive(Drop)]
 pub struct Acceptor<C> {
     alloc: Global,
@@ -39,7 +41,8 @@ enum Change<C> {
     },
 }
 
-/// What is to be kept on stable storage, what is to be sent after that, and the change of the acceptor.
+/// What is to be kept on stable storage, what is to be sent after that, and the change of the
+/// acceptor.
 #[derive(Drop)]
 pub struct Step<C> {
     pub facts: Vec<Fact<C>>,
@@ -69,7 +72,8 @@ impl<C: Command> Acceptor<C> {
         nodes: u8,
         facts: &[Fact<C>],
     ) -> Result<Acceptor<C>, AllocError>
-        ensures config { IfOk result (λ acceptor. config_of acceptor ≡ record { nodes = nodes; me = me }) }
+        ensures config { IfOk result (λ acceptor. config_of acceptor
+            ≡ record { nodes = nodes; me = me }) }
         ensures state { IfOk result (λ acceptor. StandsFor acceptor facts.now) }
     {
         let mut acceptor = Acceptor::new(alloc, me, nodes);
@@ -81,7 +85,8 @@ impl<C: Command> Acceptor<C> {
 
     /// Takes one more fact of the node's stable storage into account.
     fn recover(&mut self, fact: &Fact<C>) -> Result<(), AllocError>
-        ensures state { OnOk result ((facts : List (Fact C)) → StandsFor self.old facts → StandsFor self.new (facts ++ fact.now ∷ [])) }
+        ensures state { OnOk result ((facts : List (Fact C)) → StandsFor self.old facts
+            → StandsFor self.new (facts ++ fact.now ∷ [])) }
         ensures config { OnOk result (config_of self.new ≡ config_of self.old) }
     {
         match fact {
@@ -106,7 +111,8 @@ impl<C: Command> Acceptor<C> {
 
     /// Takes a vote of the node's stable storage into account, if it is of the greatest ballot.
     fn recover_vote(&mut self, position: u32, ballot: Ballot, command: &C) -> Result<(), AllocError>
-        ensures votes { OnOk result ((facts : List (Fact C)) → HasVotes self.old.taken facts → HasVotes self.new.taken (facts ++ Took position ballot command.now ∷ [])) }
+        ensures votes { OnOk result ((facts : List (Fact C)) → HasVotes self.old.taken facts
+            → HasVotes self.new.taken (facts ++ Took position ballot command.now ∷ [])) }
         ensures promised { OnOk result (self.new.promised ≡ self.old.promised) }
         ensures config { OnOk result (config_of self.new ≡ config_of self.old) }
     {
@@ -187,7 +193,8 @@ impl<C: Command> Acceptor<C> {
         ballot: Ballot,
         promised: Ballot,
     ) -> Result<Step<C>, AllocError>
-        ensures step { IfOk result (λ step. Makes step (only_messages (send self.now.me from (Busy position ballot promised) ∷ []))) }
+        ensures step { IfOk result (λ step. Makes step
+            (only_messages (send self.now.me from (Busy position ballot promised) ∷ []))) }
         ensures latest { IfOk result (λ step. IsLatest self.now step) }
     {
         let mut messages = Vec::new(self.alloc);
@@ -207,7 +214,13 @@ impl<C: Command> Acceptor<C> {
     fn promise(&self, from: u8, position: u32, ballot: Ballot) -> Result<Step<C>, AllocError>
         requires places { HasPlaces self.now position }
         requires above { promised_at self.now position < ballot }
-        ensures step { IfOk result (λ step. Makes step (record { facts = Promised position ballot ∷ []; messages = send self.now.me from (Promise position ballot (taken_at self.now position)) ∷ [] })) }
+        ensures step { IfOk result (λ step. Makes step
+            (record {
+              facts = Promised position ballot ∷ [];
+              messages = send self.now.me from
+                  (Promise position ballot (taken_at self.now position))
+                  ∷ [];
+            })) }
         ensures latest { IfOk result (λ step. IsLatest self.now step) }
     {
         let mut facts = Vec::new(self.alloc);
@@ -233,7 +246,9 @@ impl<C: Command> Acceptor<C> {
     /// The answer to a Prepare, where there are places for it.
     fn answer_prepare(&self, from: u8, position: u32, ballot: Ballot) -> Result<Step<C>, AllocError>
         requires places { HasPlaces self.now position }
-        ensures step { IfOk result (λ step. Makes step (on_prepare (config_of self.now) (promised_at self.now position) (taken_at self.now position) from position ballot)) }
+        ensures step { IfOk result (λ step. Makes step
+            (on_prepare (config_of self.now) (promised_at self.now position)
+            (taken_at self.now position) from position ballot)) }
         ensures latest { IfOk result (λ step. IsLatest self.now step) }
     {
         let promised = self.promised(position);
@@ -255,7 +270,9 @@ impl<C: Command> Acceptor<C> {
         position: u32,
         ballot: Ballot,
     ) -> Result<Step<C>, AllocError>
-        ensures step { IfOk result (λ step. Makes step (on_prepare (config_of self.old) (promised_at self.old position) (taken_at self.old position) from position ballot)) }
+        ensures step { IfOk result (λ step. Makes step
+            (on_prepare (config_of self.old) (promised_at self.old position)
+            (taken_at self.old position) from position ballot)) }
         ensures latest { IfOk result (λ step. IsLatest self.new step) }
         ensures same { Unchanged self.old self.new }
     {
@@ -270,7 +287,8 @@ impl<C: Command> Acceptor<C> {
         requires promised { promised_at self.now position ≤ ballot }
         requires other { IsOfOther ballot (taken_at self.now position) }
         requires nodes { self.now.nodes ≤ 9 }
-        ensures step { IfOk result (λ step. Makes step (accept (config_of self.now) position ballot command.now)) }
+        ensures step { IfOk result (λ step. Makes step
+            (accept (config_of self.now) position ballot command.now)) }
         ensures latest { IfOk result (λ step. IsLatest self.now step) }
     {
         let mut facts = Vec::new(self.alloc);
@@ -300,7 +318,9 @@ impl<C: Command> Acceptor<C> {
     /// The step that sends the vote taken again.
     fn repeat(&self, position: u32, ballot: Ballot, command: &C) -> Result<Step<C>, AllocError>
         requires { self.now.nodes ≤ 9 }
-        ensures step { IfOk result (λ step. Makes step (only_messages (broadcast self.now.me self.now.nodes (Accepted position ballot command.now)))) }
+        ensures step { IfOk result (λ step. Makes step
+            (only_messages (broadcast self.now.me self.now.nodes
+            (Accepted position ballot command.now)))) }
         ensures latest { IfOk result (λ step. IsLatest self.now step) }
     {
         let body = Body::Accepted {
@@ -322,7 +342,9 @@ impl<C: Command> Acceptor<C> {
     ) -> Result<Step<C>, AllocError>
         requires places { HasPlaces self.now position }
         requires nodes { self.now.nodes ≤ 9 }
-        ensures step { IfOk result (λ step. Makes step (on_accept (config_of self.now) (promised_at self.now position) (taken_at self.now position) from position ballot command.now)) }
+        ensures step { IfOk result (λ step. Makes step
+            (on_accept (config_of self.now) (promised_at self.now position)
+            (taken_at self.now position) from position ballot command.now)) }
         ensures latest { IfOk result (λ step. IsLatest self.now step) }
     {
         let promised = self.promised(position);
@@ -351,7 +373,9 @@ impl<C: Command> Acceptor<C> {
         command: &C,
     ) -> Result<Step<C>, AllocError>
         requires { (config_of self.old).nodes ≤ 9 }
-        ensures step { IfOk result (λ step. Makes step (on_accept (config_of self.old) (promised_at self.old position) (taken_at self.old position) from position ballot command.now)) }
+        ensures step { IfOk result (λ step. Makes step
+            (on_accept (config_of self.old) (promised_at self.old position)
+            (taken_at self.old position) from position ballot command.now)) }
         ensures latest { IfOk result (λ step. IsLatest self.new step) }
         ensures same { Unchanged self.old self.new }
     {
@@ -363,7 +387,8 @@ impl<C: Command> Acceptor<C> {
     /// Puts a step in force, which takes no memory.
     pub fn keep(&mut self, step: Step<C>)
         requires { IsLatest self.old step }
-        ensures state { (facts : List (Fact C)) → StandsFor self.old facts → StandsFor self.new (facts ++ step.facts.items) }
+        ensures state { (facts : List (Fact C)) → StandsFor self.old facts
+            → StandsFor self.new (facts ++ step.facts.items) }
         ensures config { config_of self.new ≡ config_of self.old }
     {
         let Step {

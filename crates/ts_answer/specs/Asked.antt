@@ -18,13 +18,19 @@ use Rattle.ts_answer.specs.Parts.{base_of}
 abbrev pub trust_anchor : StoredAnchor → TrustAnchor
 trust_anchor stored =
     let certificate = (certificate_in stored.certificate).tbsCertificate in
-    record { name = certificate.subject; key = certificate.subjectPublicKeyInfo; purposes = stored.purposes }
+    record {
+      name = certificate.subject;
+      key = certificate.subjectPublicKeyInfo;
+      purposes = stored.purposes;
+    }
 
 abbrev pub lists_in : List StoredCrl → List CertificateList
 lists_in stored = map list_in stored
 
--- what is asked of a chain under a trust anchor, by these terms, with these complete lists and these deltas
-abbrev pub asked_with : Check → List CertificateList → List CertificateList → Terms → TrustAnchor → Asked
+-- what is asked of a chain under a trust anchor, by these terms, with these complete lists and
+-- these deltas
+abbrev pub asked_with : Check → List CertificateList → List CertificateList → Terms → TrustAnchor
+    → Asked
 asked_with good lists deltas terms anchor = record {
   anchor = anchor;
   moment = terms.moment;
@@ -33,7 +39,10 @@ asked_with good lists deltas terms anchor = record {
   explicit_policy = terms.flags.explicit_policy;
   inhibit_policy_mapping = terms.flags.inhibit_policy_mapping;
   inhibit_any_policy = terms.flags.inhibit_any_policy;
-  subtrees = record { permitted = map base_of terms.permitted_subtrees; excluded = map base_of terms.excluded_subtrees };
+  subtrees = record {
+    permitted = map base_of terms.permitted_subtrees;
+    excluded = map base_of terms.excluded_subtrees;
+  };
   hard = terms.flags.hard;
   lists = lists;
   deltas = deltas;
@@ -43,16 +52,19 @@ asked_with good lists deltas terms anchor = record {
 
 -- over a store's lists
 abbrev pub asked_of : Check → Tables → Terms → TrustAnchor → Asked
-asked_of good tables terms anchor = asked_with good (lists_in tables.complete) (lists_in tables.deltas) terms anchor
+asked_of good tables terms anchor =
+    asked_with good (lists_in tables.complete) (lists_in tables.deltas) terms anchor
 
 abbrev pub chain_of : List (List ℕ) → List Certificate
 chain_of certificates = map certificate_in certificates
 
 -- whether a chain is valid under a trust anchor of the store
 abbrev pub question_of : Check → Tables → Terms → StoredAnchor → List (List ℕ) → Question
-question_of good tables terms stored certificates = record { asked = asked_of good tables terms (trust_anchor stored); chain = chain_of certificates }
+question_of good tables terms stored certificates = record
+    { asked = asked_of good tables terms (trust_anchor stored); chain = chain_of certificates }
 
--- the search for a chain to the first certificate, through the others, under the trust anchors of the store
+-- the search for a chain to the first certificate, through the others, under the trust anchors of
+-- the store
 abbrev pub search_of : Check → Tables → Terms → List (List ℕ) → Search
 search_of good tables terms certificates = record {
   certificates = chain_of certificates;

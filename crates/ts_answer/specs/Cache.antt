@@ -1,4 +1,5 @@
--- What private clauses see of the answers that are cached: under which key, and that each is the answer to its question.
+-- What private clauses see of the answers that are cached: under which key, and that each is the
+-- answer to its question.
 use Rattle.std.specs.Prelude.{◌≡◌, ◌≤◌, ◌<◌, ◌^◌, ◌++◌, ℕ, List, length, take, Contains}
 use Rattle.std.specs.Int.{to_be_bytes, w32}
 use Rattle.ts_question.specs.Question.{Asked, Fits, encoding}
@@ -11,14 +12,19 @@ use Rattle.ts_answer.specs.Machine.{IsAnswer}
 abbrev pub key_of : ℕ → Asked → List ℕ
 key_of k q = to_be_bytes w32 k ++ encoding q
 
--- at least k commands were taken, and these are the octets of the answer to the question after the first k of them
-pub record IsCached (good : Check) (commands : List Command) (k : ℕ) (q : Asked) (octets : List ℕ) : Type 0 where
+-- at least k commands were taken, and these are the octets of the answer to the question after the
+-- first k of them
+pub record IsCached (good : Check) (commands : List Command) (k : ℕ) (q : Asked)
+    (octets : List ℕ) : Type 0 where
   pub taken : k ≤ length commands
   pub answer : Answered
   pub fits : AnswerFits answer
   pub encoded : octets ≡ answer_encoding answer
   pub right : IsAnswer good (take k commands) q answer
 
--- of every pair: whatever k and question have its key, its octets are those of the answer to that question after the first k commands
+-- of every pair: whatever k and question have its key, its octets are those of the answer to that
+-- question after the first k commands
 unfoldable pub AreCached : Check → List Command → List (List ℕ × List ℕ) → Type 0
-AreCached good commands pairs = (key octets : List ℕ) → Contains pairs (key, octets) → (k : ℕ) (q : Asked) → k < 2 ^ 32 → Fits q → key ≡ key_of k q → IsCached good commands k q octets
+AreCached good commands pairs = (key octets : List ℕ) → Contains pairs (key, octets)
+    → (k : ℕ) (q : Asked) → k < 2 ^ 32 → Fits q → key ≡ key_of k q
+    → IsCached good commands k q octets

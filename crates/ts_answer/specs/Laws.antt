@@ -1,4 +1,5 @@
--- What holds of questions that ask the same, and the headline: what holds of every run of nodes over the trust store.
+-- What holds of questions that ask the same, and the headline: what holds of every run of nodes
+-- over the trust store.
 use Rattle.std.specs.Prelude.{◌≡◌, ℕ, List, Option}
 use Rattle.ts_synod.specs.Lists.{Has}
 use Rattle.ts_synod.specs.Store.{Store}
@@ -29,10 +30,15 @@ answered at' q k a = record { input = Ask at' q; reply = replies.Answered k a }
 
 -- The headline, of a run of a group of nodes.
 -- `promised`: no two nodes have learned different commands at one position, and what is learned is chosen; every answer given at k is the one
--- of path validation or of the search (RFC 5280 6.1, 6.3) over the store that the first k chosen commands make; each id is settled at its
--- first position among the chosen commands, with the outcome there; each chosen command was submitted. What is chosen is so in a run of the
--- protocol's world that the group follows at each moment.
+-- of path validation or of the search (RFC 5280 6.1, 6.3) over the store that the first k chosen
+-- commands make; each id is settled at its first position among the chosen commands, with the
+-- outcome there; each chosen command was submitted. What is chosen is so in a run of the protocol's
+-- world that the group follows at each moment.
 -- `equal`: questions that ask the same at k got equal answers.
-pub record Headline {D M : Type 0} (good : Check) (n : ℕ) (start : Group D Command M Outcome Asked Answered) (run : List (Happening D Command M Outcome Asked Answered)) : Type 0 where
+pub record Headline {D M : Type 0} (good : Check) (n : ℕ)
+    (start : Group D Command M Outcome Asked Answered)
+    (run : List (Happening D Command M Outcome Asked Answered)) : Type 0 where
   pub promised : Promised trust_store (IsAnswer good) n start run
-  pub equal : (x y : Option ℕ) (q p : Asked) (k : ℕ) (a b : Answered) → Fits q → AskTheSame q p → Has (after_all start run).given (answered x q k a) → Has (after_all start run).given (answered y p k b) → a ≡ b
+  pub equal : (x y : Option ℕ) (q p : Asked) (k : ℕ) (a b : Answered) → Fits q → AskTheSame q p
+      → Has (after_all start run).given (answered x q k a)
+      → Has (after_all start run).given (answered y p k b) → a ≡ b

@@ -8,6 +8,7 @@ use Rattle.ts_store.specs.declared.command.Command.{Command}
 use Rattle.ts_answer.specs.Reply.{IsReply}
 
 -- the answer says after how many commands it holds, and is the reply over the store that these make
-pub record IsAnswer (good : Check) (commands : List Command) (q : Asked) (answer : Answered) : Type 0 where
+pub record IsAnswer (good : Check) (commands : List Command) (q : Asked)
+    (answer : Answered) : Type 0 where
   pub k : answer.k ≡ length commands
   pub reply : IsReply good (store_after commands).tables q answer.reply

@@ -1,5 +1,5 @@
--- The reply to a question over the tables of a store: why a part of it can't be read, or that its anchor is not in the store, or what
--- path validation or the search answers.
+-- The reply to a question over the tables of a store: why a part of it can't be read, or that its
+-- anchor is not in the store, or what path validation or the search answers.
 use Rattle.std.specs.Prelude.{◌≡◌, ℕ, suc, min, List, map, Option, Some, None, slice_get}
 use Rattle.std.specs.List.{find}
 use Rattle.std.specs.Str.{bytes_eq}
@@ -21,7 +21,8 @@ use Rattle.ts_question.specs.declared.question.Target.TheVariants as target
 use Rattle.ts_question.specs.declared.reason.Reason.{Reason}
 use Rattle.ts_question.specs.declared.reason.Reason.TheVariants.{Revoked, CriticalExtension}
 use Rattle.ts_question.specs.declared.reply.Reply.{Reply}
-use Rattle.ts_question.specs.declared.reply.Reply.TheVariants.{Valid, Invalid, Found, NoPath, SearchLimit, Malformed, NoAnchor}
+use Rattle.ts_question.specs.declared.reply.Reply.TheVariants.{Valid, Invalid, Found, NoPath}
+use Rattle.ts_question.specs.declared.reply.Reply.TheVariants.{SearchLimit, Malformed, NoAnchor}
 use Rattle.ts_store.specs.Tables.{Tables}
 use Rattle.ts_store.specs.declared.anchor.TrustAnchor.{TrustAnchor as StoredAnchor}
 use Rattle.ts_answer.specs.Asked.{question_of, search_of}
@@ -46,14 +47,18 @@ pub record SaysReason (said : Reason) (reason : PathReason) : Type 0 where
 
 -- the reply says this verdict on a chain under the anchor of this id
 abbrev pub SaysVerdict : List ℕ → Verdict → Reply → Type 0
-SaysVerdict id (verdict.Valid policies) (Valid anchor said) = (anchor ≡ id) × (said ≡ map (λ p. p.now) policies.items)
-SaysVerdict id (verdict.Invalid position reason) (Invalid place said) = (place ≡ position) × SaysReason said reason
+SaysVerdict id (verdict.Valid policies) (Valid anchor said) =
+    (anchor ≡ id) × (said ≡ map (λ p. p.now) policies.items)
+SaysVerdict id (verdict.Invalid position reason) (Invalid place said) =
+    (place ≡ position) × SaysReason said reason
 SaysVerdict id verdict other = ⊥
 
--- The reply says this answer of a search. The anchor is named by its id; places count from 1, the leaf's.
+-- The reply says this answer of a search. The anchor is named by its id; places count from 1, the
+-- leaf's.
 abbrev pub SaysSearch : List StoredAnchor → SearchAnswer → Reply → Type 0
 SaysSearch anchors (found.Found number chain policies) (Found anchor places said) =
-    (slice_get (map (λ a. a.id) anchors) number ≡ Some anchor) × (places ≡ map suc chain.items) × (said ≡ map (λ p. p.now) policies.items)
+    (slice_get (map (λ a. a.id) anchors) number ≡ Some anchor) × (places ≡ map suc chain.items)
+    × (said ≡ map (λ p. p.now) policies.items)
 SaysSearch anchors found.NoPath NoPath = Unit {0}
 SaysSearch anchors found.SearchLimit SearchLimit = Unit {0}
 SaysSearch anchors answer other = ⊥
@@ -65,18 +70,23 @@ abbrev pub with_id : List ℕ → List StoredAnchor → Option StoredAnchor
 with_id id anchors = find (λ a. bytes_eq a.id id) anchors
 
 -- the verdict of path validation, if the anchor is in the store
-abbrev pub IsChainReply : Check → Tables → Terms → List (List ℕ) → Option StoredAnchor → Reply → Type 0
+abbrev pub IsChainReply : Check → Tables → Terms → List (List ℕ) → Option StoredAnchor → Reply
+    → Type 0
 IsChainReply good tables terms certificates None reply = reply ≡ NoAnchor
 IsChainReply good tables terms certificates (Some stored) reply =
-    (v : Verdict) × path.IsVerdict (question_of good tables terms stored certificates) v × SaysVerdict stored.id v reply
+    (v : Verdict) × path.IsVerdict (question_of good tables terms stored certificates) v
+    × SaysVerdict stored.id v reply
 
 abbrev pub IsSearchReply : Check → Tables → Terms → List (List ℕ) → Reply → Type 0
 IsSearchReply good tables terms certificates reply =
-    (a : SearchAnswer) × search.IsAnswer (search_of good tables terms certificates) a × SaysSearch tables.anchors a reply
+    (a : SearchAnswer) × search.IsAnswer (search_of good tables terms certificates) a
+    × SaysSearch tables.anchors a reply
 
 abbrev pub IsTargetReply : Check → Tables → Terms → Target → Reply → Type 0
-IsTargetReply good tables terms (target.Chain anchor certificates) reply = IsChainReply good tables terms certificates (with_id anchor tables.anchors) reply
-IsTargetReply good tables terms (target.Search certificates) reply = IsSearchReply good tables terms certificates reply
+IsTargetReply good tables terms (target.Chain anchor certificates) reply =
+    IsChainReply good tables terms certificates (with_id anchor tables.anchors) reply
+IsTargetReply good tables terms (target.Search certificates) reply =
+    IsSearchReply good tables terms certificates reply
 
 -- a place that four octets can't hold is the greatest that they can; no certificate has one
 abbrev pub malformed : Unreadable → Reply

@@ -1,4 +1,5 @@
--- What private clauses see of the parts of a question that were read, and of what path validation is lent.
+-- What private clauses see of the parts of a question that were read, and of what path validation
+-- is lent.
 use Rattle.std.specs.Prelude.{◌≡◌, ℕ, List, map, Option, Some}
 use Rattle.ts_cert.specs.CertView.{cert_in, certificate_in}
 use Rattle.ts_constraint.specs.View.{bases_in}
@@ -30,4 +31,5 @@ Says (faults.Unreadable index fault) found = found ≡ Some (record { index = in
 -- the inputs ask what the terms do
 abbrev pub AreInputs : Terms → Inputs → Type 0
 AreInputs terms inputs = (good : Check) (crls : Crls) (anchor : TrustAnchor)
-    → asked_under inputs crls good anchor ≡ asked_with good (map crl_in crls.lists.now) (map crl_in crls.deltas.now) terms anchor
+    → asked_under inputs crls good anchor
+    ≡ asked_with good (map crl_in crls.lists.now) (map crl_in crls.deltas.now) terms anchor

@@ -1,6 +1,7 @@
 //! The trust store under a node.
 
-ghost use Rattle.std.specs.Prelude.{◌≡◌, ◌<◌, ◌≤◌, ◌++◌, ◌∷◌, [], ℕ, List, length, take, Ok, IfOk, OnOk, OnErr};
+ghost use Rattle.std.specs.Prelude.{◌≡◌, ◌<◌, ◌≤◌, ◌++◌, ◌∷◌, [], ℕ, List, length, take, Ok, IfOk};
+ghost use Rattle.std.specs.Prelude.{OnOk, OnErr};
 ghost use Rattle.ts_history.specs.Outcome.{outcome_after};
 ghost use Rattle.ts_store.specs.Ids.{first_of};
 ghost use Rattle.ts_store.specs.Store.{store_after};
@@ -18,7 +19,8 @@ use ts_question::{Answer, Question, Reply};
 use ts_sig::SignatureCheck;
 use ts_store::{Command, First, Outcome};
 
-/// A trust store that keeps the commands that it took, and answers questions after any number of them. It caches the answers that were given last.
+/// A trust store that keeps the commands that it took, and answers questions after any number of
+/// them. It caches the answers that were given last.
 #[derive(Drop)]
 pub struct Answers<S: SignatureCheck> {
     alloc: Global,
@@ -38,8 +40,9 @@ impl<S: SignatureCheck> Model for Answers<S> {
     ghost invariant = { λ a. AreCached (S.accepts a.check) a.history a.cache.entries };
 }
 
-/// An answer, each field of which is in its range. That a reply keeps the ranges follows from its definition, and isn't proved here; what is out
-/// of range, as a k above 1,000,000 is, which no question has, is refused as memory is.
+/// An answer, each field of which is in its range. That a reply keeps the ranges follows from its
+/// definition, and isn't proved here; what is out of range, as a k above 1,000,000 is, which no
+/// question has, is refused as memory is.
 fn answer_of(k: u32, reply: Reply) -> Result<Answer, AllocError>
     ensures answer { IfOk result (λ answer. answer ≡ record { k = k; reply = reply }) }
     ensures fits { IfOk result Fits }
@@ -83,14 +86,16 @@ impl<S: SignatureCheck> Answers<S> {
         self.history.count()
     }
 
-    /// Takes the command of the next position, of which it keeps a copy, and answers what it came to.
+    /// Takes the command of the next position, of which it keeps a copy, and answers what it came
+    /// to.
     ///
     /// # Errors
     ///
     /// Memory that is refused. Nothing is changed then.
     pub fn push(&mut self, command: &Command) -> Result<Outcome, AllocError>
         requires { length self.old.commands < 1000000 }
-        ensures outcome { IfOk result (λ outcome. outcome ≡ outcome_after self.old.commands command.now) }
+        ensures outcome { IfOk result (λ outcome. outcome
+            ≡ outcome_after self.old.commands command.now) }
         ensures pushed { OnOk result (self.new.commands ≡ self.old.commands ++ command.now ∷ []) }
         ensures refused { OnErr result (self.new.commands ≡ self.old.commands) }
         ensures check { self.new.check ≡ self.old.check }
@@ -108,7 +113,8 @@ impl<S: SignatureCheck> Answers<S> {
     /// The reply after the first k commands.
     fn reply(&self, k: u32, question: &Question) -> Result<Reply, AllocError>
         requires { k ≤ length self.now.commands }
-        ensures { IfOk result (IsReply (S.accepts self.now.check) (store_after (take k self.now.commands)).tables question.now) }
+        ensures { IfOk result (IsReply (S.accepts self.now.check)
+            (store_after (take k self.now.commands)).tables question.now) }
     {
         let snapshot = self.history.at(self.alloc, k)?;
         let reply = reply_over(self.alloc, &self.check, &snapshot, question)?;
@@ -117,8 +123,12 @@ impl<S: SignatureCheck> Answers<S> {
 
     /// The answer to a question, without the cache.
     fn judge(&self, k: u32, question: &Question) -> Result<Answer, AllocError>
-        ensures answer { k ≤ length self.now.commands → IfOk result (IsAnswer (S.accepts self.now.check) (take k self.now.commands) question.now) }
-        ensures not_yet { length self.now.commands < k → IfOk result (λ answer. answer ≡ record { k = k; reply = NotYet (length self.now.commands) }) }
+        ensures answer { k ≤ length self.now.commands
+            → IfOk result (IsAnswer (S.accepts self.now.check)
+            (take k self.now.commands) question.now) }
+        ensures not_yet { length self.now.commands < k
+            → IfOk result (λ answer. answer
+            ≡ record { k = k; reply = NotYet (length self.now.commands) }) }
         ensures fits { IfOk result Fits }
     {
         let prefix = self.prefix();
@@ -129,15 +139,20 @@ impl<S: SignatureCheck> Answers<S> {
         answer_of(k, reply)
     }
 
-    /// The answer to a question after the first k commands; `NotYet` with their number exactly where fewer were taken. An answer that was given
-    /// before, and is cached, is given again without validating anything.
+    /// The answer to a question after the first k commands; `NotYet` with their number exactly
+    /// where fewer were taken. An answer that was given before, and is cached, is given again
+    /// without validating anything.
     ///
     /// # Errors
     ///
     /// Memory that is refused; and for a k above 1,000,000, which no question has.
     pub fn answer(&mut self, k: u32, question: &Question) -> Result<Answer, AllocError>
-        ensures answer { k ≤ length self.old.commands → IfOk result (IsAnswer (S.accepts self.old.check) (take k self.old.commands) question.now) }
-        ensures not_yet { length self.old.commands < k → IfOk result (λ answer. answer ≡ record { k = k; reply = NotYet (length self.old.commands) }) }
+        ensures answer { k ≤ length self.old.commands
+            → IfOk result (IsAnswer (S.accepts self.old.check)
+            (take k self.old.commands) question.now) }
+        ensures not_yet { length self.old.commands < k
+            → IfOk result (λ answer. answer
+            ≡ record { k = k; reply = NotYet (length self.old.commands) }) }
         ensures unchanged { self.new ≡ self.old }
     {
         // `NotYet` is not cached: it is wrong as soon as the commands have come.

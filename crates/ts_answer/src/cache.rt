@@ -17,16 +17,20 @@ use ts_question::{Answer, OctetStrings, Question, Target};
 /// How many answers are cached.
 const MAX_ANSWERS: usize = 64;
 
-/// The most octets of an answer that is cached, and of the certificates and initial subtrees of its question. A usual chain has a few thousand. A
-/// question may have eight million, and 64 of those would hold half a gigabyte.
+/// The most octets of an answer that is cached, and of the certificates and initial subtrees of its
+/// question. A usual chain has a few thousand. A question may have eight million, and 64 of those
+/// would hold half a gigabyte.
 const MAX_OCTETS: usize = 131_072;
 
-/// How much room a key has for what is in it beside certificates and subtrees. It seldom needs more.
+/// How much room a key has for what is in it beside certificates and subtrees. It seldom needs
+/// more.
 const KEY_ROOM: usize = 1_024;
 
-/// The answers that were given last, each under its key, as octets. Contracts see the pairs of key and answer, those that were used last first.
+/// The answers that were given last, each under its key, as octets. Contracts see the pairs of key
+/// and answer, those that were used last first.
 ///
-/// The hasher has a fixed seed. A stranger can choose questions whose keys have one hash, and then a look-up compares at most 64 keys.
+/// The hasher has a fixed seed. A stranger can choose questions whose keys have one hash, and then
+/// a look-up compares at most 64 keys.
 #[derive(Drop)]
 pub(crate) struct Cache {
     pairs: Option<LruCache<Vec<u8>, Vec<u8>>>,
@@ -62,8 +66,8 @@ fn size_of_question(question: &Question) -> usize {
         .saturating_add(size_of(&terms.excluded_subtrees))
 }
 
-/// The key of the answer to a question after the first k commands. `None` for a question that is too long, and where memory is refused: such an answer
-/// is given without the cache.
+/// The key of the answer to a question after the first k commands. `None` for a question that is
+/// too long, and where memory is refused: such an answer is given without the cache.
 pub(crate) fn key_of(alloc: Global, k: u32, question: &Question) -> Option<Vec<u8>>
     ensures key { IfSome result (λ key. key.items ≡ key_of k question.now) }
     ensures fits { QuestionFits question.now }
@@ -88,7 +92,9 @@ fn room(alloc: Global) -> Option<LruCache<Vec<u8>, Vec<u8>>>
 
 /// The answer under a key. `None` where there is none, and where memory is refused.
 fn read_under(alloc: Global, pairs: &LruCache<Vec<u8>, Vec<u8>>, key: &[u8]) -> Option<Answer>
-    ensures { IfSome result (λ answer. Fits answer × (option_map (λ v. v.items) (lookup (λ v. bytes_eq key.now v.items) pairs.now.entries) ≡ Some (encoding answer))) }
+    ensures { IfSome result (λ answer. Fits answer
+        × (option_map (λ v. v.items) (lookup (λ v. bytes_eq key.now v.items) pairs.now.entries)
+        ≡ Some (encoding answer))) }
 {
     let octets = pairs.peek(key)?;
     match Answer::read(alloc, octets) {
@@ -105,10 +111,13 @@ impl Cache {
         Cache { pairs: None }
     }
 
-    /// The answer under a key, which then is the one that was used last. `None` where there is none, and where memory is refused.
+    /// The answer under a key, which then is the one that was used last. `None` where there is
+    /// none, and where memory is refused.
     pub(crate) fn find(&mut self, alloc: Global, key: &[u8]) -> Option<Answer>
-        ensures found { IfSome result (λ answer. Fits answer × (lookup (bytes_eq key.now) self.old.entries ≡ Some (encoding answer))) }
-        ensures order { self.new ≡ lru_cache (promoted (bytes_eq key.now) self.old.entries) self.old.cap }
+        ensures found { IfSome result (λ answer. Fits answer
+            × (lookup (bytes_eq key.now) self.old.entries ≡ Some (encoding answer))) }
+        ensures order { self.new ≡ lru_cache
+            (promoted (bytes_eq key.now) self.old.entries) self.old.cap }
     {
         let Some(pairs) = &mut self.pairs else {
             return None;
@@ -129,7 +138,9 @@ impl Cache {
 
     /// Puts octets under a key. Where memory is refused nothing is changed.
     fn put(&mut self, key: Vec<u8>, octets: Vec<u8>)
-        ensures { (self.new ≡ self.old) ⊎ (self.new ≡ lru_cache (put_entries bytes_eq self.old key.items octets.items) self.old.cap) }
+        ensures { (self.new ≡ self.old)
+            ⊎ (self.new ≡ lru_cache (put_entries bytes_eq self.old key.items octets.items)
+            self.old.cap) }
     {
         let Some(pairs) = &mut self.pairs else {
             return;
@@ -137,9 +148,12 @@ impl Cache {
         let _before = pairs.put(key, octets);
     }
 
-    /// Caches an answer under its key. Nothing is changed where the answer is too long, and where memory is refused.
+    /// Caches an answer under its key. Nothing is changed where the answer is too long, and where
+    /// memory is refused.
     pub(crate) fn keep(&mut self, alloc: Global, key: Vec<u8>, answer: &Answer)
-        ensures { (self.new ≡ self.old) ⊎ (self.new ≡ lru_cache (put_entries bytes_eq self.old key.items (encoding answer.now)) self.old.cap) }
+        ensures { (self.new ≡ self.old)
+            ⊎ (self.new ≡ lru_cache (put_entries bytes_eq self.old key.items (encoding answer.now))
+            self.old.cap) }
     {
         let Ok(octets) = answer.octets(alloc) else {
             return;

@@ -27,8 +27,9 @@ fn is_short(command: &Command)
     command.has_encoding();
 }
 
-/// Whether a node takes a message: its position is 1 to 1,000,000, and its ballot has a round of 1 to 4,294,967,295 and a node of 1 to 9,
-/// where the message is one whose position or ballot a node keeps.
+/// Whether a node takes a message: its position is 1 to 1,000,000, and its ballot has a round of 1
+/// to 4,294,967,295 and a node of 1 to 9, where the message is one whose position or ballot a node
+/// keeps.
 pub fn is_deliverable(message: &Message<Command>) -> bool
     ensures { IsTrue result ↔ BodyFits octets_of message.now.body }
 {

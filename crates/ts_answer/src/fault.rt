@@ -11,7 +11,8 @@ use ts_shape::CertFault;
 pub(crate) enum PartFault {
     /// Memory was refused.
     Memory,
-    /// A part can't be read: an initial subtree, which has index 0, or a certificate, counted from 1.
+    /// A part can't be read: an initial subtree, which has index 0, or a certificate, counted from
+    /// 1.
     Unreadable { index: u8, fault: CertFault },
 }
 

@@ -32,7 +32,8 @@ use ts_search::{Answer as SearchAnswer, search};
 use ts_sig::SignatureCheck;
 use ts_time::Moment;
 
-/// The inputs of path validation that a question's terms say, of which policies and subtrees were read.
+/// The inputs of path validation that a question's terms say, of which policies and subtrees were
+/// read.
 fn inputs_of<'a>(
     terms: &'a Terms,
     policies: &'a [&'a [u8]],
@@ -73,7 +74,9 @@ fn verdict_under<'a, S: SignatureCheck>(
 ) -> Result<Verdict<'a>, AllocError>
     requires some { 1 ≤ length chain.now }
     requires few { length chain.now ≤ 16 }
-    ensures { (tables : Tables) (terms : _) (stored : _) (octets : _) → snapshot.now ≡ contents_of tables → AreInputs terms inputs.now → anchor_in anchor.now ≡ trust_anchor stored → map cert_in chain.now ≡ chain_of octets
+    ensures { (tables : Tables) (terms : _) (stored : _) (octets : _)
+        → snapshot.now ≡ contents_of tables → AreInputs terms inputs.now
+        → anchor_in anchor.now ≡ trust_anchor stored → map cert_in chain.now ≡ chain_of octets
         → IfOk result (IsVerdict (question_of (S.accepts check.now) tables terms stored octets)) }
 {
     let lists = lists_of(alloc, snapshot.complete())?;
@@ -98,7 +101,9 @@ fn chain_reply<'a, S: SignatureCheck>(
     requires some { 1 ≤ length parts.certificates.items }
     requires few { length parts.certificates.items ≤ 16 }
     requires read { (octets : List (List ℕ)) × AreParts terms.now octets parts }
-    ensures { (tables : Tables) (octets : List (List ℕ)) → snapshot.now ≡ contents_of tables → AreParts terms.now octets parts.entry → IfOk result (IsTargetReply (S.accepts check.now) tables terms.now (Chain id.now octets)) }
+    ensures { (tables : Tables) (octets : List (List ℕ)) → snapshot.now ≡ contents_of tables
+        → AreParts terms.now octets parts.entry
+        → IfOk result (IsTargetReply (S.accepts check.now) tables terms.now (Chain id.now octets)) }
 {
     let Some(stored) = anchor_of(snapshot.anchors(), id) else {
         return Ok(Reply::NoAnchor);
@@ -123,7 +128,9 @@ fn found_under<'a, S: SignatureCheck>(
 ) -> Result<SearchAnswer<'a>, AllocError>
     requires some { 1 ≤ length certificates.now }
     requires few { length certificates.now ≤ 33 }
-    ensures { (tables : Tables) (terms : _) (octets : _) → snapshot.now ≡ contents_of tables → AreInputs terms inputs.now → map trusted_in trusted.now ≡ map trust_anchor tables.anchors → map cert_in certificates.now ≡ chain_of octets
+    ensures { (tables : Tables) (terms : _) (octets : _) → snapshot.now ≡ contents_of tables
+        → AreInputs terms inputs.now → map trusted_in trusted.now ≡ map trust_anchor tables.anchors
+        → map cert_in certificates.now ≡ chain_of octets
         → IfOk result (IsAnswer (search_of (S.accepts check.now) tables terms octets)) }
 {
     let lists = lists_of(alloc, snapshot.complete())?;
@@ -151,7 +158,9 @@ fn search_reply<'a, S: SignatureCheck>(
     requires some { 1 ≤ length parts.certificates.items }
     requires few { length parts.certificates.items ≤ 33 }
     requires read { (octets : List (List ℕ)) × AreParts terms.now octets parts }
-    ensures { (tables : Tables) (octets : List (List ℕ)) → snapshot.now ≡ contents_of tables → AreParts terms.now octets parts.entry → IfOk result (IsTargetReply (S.accepts check.now) tables terms.now (Search octets)) }
+    ensures { (tables : Tables) (octets : List (List ℕ)) → snapshot.now ≡ contents_of tables
+        → AreParts terms.now octets parts.entry
+        → IfOk result (IsTargetReply (S.accepts check.now) tables terms.now (Search octets)) }
 {
     let Parts {
         permitted,
@@ -177,7 +186,10 @@ fn target_reply<'a, S: SignatureCheck>(
 ) -> Result<Reply, AllocError>
     requires same { certificates.now ≡ certificates_of target.now }
     requires within { is_target target.now ≡ true }
-    ensures { (tables : Tables) → snapshot.now ≡ contents_of tables → IfOk result (IsReplyBy (S.accepts check.now) tables (record { terms = terms.now; target = target.now }) (first_part terms.now certificates.now)) }
+    ensures { (tables : Tables) → snapshot.now ≡ contents_of tables
+        → IfOk result (IsReplyBy (S.accepts check.now) tables
+        (record { terms = terms.now; target = target.now })
+        (first_part terms.now certificates.now)) }
 {
     match read_parts(alloc, terms, certificates) {
         Ok(parts) => match target {
@@ -198,7 +210,8 @@ pub(crate) fn reply_over<S: SignatureCheck>(
     snapshot: &Snapshot<'_>,
     question: &Question,
 ) -> Result<Reply, AllocError>
-    ensures { (tables : Tables) → snapshot.now ≡ contents_of tables → IfOk result (IsReply (S.accepts check.now) tables question.now) }
+    ensures { (tables : Tables) → snapshot.now ≡ contents_of tables
+        → IfOk result (IsReply (S.accepts check.now) tables question.now) }
 {
     let terms = question.terms();
     let target = question.target();

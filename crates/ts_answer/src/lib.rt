@@ -1,4 +1,5 @@
-//! The trust store under a node: commands are taken, and questions are answered after any number of them.
+//! The trust store under a node: commands are taken, and questions are answered after any number of
+//! them.
 //!
 //! ```text
 //! let mut answers = Answers::new(alloc, check);             // it owns the check of signatures
@@ -7,9 +8,10 @@
 //! let node = ts_node::Node::open(alloc, a, b, answers)?;    // Answers is the state machine of a node
 //! ```
 //!
-//! The reply to a question over a store is, in this order: `Malformed`, with the first part that can't be read (the initial subtrees, which
-//! have index 0, and then the certificates, counted from 1) and the first rule that it breaks; `NoAnchor`, where a chain's anchor is not in
-//! the store; and else what path validation or the search answers (`specs/Reply`).
+//! The reply to a question over a store is, in this order: `Malformed`, with the first part that
+//! can't be read (the initial subtrees, which have index 0, and then the certificates, counted from
+//! 1) and the first rule that it breaks; `NoAnchor`, where a chain's anchor is not in the store;
+//! and else what path validation or the search answers (`specs/Reply`).
 //!
 //! | Call | Clauses |
 //! |---|---|
@@ -22,8 +24,9 @@
 //! | [`laws::one_answer`] | questions that ask the same have one answer after a list of commands |
 //! | [`laws::headline`] | over every run of nodes: agreement, and every answer at k is the one over the store of the first k chosen commands |
 //!
-//! The answers that were given last are cached, each under its k and its question (`specs/Cache`): a question that is asked again at one k is
-//! answered without validating anything. No public clause names the cache: it is an invariant of `Answers` that each answer in it is the right one.
+//! The answers that were given last are cached, each under its k and its question (`specs/Cache`):
+//! a question that is asked again at one k is answered without validating anything. No public
+//! clause names the cache: it is an invariant of `Answers` that each answer in it is the right one.
 //!
 //! Memory that is refused is answered as `AllocError`.
 #![tactic(auto)]

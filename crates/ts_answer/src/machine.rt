@@ -27,7 +27,8 @@ impl<S: SignatureCheck + Drop> Machine<Command> for Answers<S> {
 
     ghost basis = { λ a. a.check };
 
-    ghost is_answer = { λ check commands question answer. IsAnswer (S.accepts check) commands question answer };
+    ghost is_answer = { λ check commands question answer. IsAnswer
+        (S.accepts check) commands question answer };
 
     ghost commands = { λ a. a.commands };
 

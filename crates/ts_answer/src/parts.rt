@@ -1,4 +1,5 @@
-//! The parts of a question are read: its initial subtrees, its certificates and its policies. Nothing is copied.
+//! The parts of a question are read: its initial subtrees, its certificates and its policies.
+//! Nothing is copied.
 
 ghost use Rattle.std.specs.Prelude.{◌≡◌, ◌≤◌, None, length, map, option_map, IfOk, IfErr};
 ghost use Rattle.ts_name.specs.SubtreeView.{subtree_in};
@@ -6,7 +7,8 @@ ghost use Rattle.ts_name.specs.SubtreeTable.{constraint_fault};
 ghost use Rattle.ts_cert.specs.CertView.{cert_in, certificate_in};
 ghost use Rattle.ts_cert.specs.Table.{certificate_fault};
 ghost use Rattle.ts_constraint.specs.View.{bases_in};
-ghost use Rattle.ts_answer.specs.Parts.{base_of, unreadable, first_subtree, first_certificate, first_part};
+ghost use Rattle.ts_answer.specs.Parts.{base_of, unreadable, first_subtree, first_certificate};
+ghost use Rattle.ts_answer.specs.Parts.{first_part};
 ghost use Rattle.ts_answer.specs.View.{AreParts, Says};
 
 use crate::fault::PartFault;
@@ -27,8 +29,10 @@ pub(crate) struct Parts<'a> {
 
 /// An initial subtree.
 fn subtree_of(octets: &[u8]) -> Result<Subtree<'_>, PartFault>
-    ensures read { IfOk result (λ subtree. (constraint_fault octets.now ≡ None) × ((subtree_in subtree).base ≡ base_of octets.now)) }
-    ensures fault { IfErr result (λ fault. Says fault (option_map (unreadable 0) (constraint_fault octets.now))) }
+    ensures read { IfOk result (λ subtree. (constraint_fault octets.now ≡ None)
+        × ((subtree_in subtree).base ≡ base_of octets.now)) }
+    ensures fault { IfErr result (λ fault. Says fault
+        (option_map (unreadable 0) (constraint_fault octets.now))) }
 {
     match Subtree::read(octets) {
         Ok(subtree) => Ok(subtree),
@@ -38,8 +42,10 @@ fn subtree_of(octets: &[u8]) -> Result<Subtree<'_>, PartFault>
 
 /// Initial subtrees of one kind.
 fn subtrees_of(alloc: Global, strings: &[Vec<u8>]) -> Result<Vec<Subtree<'_>>, PartFault>
-    ensures read { IfOk result (λ subtrees. (first_subtree (map (λ s. s.items) strings.now) ≡ None) × (bases_in subtrees.items ≡ map base_of (map (λ s. s.items) strings.now))) }
-    ensures fault { IfErr result (λ fault. Says fault (first_subtree (map (λ s. s.items) strings.now))) }
+    ensures read { IfOk result (λ subtrees. (first_subtree (map (λ s. s.items) strings.now) ≡ None)
+        × (bases_in subtrees.items ≡ map base_of (map (λ s. s.items) strings.now))) }
+    ensures fault { IfErr result (λ fault. Says fault
+        (first_subtree (map (λ s. s.items) strings.now))) }
 {
     let mut subtrees = Vec::new(alloc);
     for octets in strings {
@@ -51,8 +57,10 @@ fn subtrees_of(alloc: Global, strings: &[Vec<u8>]) -> Result<Vec<Subtree<'_>>, P
 
 /// A certificate of this place.
 fn certificate_of(octets: &[u8], place: u8) -> Result<Cert<'_>, PartFault>
-    ensures read { IfOk result (λ cert. (certificate_fault octets.now ≡ None) × (cert_in cert ≡ certificate_in octets.now)) }
-    ensures fault { IfErr result (λ fault. Says fault (option_map (unreadable place) (certificate_fault octets.now))) }
+    ensures read { IfOk result (λ cert. (certificate_fault octets.now ≡ None)
+        × (cert_in cert ≡ certificate_in octets.now)) }
+    ensures fault { IfErr result (λ fault. Says fault
+        (option_map (unreadable place) (certificate_fault octets.now))) }
 {
     match Cert::read(octets) {
         Ok(cert) => Ok(cert),
@@ -66,8 +74,11 @@ fn certificate_of(octets: &[u8], place: u8) -> Result<Cert<'_>, PartFault>
 /// The certificates, whose places count from 1.
 fn certificates_of(alloc: Global, strings: &[Vec<u8>]) -> Result<Vec<Cert<'_>>, PartFault>
     requires { length strings.now ≤ 33 }
-    ensures read { IfOk result (λ certificates. (first_certificate 1 (map (λ s. s.items) strings.now) ≡ None) × (map cert_in certificates.items ≡ map certificate_in (map (λ s. s.items) strings.now))) }
-    ensures fault { IfErr result (λ fault. Says fault (first_certificate 1 (map (λ s. s.items) strings.now))) }
+    ensures read { IfOk result (λ certificates.
+        (first_certificate 1 (map (λ s. s.items) strings.now) ≡ None)
+        × (map cert_in certificates.items ≡ map certificate_in (map (λ s. s.items) strings.now))) }
+    ensures fault { IfErr result (λ fault. Says fault
+        (first_certificate 1 (map (λ s. s.items) strings.now))) }
 {
     let mut certificates = Vec::new(alloc);
     for octets in strings {
@@ -97,7 +108,8 @@ pub(crate) fn read_parts<'a>(
     certificates: &'a OctetStrings,
 ) -> Result<Parts<'a>, PartFault>
     requires { length certificates.now ≤ 33 }
-    ensures read { IfOk result (λ parts. (first_part terms.now certificates.now ≡ None) × AreParts terms.now certificates.now parts) }
+    ensures read { IfOk result (λ parts. (first_part terms.now certificates.now ≡ None)
+        × AreParts terms.now certificates.now parts) }
     ensures fault { IfErr result (λ fault. Says fault (first_part terms.now certificates.now)) }
 {
     let permitted = subtrees_of(alloc, terms.permitted_subtrees.as_slice())?;

@@ -20,7 +20,8 @@ pub(crate) fn lists_of<'a>(
     alloc: Global,
     stored: &[&'a OwnedCrl],
 ) -> Result<Vec<Crl<'a>>, AllocError>
-    ensures { IfOk result (λ lists. map crl_in lists.items ≡ map list_of (map (λ c. c.now) stored.now)) }
+    ensures { IfOk result (λ lists. map crl_in lists.items
+        ≡ map list_of (map (λ c. c.now) stored.now)) }
 {
     let mut lists = Vec::new(alloc);
     for kept in stored {
@@ -46,7 +47,8 @@ pub(crate) fn trusted_of<'a>(
     alloc: Global,
     stored: &[LentAnchor<'a>],
 ) -> Result<Vec<Trusted<'a>>, AllocError>
-    ensures { IfOk result (λ trusted. map trusted_in trusted.items ≡ map trust_anchor (map lent_in stored.now)) }
+    ensures { IfOk result (λ trusted. map trusted_in trusted.items
+        ≡ map trust_anchor (map lent_in stored.now)) }
 {
     let mut trusted = Vec::new(alloc);
     for anchor in stored {

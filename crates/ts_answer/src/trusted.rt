@@ -11,7 +11,8 @@ use ts_history::LentAnchor;
 use ts_path::Anchor;
 use ts_store::MAX_PURPOSES;
 
-/// A trust anchor's certificate, and the content octets of its purposes, which are at most 16, if it is not trusted for any.
+/// A trust anchor's certificate, and the content octets of its purposes, which are at most 16, if
+/// it is not trusted for any.
 #[derive(Clone, Copy)]
 pub(crate) struct Trusted<'a> {
     cert: Cert<'a>,

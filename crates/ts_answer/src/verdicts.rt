@@ -1,10 +1,12 @@
 //! Verdicts and answers of a search, as replies.
 
-ghost use Rattle.std.specs.Prelude.{◌≡◌, ◌≤◌, suc, true, Some, map, slice_get, length, IfOk, IfSome};
+ghost use Rattle.std.specs.Prelude.{◌≡◌, ◌≤◌, suc, true, Some, map, slice_get, length, IfOk};
+ghost use Rattle.std.specs.Prelude.{IfSome};
 ghost use Rattle.std.specs.List.{list_all};
 ghost use Rattle.ts_history.specs.Contents.{anchor_in as lent_in};
 ghost use Rattle.ts_answer.specs.Parts.{unreadable};
-ghost use Rattle.ts_answer.specs.Reply.{SaysReason, SaysSearch, SaysVerdict, malformed as malformed_of};
+ghost use Rattle.ts_answer.specs.Reply.{SaysReason, SaysSearch, SaysVerdict};
+ghost use Rattle.ts_answer.specs.Reply.{malformed as malformed_of};
 
 use std::alloc::{AllocError, Global};
 use ts_der::{Oid, OidRef};
@@ -58,8 +60,8 @@ fn reason_of(alloc: Global, reason: &PathReason<'_>) -> Result<Reason, AllocErro
     })
 }
 
-/// Accepted policies, with memory of their own. Each is an object identifier, since it was read as one; no clause of a lower crate says
-/// so, and what is none is refused as memory is.
+/// Accepted policies, with memory of their own. Each is an object identifier, since it was read as
+/// one; no clause of a lower crate says so, and what is none is refused as memory is.
 fn policies_of(alloc: Global, policies: &[&[u8]]) -> Result<Oids, AllocError>
     ensures { IfOk result (λ said. said ≡ map (λ p. p.now) policies.now) }
 {

@@ -135,7 +135,8 @@ fn an_id_settles_at_its_first_position(rt: HostRuntime) -> Result<(), Fail> {
     Ok(())
 }
 
-/// The tags for a search among this certificate, which is the leaf, and 0 for each where there is no question.
+/// The tags for a search among this certificate, which is the leaf, and 0 for each where there is
+/// no question.
 fn searched(alloc: Global, octets: &[u8], ks: [u32; 4]) -> Result<[u8; 4], AllocError> {
     let mut certificates = Vec::new(alloc);
     certificates.push(octets.to_vec(alloc)?)?;
@@ -192,7 +193,8 @@ fn alternating(alloc: Global, count: u16) -> Result<Option<Answers<DigestCheck>>
     Ok(Some(answers))
 }
 
-/// Whether the chain is valid after an odd number of commands, and without an anchor after an even one, when it is asked and when it is asked again.
+/// Whether the chain is valid after an odd number of commands, and without an anchor after an even
+/// one, when it is asked and when it is asked again.
 fn is_right(
     answers: &mut Answers<DigestCheck>,
     k: u32,
@@ -202,7 +204,8 @@ fn is_right(
     Ok(tag(answers, k, question)? == wanted && tag(answers, k, question)? == wanted)
 }
 
-/// Whether that is so after each number of 1,100 commands, from the last to the first and from the first to the last.
+/// Whether that is so after each number of 1,100 commands, from the last to the first and from the
+/// first to the last.
 fn are_right(alloc: Global) -> Result<bool, AllocError> {
     let (Some(mut answers), Some(question)) = (alternating(alloc, 1_100)?, chain(alloc, L)?) else {
         return Ok(false);
@@ -233,7 +236,8 @@ fn octets_at(
     answers.answer(k, question)?.octets(alloc)
 }
 
-/// Takes the anchor as the third command. The tags of the reply after three commands, before it and after it; 0 for each where it isn't the third.
+/// Takes the anchor as the third command. The tags of the reply after three commands, before it and
+/// after it; 0 for each where it isn't the third.
 fn grown(
     alloc: Global,
     answers: &mut Answers<DigestCheck>,
@@ -250,7 +254,8 @@ fn grown(
     Ok([before, tag(answers, 3, question)?])
 }
 
-/// Whether a question is answered alike after one command, when it is asked again and when a command was taken since.
+/// Whether a question is answered alike after one command, when it is asked again and when a
+/// command was taken since.
 fn stays(
     alloc: Global,
     answers: &mut Answers<DigestCheck>,

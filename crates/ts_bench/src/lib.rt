@@ -1,12 +1,13 @@
-//! What the benchmark in `bench/` calls: the readers of certificates and of lists, as a static library for programs that
-//! are not Rattle. No other crate depends on this one.
+//! What the benchmark in `bench/` calls: the readers of certificates and of lists, as a static
+//! library for programs that are not Rattle. No other crate depends on this one.
 #![tactic(auto)]
 
 ghost use Rattle.std.specs.Prelude.{◌≡◌, Some};
 ghost use Rattle.ts_cert.specs.Table.{certificate_fault};
 ghost use Rattle.ts_crl.specs.Fault.{fault_in};
 ghost use Rattle.ts_crl.specs.Table.{crl_fault, crl_of};
-ghost use Rattle.ts_bench.specs.Told.{rule_number, place_of, list_rule_number, list_place_of, is_listed};
+ghost use Rattle.ts_bench.specs.Told.{rule_number, place_of, list_rule_number, list_place_of};
+ghost use Rattle.ts_bench.specs.Told.{is_listed};
 
 use ts_cert::Cert;
 use ts_crl::{Crl, CrlFault};
@@ -16,7 +17,8 @@ use ts_der::Integer;
 #[repr(C)]
 #[derive(Clone, Copy)]
 pub struct Answer {
-    /// The number of the first rule that is broken (`CertRule::code`), 0 where the octets are a certificate.
+    /// The number of the first rule that is broken (`CertRule::code`), 0 where the octets are a
+    /// certificate.
     pub rule: u8,
     /// The offset of what breaks it, in octets; 0 where nothing does.
     pub at: usize,
@@ -62,7 +64,8 @@ pub extern "C" fn ts_bench_read_list(octets: &[u8]) -> Answer
     }
 }
 
-/// Whether octets, read as a list, have an entry of a serial number, which is given as the content of its INTEGER.
+/// Whether octets, read as a list, have an entry of a serial number, which is given as the content
+/// of its INTEGER.
 #[unsafe(no_mangle)]
 pub extern "C" fn ts_bench_find(octets: &[u8], serial: &[u8]) -> bool
     ensures { result ≡ is_listed serial.now (crl_of octets.now) }

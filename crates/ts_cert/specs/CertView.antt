@@ -25,7 +25,11 @@ parts_in c =
 
 -- the same with places
 abbrev pub unagreed_in : Parts → Unagreed
-unagreed_in c = record { certificate = parts_in c; identifier_at = c.identifier_at; optional_fields = optional_fields_in c.fields.optional_fields }
+unagreed_in c = record {
+  certificate = parts_in c;
+  identifier_at = c.identifier_at;
+  optional_fields = optional_fields_in c.fields.optional_fields;
+}
 
 -- ---- the certificate, once it is read
 

@@ -11,8 +11,9 @@ pub record KeyInfo : Type 0 where
   pub algorithm : Algorithm
   pub subjectPublicKey : List ℕ
 
--- TBSCertificate (4.1.2): the serial number is the content of its INTEGER, a name the attributes of its relative distinguished
--- names, a unique identifier the number of unused bits and the octets of its BIT STRING
+-- TBSCertificate (4.1.2): the serial number is the content of its INTEGER, a name the attributes of
+-- its relative distinguished names, a unique identifier the number of unused bits and the octets of
+-- its BIT STRING
 pub record Tbs : Type 0 where
   pub version : Version
   pub serialNumber : List ℕ

@@ -18,7 +18,8 @@ pub record Lies (octets : List ℕ) (from : ℕ) (part : List ℕ) (to : ℕ) : 
   pub begins : from ≤ length octets
 
 -- the encoding of a value lies between two offsets
-pub record Spans {A : Type 0} (Encodes : List ℕ → A → Type 0) (octets : List ℕ) (from to : ℕ) : Type 0 where
+pub record Spans {A : Type 0} (Encodes : List ℕ → A → Type 0) (octets : List ℕ)
+    (from to : ℕ) : Type 0 where
   pub value : A
   pub part : List ℕ
   pub here : HavePart octets from part to
@@ -26,7 +27,8 @@ pub record Spans {A : Type 0} (Encodes : List ℕ → A → Type 0) (octets : Li
   pub ends : to ≤ length octets
 
 -- the parts of what is signed begin at these offsets
-pub record AreFieldsAt (octets content : List ℕ) (c : Certificate) (is : IsTbs content c.tbsCertificate) (l : Layout) : Type 0 where
+pub record AreFieldsAt (octets content : List ℕ) (c : Certificate)
+    (is : IsTbs content c.tbsCertificate) (l : Layout) : Type 0 where
   pub version : l.version ≡ c.tbsCertificate.version
   pub serial_number : Lies octets l.serial_number is.serial l.signature
   pub signature : Lies octets l.signature is.algorithm l.issuer
@@ -39,10 +41,13 @@ pub record AreFieldsAt (octets content : List ℕ) (c : Certificate) (is : IsTbs
   pub extensions : Lies octets l.extensions is.last l.signature_algorithm
 
 -- and those of the whole
-pub record AreAt (octets : List ℕ) (c : Certificate) (is : IsCertificate octets c) (l : Layout) : Type 0 where
+pub record AreAt (octets : List ℕ) (c : Certificate) (is : IsCertificate octets c)
+    (l : Layout) : Type 0 where
   pub tbs : Lies octets l.tbs c.tbs l.signature_algorithm
-  pub fields : AreFieldsAt octets is.whole.value.tbsCertificate.content c is.whole.value.tbsCertificate.value l
-  pub signature_algorithm : Lies octets l.signature_algorithm is.whole.value.identifier l.signature_value
+  pub fields : AreFieldsAt octets is.whole.value.tbsCertificate.content c
+      is.whole.value.tbsCertificate.value l
+  pub signature_algorithm : Lies octets l.signature_algorithm is.whole.value.identifier
+      l.signature_value
   pub signature_value : Lies octets l.signature_value is.whole.value.bits (length octets)
 
 -- octets are a certificate, of which the parts begin at these offsets
@@ -53,7 +58,8 @@ AreLaidOut octets l = (c : Certificate) × (is : IsCertificate octets c) × AreA
 
 -- extensions after their explicit tag, of which none occurs twice and each has a sound value
 abbrev pub AreValidExplicit : List ℕ → List Extension → Type 0
-AreValidExplicit content xs = AreExplicit content xs × (first_repeated (λ x. x.extnID) [] xs ≡ None) × AreValid CertificateHolder xs
+AreValidExplicit content xs = AreExplicit content xs
+    × (first_repeated (λ x. x.extnID) [] xs ≡ None) × AreValid CertificateHolder xs
 
 -- the octets between two offsets occur once more between two others
 pub record IsRepeated (octets : List ℕ) (at from to end : ℕ) : Type 0 where
@@ -70,7 +76,8 @@ pub record IsVersion3 (octets : List ℕ) (at end : ℕ) : Type 0 where
 -- ---- once it is read
 
 -- the encoding of a value begins at an offset
-pub record Holds {A : Type 0} (Encodes : List ℕ → A → Type 0) (octets : List ℕ) (at : ℕ) (x : A) : Type 0 where
+pub record Holds {A : Type 0} (Encodes : List ℕ → A → Type 0) (octets : List ℕ) (at : ℕ)
+    (x : A) : Type 0 where
   pub part : List ℕ
   pub rest : List ℕ
   pub here : drop at octets ≡ part ++ rest
@@ -78,7 +85,8 @@ pub record Holds {A : Type 0} (Encodes : List ℕ → A → Type 0) (octets : Li
   pub begins : at ≤ length octets
 
 -- the same for a field that may be absent
-pub record HoldsIfAny {A : Type 0} (tag : ℕ) (Encodes : List ℕ → A → Type 0) (octets : List ℕ) (at : ℕ) (x : Option A) : Type 0 where
+pub record HoldsIfAny {A : Type 0} (tag : ℕ) (Encodes : List ℕ → A → Type 0) (octets : List ℕ)
+    (at : ℕ) (x : Option A) : Type 0 where
   pub part : List ℕ
   pub rest : List ℕ
   pub here : drop at octets ≡ part ++ rest

@@ -8,4 +8,5 @@ use Rattle.ts_cert.specs.declared.owned.OwnedCertFault.TheVariants.{Memory, Unre
 -- the name of the reason, and after Unreadable the name of the rule and its place in parentheses
 abbrev pub owned_text : OwnedCertFault → List ℕ
 owned_text Memory = codes "Memory"
-owned_text (Unreadable fault) = codes "Unreadable(" ++ (rule_name fault.kind ++ (codes " at " ++ (decimal fault.at ++ codes ")")))
+owned_text (Unreadable fault) = codes "Unreadable("
+    ++ (rule_name fault.kind ++ (codes " at " ++ (decimal fault.at ++ codes ")")))

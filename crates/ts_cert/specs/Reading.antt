@@ -1,6 +1,7 @@
--- Reading a certificate (RFC 5280 4.1) from front to back, up to the first rule that is broken. Each function reads one
--- SEQUENCE of the standard, field by field in its order.
-use Rattle.std.specs.Prelude.{ℕ, nat_lt, List, length, Option, Some, None, option_map, map, Result, Ok, Err, if◌then◌else◌}
+-- Reading a certificate (RFC 5280 4.1) from front to back, up to the first rule that is broken.
+-- Each function reads one SEQUENCE of the standard, field by field in its order.
+use Rattle.std.specs.Prelude.{ℕ, nat_lt, List, length, Option, Some, None, option_map, map, Result}
+use Rattle.std.specs.Prelude.{Ok, Err, if◌then◌else◌}
 use Rattle.std.specs.Str.{bytes_eq}
 use Rattle.ts_der.specs.declared.fault.DerFault.TheVariants.{TooLarge}
 use Rattle.ts_der.specs.declared.fault.Fault.{Fault}
@@ -47,8 +48,8 @@ key_at = within 0x30 key_of
 unfoldable pub unique_identifier_of : Tlv → Result (ℕ × List ℕ) Fault
 unique_identifier_of = value_at bits_rules bit_parts
 
--- issuerUniqueID [1] IMPLICIT UniqueIdentifier OPTIONAL, subjectUniqueID [2] IMPLICIT UniqueIdentifier OPTIONAL, extensions [3]
--- EXPLICIT Extensions OPTIONAL, and no more
+-- issuerUniqueID [1] IMPLICIT UniqueIdentifier OPTIONAL, subjectUniqueID [2] IMPLICIT
+-- UniqueIdentifier OPTIONAL, extensions [3] EXPLICIT Extensions OPTIONAL, and no more
 unfoldable pub optional_fields_at : Place → Result OptionalFields Fault
 optional_fields_at here = do
   issuer ← optional_of 0x81 unique_identifier_of here
@@ -64,8 +65,8 @@ optional_fields_at here = do
     extensions_at = subject.1.at;
   })
 
--- TBSCertificate ::= SEQUENCE { version, serialNumber, signature, issuer, validity, subject, subjectPublicKeyInfo, issuerUniqueID,
--- subjectUniqueID, extensions }
+-- TBSCertificate ::= SEQUENCE { version, serialNumber, signature, issuer, validity, subject,
+-- subjectPublicKeyInfo, issuerUniqueID, subjectUniqueID, extensions }
 unfoldable pub tbs_of : Tlv → Result LocatedTbs CertFault
 tbs_of e = do
   version ← version_at (inside e)
@@ -92,8 +93,8 @@ tbs_of e = do
     optional_fields = optional_fields;
   })
 
--- a certificate whose algorithm identifiers have not been compared, with the place of the outer one, and the fields that version
--- 1 does not have where they are
+-- a certificate whose algorithm identifiers have not been compared, with the place of the outer
+-- one, and the fields that version 1 does not have where they are
 pub record Unagreed : Type 0 where
   pub certificate : Certificate
   pub identifier_at : ℕ
@@ -109,14 +110,21 @@ signed_of e = do
   signature ← der (bits_at identifier.1)
   done ← der (end_at signature.1)
   Ok (record {
-    certificate = record { tbs = tbs.0.whole; tbsCertificate = fields.fields; signatureAlgorithm = algorithm; signatureValue = signature.0 };
+    certificate = record {
+      tbs = tbs.0.whole;
+      tbsCertificate = fields.fields;
+      signatureAlgorithm = algorithm;
+      signatureValue = signature.0;
+    };
     identifier_at = identifier.0.at;
     optional_fields = fields.optional_fields;
   })
 
 -- both algorithm identifiers are one (4.1.1.2)
 unfoldable pub agreed : Unagreed → Result Certificate CertFault
-agreed s = if bytes_eq s.certificate.tbsCertificate.signature.whole s.certificate.signatureAlgorithm.whole then Ok s.certificate else Err (breaks s.identifier_at AlgorithmMismatch)
+agreed s = if bytes_eq s.certificate.tbsCertificate.signature.whole
+    s.certificate.signatureAlgorithm.whole then Ok s.certificate
+    else Err (breaks s.identifier_at AlgorithmMismatch)
 
 -- the rules of the fields are kept (4.1.2.1, 4.2)
 abbrev pub unless_broken : {A : Type 0} → Option CertFault → A → Result A CertFault
@@ -130,8 +138,10 @@ whole_of octets = do
   signed ← signed_of e.0
   done ← der (end_at e.1)
   certificate ← agreed signed
-  unless_broken (extensions_fault signed.certificate.tbsCertificate.version signed.optional_fields) certificate
+  unless_broken (extensions_fault signed.certificate.tbsCertificate.version signed.optional_fields)
+      certificate
 
 -- octets that are at most 65,536, the limit of this profile
 unfoldable pub certificate_of : List ℕ → Result Certificate CertFault
-certificate_of octets = if nat_lt 65536 (length octets) then Err (breaks 0 (Der TooLarge)) else whole_of octets
+certificate_of octets = if nat_lt 65536 (length octets) then Err (breaks 0 (Der TooLarge))
+    else whole_of octets

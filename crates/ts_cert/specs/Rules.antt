@@ -1,4 +1,5 @@
--- The rules of a certificate beside its shape (RFC 5280 4.1.2.1, 4.2): which fields a version has, and what extensions keep to.
+-- The rules of a certificate beside its shape (RFC 5280 4.1.2.1, 4.2): which fields a version has,
+-- and what extensions keep to.
 use Rattle.std.specs.Prelude.{ℕ, List, [], Option, Some, None, unwrap_or}
 use Rattle.ts_shape.specs.declared.fault.CertRule.TheVariants.{ExtensionsInOldVersion}
 use Rattle.ts_shape.specs.declared.fault.CertFault.{CertFault}
@@ -34,12 +35,15 @@ abbrev pub must_lack : {A : Type 0} → Option A → ℕ → Option CertFault
 must_lack None at = None
 must_lack (Some x) at = Some (breaks at ExtensionsInOldVersion)
 
--- the first field that a version does not have (4.1.2.1): unique identifiers before version 2, extensions before version 3
+-- the first field that a version does not have (4.1.2.1): unique identifiers before version 2,
+-- extensions before version 3
 abbrev pub version_fault : Version → OptionalFields → Option CertFault
-version_fault V1 l = must_lack l.issuerUniqueID l.issuerUniqueID_at or_else must_lack l.subjectUniqueID l.subjectUniqueID_at or_else must_lack l.extensions l.extensions_at
+version_fault V1 l = must_lack l.issuerUniqueID l.issuerUniqueID_at or_else must_lack
+    l.subjectUniqueID l.subjectUniqueID_at or_else must_lack l.extensions l.extensions_at
 version_fault V2 l = must_lack l.extensions l.extensions_at
 version_fault V3 l = None
 
--- the first rule that is broken: of versions, that no extension occurs twice (4.2), of the values of extensions
+-- the first rule that is broken: of versions, that no extension occurs twice (4.2), of the values
+-- of extensions
 abbrev pub extensions_fault : Version → OptionalFields → Option CertFault
 extensions_fault v l = version_fault v l or_else list_fault CertificateHolder (all_located l)

@@ -1,4 +1,5 @@
--- What a certificate says by an extension (RFC 5280 4.2): the value that the octets of the extension are.
+-- What a certificate says by an extension (RFC 5280 4.2): the value that the octets of the
+-- extension are.
 use Rattle.std.specs.Prelude.{ℕ, List, Option, Result}
 use Rattle.std.specs.List.{find}
 use Rattle.std.specs.Option.{option_and_then}
@@ -13,15 +14,20 @@ use Rattle.ts_ext.specs.Extension.{Extension}
 use Rattle.ts_ext.specs.Known.{identifier_of}
 use Rattle.ts_cert.specs.Certificate.{Tbs, all_extensions}
 
--- the extension of this object identifier, if it stands (4.2: a certificate has no two of one object identifier)
+-- the extension of this object identifier, if it stands (4.2: a certificate has no two of one
+-- object identifier)
 abbrev pub known_extension : Known → Tbs → Option Extension
 known_extension known t = find (λ x. bytes_eq x.extnID (identifier_of known)) (all_extensions t)
 
--- the value that octets are, as the content of the OCTET STRING extnValue (4.1, 4.2): one element, which has the tag of this
--- extension's values and is read so, and nothing after it. Where they stand does not matter; here it is the front of an input.
+-- the value that octets are, as the content of the OCTET STRING extnValue (4.1, 4.2): one element,
+-- which has the tag of this extension's values and is read so, and nothing after it. Where they
+-- stand does not matter; here it is the front of an input.
 abbrev pub value_of_octets : {A : Type 0} → Known → (Tlv → Result A Fault) → List ℕ → Option A
-value_of_octets known reading octets = result_ok (alone (of_tag (layout_of known).tag reading) (encoded_at 0 0x04 octets))
+value_of_octets known reading octets =
+    result_ok (alone (of_tag (layout_of known).tag reading) (encoded_at 0 0x04 octets))
 
--- what this extension says, read so: nothing where it does not stand, else the value that its octets are, if they are one
+-- what this extension says, read so: nothing where it does not stand, else the value that its
+-- octets are, if they are one
 unfoldable pub stated : {A : Type 0} → Known → (Tlv → Result A Fault) → Tbs → Option A
-stated known reading t = option_and_then (λ x. value_of_octets known reading x.extnValue) (known_extension known t)
+stated known reading t = option_and_then (λ x. value_of_octets known reading x.extnValue)
+    (known_extension known t)

@@ -1,5 +1,7 @@
--- The table of a certificate (RFC 5280 4.1, as restated in Appendix A.1), and the first rule that octets break.
-use Rattle.std.specs.Prelude.{ℕ, zero, suc, ◌==◌, ◌||◌, not, nat_lt, Bool, false, List, [], ◌∷◌, length, Option, Some, None, Result, Ok, Err, if◌then◌else◌}
+-- The table of a certificate (RFC 5280 4.1, as restated in Appendix A.1), and the first rule that
+-- octets break.
+use Rattle.std.specs.Prelude.{ℕ, zero, suc, ◌==◌, ◌||◌, not, nat_lt, Bool, false, List, [], ◌∷◌}
+use Rattle.std.specs.Prelude.{length, Option, Some, None, Result, Ok, Err, if◌then◌else◌}
 use Rattle.std.specs.Str.{bytes_eq}
 use Rattle.ts_der.specs.declared.fault.DerFault.TheVariants.{TooLarge, DefaultEncoded}
 use Rattle.ts_der.specs.Element.{Place, Tlv, inside, encode}
@@ -9,7 +11,9 @@ use Rattle.ts_der.specs.Integer.{integer_rules}
 use Rattle.ts_shape.specs.declared.fault.CertRule.TheVariants.{Der, Version, AlgorithmMismatch}
 use Rattle.ts_shape.specs.declared.fault.CertFault.{CertFault}
 use Rattle.ts_shape.specs.Fault.{breaks}
-use Rattle.ts_shape.specs.Shape.{ContentRules, Row, optional, tagged, no_other, nothing, ◌then◌, ◌or_else◌, judge, der_rules, no_rules, one_rule, primitive, sequence}
+use Rattle.ts_shape.specs.Shape.{ContentRules, Row, optional, tagged, no_other, nothing, ◌then◌}
+use Rattle.ts_shape.specs.Shape.{◌or_else◌, judge, der_rules, no_rules, one_rule, primitive}
+use Rattle.ts_shape.specs.Shape.{sequence}
 use Rattle.ts_shape.specs.Rows.{integer, bit_string}
 use Rattle.ts_name.specs.NameRows.{name}
 use Rattle.ts_ext.specs.Extension.{explicit_extensions}
@@ -26,7 +30,8 @@ is_version content = false
 
 -- an INTEGER, and then one of the three versions
 abbrev pub version_rules : ContentRules
-version_rules content = der_rules integer_rules content or_else one_rule Version (λ c. not (is_version c)) content
+version_rules content = der_rules integer_rules content or_else one_rule Version
+    (λ c. not (is_version c)) content
 
 -- Version ::= INTEGER { v1(0), v2(1), v3(2) } (4.1.2.1)
 abbrev pub version_number : Row
@@ -44,7 +49,8 @@ version = tagged 0xA0 (version_number then nothing) default_rules no_other
 abbrev pub validity : Row
 validity = sequence (time then time then nothing)
 
--- SubjectPublicKeyInfo ::= SEQUENCE { algorithm AlgorithmIdentifier, subjectPublicKey BIT STRING } (4.1.2.7)
+-- SubjectPublicKeyInfo ::= SEQUENCE { algorithm AlgorithmIdentifier, subjectPublicKey BIT STRING }
+-- (4.1.2.7)
 abbrev pub subject_public_key_info : Row
 subject_public_key_info = sequence (algorithm_identifier then bit_string then nothing)
 
@@ -78,7 +84,8 @@ tbs_certificate =
     then optional (tagged 0xA3 explicit_extensions no_rules no_other)
     then nothing)
 
--- Certificate ::= SEQUENCE { tbsCertificate TBSCertificate, signatureAlgorithm AlgorithmIdentifier, signatureValue BIT STRING } (4.1.1)
+-- Certificate ::= SEQUENCE { tbsCertificate TBSCertificate, signatureAlgorithm AlgorithmIdentifier,
+-- signatureValue BIT STRING } (4.1.1)
 abbrev pub certificate : Row
 certificate = sequence (tbs_certificate then algorithm_identifier then bit_string then nothing)
 
@@ -95,7 +102,8 @@ tbs_element octets = nth 0 (inside (nth 0 (from_front octets)))
 
 -- signature: the element after the version, where that stands, and the serial number
 abbrev pub signature_element : List ℕ → Tlv
-signature_element octets = nth (if begins_with 0xA0 (tbs_element octets).content then 2 else 1) (inside (tbs_element octets))
+signature_element octets = nth (if begins_with 0xA0 (tbs_element octets).content then 2 else 1)
+    (inside (tbs_element octets))
 
 -- signatureAlgorithm: the second element within the certificate
 abbrev pub signature_algorithm_element : List ℕ → Tlv
@@ -104,7 +112,8 @@ signature_algorithm_element octets = nth 1 (inside (nth 0 (from_front octets)))
 -- signatureAlgorithm is the same as signature (4.1.1.2)
 abbrev pub algorithms_fault : List ℕ → Option CertFault
 algorithms_fault octets =
-    if bytes_eq (signature_element octets).whole (signature_algorithm_element octets).whole then None
+    if bytes_eq (signature_element octets).whole (signature_algorithm_element octets).whole
+    then None
     else Some (breaks (signature_algorithm_element octets).at AlgorithmMismatch)
 
 -- the first rule that the fields break, where they were read
@@ -112,9 +121,12 @@ abbrev pub fields_fault : Result Unagreed CertFault → Option CertFault
 fields_fault (Ok s) = extensions_fault s.certificate.tbsCertificate.version s.optional_fields
 fields_fault (Err f) = None
 
--- the first rule that is broken: at most 65,536 octets, the limit of this profile; the table, and nothing after it; one
--- algorithm; then the rules of fields that a version may not have and of extensions
+-- the first rule that is broken: at most 65,536 octets, the limit of this profile; the table, and
+-- nothing after it; one algorithm; then the rules of fields that a version may not have and of
+-- extensions
 abbrev pub certificate_fault : List ℕ → Option CertFault
 certificate_fault octets =
     if nat_lt 65536 (length octets) then Some (breaks 0 (Der TooLarge))
-    else judge (certificate then nothing) (from_front octets) or_else algorithms_fault octets or_else fields_fault (signed_of (nth 0 (from_front octets)))
+    else judge (certificate then nothing)
+    (from_front octets) or_else algorithms_fault octets or_else fields_fault
+    (signed_of (nth 0 (from_front octets)))

@@ -1,5 +1,6 @@
 -- Reading a version (RFC 5280 4.1.2.1).
-use Rattle.std.specs.Prelude.{ℕ, ◌==◌, List, [], ◌∷◌, Option, Some, None, Result, Ok, Err, if◌then◌else◌}
+use Rattle.std.specs.Prelude.{ℕ, ◌==◌, List, [], ◌∷◌, Option, Some, None, Result, Ok, Err}
+use Rattle.std.specs.Prelude.{if◌then◌else◌}
 use Rattle.ts_der.specs.declared.fault.DerFault.TheVariants.{DefaultEncoded}
 use Rattle.ts_der.specs.Answer.{◌>>=◌}
 use Rattle.ts_der.specs.Element.{Place, Tlv, inside}
@@ -14,7 +15,8 @@ use Rattle.ts_shape.specs.Fault.{der, breaks}
 -- Version ::= INTEGER { v1(0), v2(1), v3(2) }, by its content
 abbrev pub version_named : ℕ → List ℕ → Result Version CertFault
 version_named at (octet ∷ []) =
-    if octet == 0 then Ok V1 else (if octet == 1 then Ok V2 else (if octet == 2 then Ok V3 else Err (breaks at VersionRule)))
+    if octet == 0 then Ok V1 else (if octet == 1 then Ok V2
+    else (if octet == 2 then Ok V3 else Err (breaks at VersionRule)))
 version_named at content = Err (breaks at VersionRule)
 
 -- an INTEGER that is a version

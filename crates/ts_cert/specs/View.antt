@@ -1,4 +1,5 @@
--- What contracts see of the parts that a certificate lends: octets, without where they lie in memory.
+-- What contracts see of the parts that a certificate lends: octets, without where they lie in
+-- memory.
 use Rattle.std.specs.Prelude.{map, option_map}
 use Rattle.ts_der.specs.BitsView.{parts_of}
 use Rattle.ts_name.specs.NameView.{rdns_in}
@@ -13,7 +14,10 @@ use Rattle.ts_cert.specs.Certificate.{KeyInfo, Tbs}
 use Rattle.ts_cert.specs.Rules.{OptionalFields, LocatedTbs}
 
 abbrev pub key_in : SubjectPublicKeyInfo → KeyInfo
-key_in k = record { algorithm = algorithm_in k.algorithm; subjectPublicKey = k.subject_public_key.now }
+key_in k = record {
+  algorithm = algorithm_in k.algorithm;
+  subjectPublicKey = k.subject_public_key.now;
+}
 
 abbrev pub optional_fields_in : Late → OptionalFields
 optional_fields_in l =
@@ -38,7 +42,8 @@ fields_in t =
       subjectPublicKeyInfo = key_in t.subject_public_key_info;
       issuerUniqueID = option_map parts_of t.optional_fields.issuer_unique_id;
       subjectUniqueID = option_map parts_of t.optional_fields.subject_unique_id;
-      extensions = option_map (map unlocated) (option_map all_located_within t.optional_fields.extensions);
+      extensions = option_map (map unlocated)
+          (option_map all_located_within t.optional_fields.extensions);
     }
 
 -- the same with places

@@ -11,8 +11,9 @@ ghost use Rattle.ts_field.specs.View.{algorithm_in};
 use ts_der::{Element, Fault};
 use ts_field::{AlgorithmIdentifier, read_algorithm};
 
-/// The algorithm identifier that a SEQUENCE is, beside one that was read. Where it has the octets of that one, as the one
-/// beside a signature has those of the one that is signed, it is not read again.
+/// The algorithm identifier that a SEQUENCE is, beside one that was read. Where it has the octets
+/// of that one, as the one beside a signature has those of the one that is signed, it is not read
+/// again.
 #[inline(always)]
 pub(crate) fn read_algorithm_beside<'a>(
     element: Element<'a>,

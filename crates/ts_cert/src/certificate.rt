@@ -27,7 +27,8 @@ use ts_shape::CertFault;
 /// The greatest number of octets that a certificate may have in this profile.
 pub const MAX_CERTIFICATE: usize = 65_536;
 
-/// A certificate as it lies in the source (RFC 5280 4.1). Its octets were read, and where its parts begin is kept.
+/// A certificate as it lies in the source (RFC 5280 4.1). Its octets were read, and where its parts
+/// begin is kept.
 #[derive(Clone, Copy)]
 pub struct Cert<'a> {
     pub(crate) octets: &'a [u8],
@@ -42,25 +43,29 @@ impl<'a> Cert<'a> {
     ///
     /// # Errors
     ///
-    /// The first rule that is broken, with its place: first more than 65,536 octets (`TooLarge` at 0); then the shape
-    /// from front to back, a version other than 1, 2 and 3 (`Version`) in its place; then `AlgorithmMismatch`, at the
-    /// algorithm identifier beside the signature; then extensions in a certificate that is not of version 3
-    /// (`ExtensionsInOldVersion`), at the element that holds them; then `DuplicateExtension`, at the first that has the
-    /// object identifier of an earlier one; then the values of the known extensions, in order of place, each by DER
-    /// first and then by `SubtreeBounds`, `AddressLength` and `DuplicatePolicy` (RFC 5280 4.1, 4.2).
+    /// The first rule that is broken, with its place: first more than 65,536 octets (`TooLarge` at
+    /// 0); then the shape from front to back, a version other than 1, 2 and 3 (`Version`) in its
+    /// place; then `AlgorithmMismatch`, at the algorithm identifier beside the signature; then
+    /// extensions in a certificate that is not of version 3 (`ExtensionsInOldVersion`), at the
+    /// element that holds them; then `DuplicateExtension`, at the first that has the object
+    /// identifier of an earlier one; then the values of the known extensions, in order of place,
+    /// each by DER first and then by `SubtreeBounds`, `AddressLength` and `DuplicatePolicy` (RFC
+    /// 5280 4.1, 4.2).
     #[inline(always)]
     pub fn read(octets: &'a [u8]) -> Result<Cert<'a>, CertFault>
         // What is read is encoded so.
         ensures found { IfOk result (λ cert. IsCertificate octets.now (cert_in cert)) }
         // What is encoded so is read.
-        ensures only { (c : Certificate) → IsCertificate octets.now c → IsOkAnd result (λ cert. cert_in cert ≡ c) }
+        ensures only { (c : Certificate) → IsCertificate octets.now c
+            → IsOkAnd result (λ cert. cert_in cert ≡ c) }
         ensures fault { refusal result ≡ certificate_fault octets.now }
         ensures exact { Answers cert_in result (certificate_of octets.now) }
     {
         read_cert(octets)
     }
 
-    /// The octets that are signed: all of tbsCertificate, header included, as they were read (RFC 5280 4.1.1.3).
+    /// The octets that are signed: all of tbsCertificate, header included, as they were read (RFC
+    /// 5280 4.1.1.3).
     pub fn tbs(self) -> &'a [u8]
         ensures { result.now ≡ (cert_in self.entry).tbs }
     {
@@ -104,7 +109,8 @@ impl<'a> Cert<'a> {
 
     /// Whether issuer and subject are one name (RFC 5280 6.1).
     pub fn is_self_issued(self) -> bool
-        ensures { IsTrue result ↔ (canon_name (cert_in self.entry).tbsCertificate.issuer ≡ canon_name (cert_in self.entry).tbsCertificate.subject) }
+        ensures { IsTrue result ↔ (canon_name (cert_in self.entry).tbsCertificate.issuer
+            ≡ canon_name (cert_in self.entry).tbsCertificate.subject) }
     {
         self.issuer().same(self.subject())
     }
@@ -116,7 +122,8 @@ impl<'a> Cert<'a> {
         key_from(self.octets, self.layout.subject_public_key_info)
     }
 
-    /// The algorithm of the signature; it is the same within what is signed and beside the signature (RFC 5280 4.1.1.2).
+    /// The algorithm of the signature; it is the same within what is signed and beside the
+    /// signature (RFC 5280 4.1.1.2).
     pub fn signature_algorithm(self) -> AlgorithmIdentifier<'a>
         ensures { algorithm_in result ≡ (cert_in self.entry).signatureAlgorithm }
     {

@@ -1,9 +1,11 @@
-//! Fast path. `false` or `None` means undecided; the caller then uses the full reader. Removing it changes speed alone.
+//! Fast path. `false` or `None` means undecided; the caller then uses the full reader. Removing it
+//! changes speed alone.
 //!
-//! The layout of a certificate of version 3 with extensions, in UTCTimes, without unique identifiers, as most are: by offsets alone,
-//! in one walk that keeps nothing.
+//! The layout of a certificate of version 3 with extensions, in UTCTimes, without unique
+//! identifiers, as most are: by offsets alone, in one walk that keeps nothing.
 
-ghost use Rattle.std.specs.Prelude.{◌≡◌, ◌≤◌, ◌+◌, IfSome, List, Option, length, true, unwrap_or, [], ℕ};
+ghost use Rattle.std.specs.Prelude.{◌≡◌, ◌≤◌, ◌+◌, IfSome, List, Option, length, true, unwrap_or};
+ghost use Rattle.std.specs.Prelude.{[], ℕ};
 ghost use Rattle.ts_der.specs.Integer.{is_shortest};
 ghost use Rattle.ts_der.specs.Stands.{HavePart};
 ghost use Rattle.ts_shape.specs.Fields.{Within, IsOid, IsInteger, IsBits};
@@ -76,7 +78,8 @@ fn oid_end(octets: &[u8], at: usize) -> Option<usize>
 #[inline(always)]
 fn are_parameters(octets: &[u8], at: usize, end: usize) -> bool
     requires { at ≤ length octets.now }
-    ensures { result ≡ true → (p : Option (List ℕ)) × AreParameters p × HavePart octets.now at (unwrap_or p []) end }
+    ensures { result ≡ true → (p : Option (List ℕ)) × AreParameters p
+        × HavePart octets.now at (unwrap_or p []) end }
 {
     if at == end {
         return true;
@@ -90,7 +93,8 @@ fn are_parameters(octets: &[u8], at: usize, end: usize) -> bool
     }
 }
 
-/// The least octets that an AlgorithmIdentifier of RSA may begin with, parameters NULL (RFC 3279 2.2.1, 2.3.1), and the greatest.
+/// The least octets that an AlgorithmIdentifier of RSA may begin with, parameters NULL (RFC 3279
+/// 2.2.1, 2.3.1), and the greatest.
 const RSA_LOW: [u8; 16] = [
     0x30, 0x0D, 0x06, 0x09, 0x2A, 0x86, 0x48, 0x86, 0xF7, 0x0D, 0x01, 0x01, 0x00, 0x05, 0x00, 0x00,
 ];
@@ -341,7 +345,8 @@ fn version_end(octets: &[u8], at: usize) -> Option<usize>
     Some(at + 5)
 }
 
-/// The layout of the certificate that octets are, where it is in the form that most certificates have.
+/// The layout of the certificate that octets are, where it is in the form that most certificates
+/// have.
 #[inline(always)]
 pub(crate) fn fast_layout(octets: &[u8]) -> Option<Layout>
     ensures { IfSome result (AreLaidOut octets.now) }

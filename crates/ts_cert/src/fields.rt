@@ -17,7 +17,8 @@ pub(crate) const UTC_TIME: u8 = 0x17;
 
 pub(crate) const SEQUENCE: u8 = 0x30;
 
-/// The distinguished name that is next, which may have the octets of another. The reader has then passed it.
+/// The distinguished name that is next, which may have the octets of another. The reader has then
+/// passed it.
 #[tactic(auto, unfolding(ts_name::specs::Names::name_at, ts_shape::specs::Fields::within))]
 #[inline(always)]
 pub(crate) fn next_name_beside<'a>(

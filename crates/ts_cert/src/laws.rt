@@ -1,4 +1,5 @@
-//! Laws about the definitions that the clauses of this crate cite. Each is the contract of a function that does nothing.
+//! Laws about the definitions that the clauses of this crate cite. Each is the contract of a
+//! function that does nothing.
 
 ghost use Rattle.std.specs.Prelude.{◌≡◌, ℕ, List, Some, None};
 ghost use Rattle.ts_ext.specs.declared.known.Holder.TheVariants.{Certificate as CertificateHolder};
@@ -13,16 +14,21 @@ ghost use Rattle.ts_cert.specs.Stated.{known_extension, stated};
 
 /// No two lists of octets are one certificate, and none is two.
 pub fn one_certificate()
-    ensures one_encoding { (octets others : List ℕ) (c : Certificate) → IsCertificate octets c → IsCertificate others c → octets ≡ others }
-    ensures one_record { (octets : List ℕ) (c d : Certificate) → IsCertificate octets c → IsCertificate octets d → c ≡ d }
+    ensures one_encoding { (octets others : List ℕ) (c : Certificate) → IsCertificate octets c
+        → IsCertificate others c → octets ≡ others }
+    ensures one_record { (octets : List ℕ) (c d : Certificate) → IsCertificate octets c
+        → IsCertificate octets d → c ≡ d }
 {}
 
-/// No two lists of octets are the fields of one certificate: what is signed can't be written in a second way.
+/// No two lists of octets are the fields of one certificate: what is signed can't be written in a
+/// second way.
 pub fn one_signed_content()
-    ensures { (content other : List ℕ) (fields : Tbs) → IsTbs content fields → IsTbs other fields → content ≡ other }
+    ensures { (content other : List ℕ) (fields : Tbs) → IsTbs content fields → IsTbs other fields
+        → content ≡ other }
 {}
 
-/// No extension of a certificate that is read here stands without its value, and no value that it has breaks a rule.
+/// No extension of a certificate that is read here stands without its value, and no value that it
+/// has breaks a rule.
 pub fn no_missing_value()
     ensures has_value { (octets : List ℕ) (c : Certificate) → IsCertificate octets c
         → (known : Known) → known_at CertificateHolder (identifier_of known) ≡ Some known
@@ -30,5 +36,6 @@ pub fn no_missing_value()
         → (v : ExtValue) × (stated known (content_of known) c.tbsCertificate ≡ Some v) }
     ensures keeps_rules { (octets : List ℕ) (c : Certificate) → IsCertificate octets c
         → (known : Known) → known_at CertificateHolder (identifier_of known) ≡ Some known
-        → (v : ExtValue) → stated known (content_of known) c.tbsCertificate ≡ Some v → broken_rule v ≡ None }
+        → (v : ExtValue) → stated known (content_of known) c.tbsCertificate ≡ Some v
+        → broken_rule v ≡ None }
 {}

@@ -11,8 +11,8 @@ use crate::optional_reading::{EXTENSIONS, ISSUER_UNIQUE_ID, SUBJECT_UNIQUE_ID};
 use crate::version::{VERSION, Version};
 use ts_der::Reader;
 
-/// The offsets at which the parts of a certificate begin in its octets (RFC 5280 4.1), and the version that it says. A part
-/// that is absent begins where the next does.
+/// The offsets at which the parts of a certificate begin in its octets (RFC 5280 4.1), and the
+/// version that it says. A part that is absent begins where the next does.
 #[derive(Clone, Copy, Debug)]
 pub(crate) struct Layout {
     pub version: Version,
@@ -30,11 +30,14 @@ pub(crate) struct Layout {
     pub signature_value: usize,
 }
 
-/// Where the content of the element begins that is at an offset; the offset itself, where none does.
+/// Where the content of the element begins that is at an offset; the offset itself, where none
+/// does.
 fn inside(octets: &[u8], at: usize) -> usize
     requires { at ≤ length octets.now }
     ensures within { result ≤ length octets.now }
-    ensures begins { (tag : ℕ) (content rest : List ℕ) → Fits tag content → drop at octets.now ≡ encode tag content ++ rest → drop result octets.now ≡ content ++ rest }
+    ensures begins { (tag : ℕ) (content rest : List ℕ) → Fits tag content
+        → drop at octets.now ≡ encode tag content ++ rest
+        → drop result octets.now ≡ content ++ rest }
 {
     match Reader::at(octets, at).next() {
         Ok(element) => element.start,
@@ -46,7 +49,8 @@ fn inside(octets: &[u8], at: usize) -> usize
 fn end_of(octets: &[u8], at: usize) -> usize
     requires { at ≤ length octets.now }
     ensures within { result ≤ length octets.now }
-    ensures ends { (tag : ℕ) (content rest : List ℕ) → Fits tag content → drop at octets.now ≡ encode tag content ++ rest → drop result octets.now ≡ rest }
+    ensures ends { (tag : ℕ) (content rest : List ℕ) → Fits tag content
+        → drop at octets.now ≡ encode tag content ++ rest → drop result octets.now ≡ rest }
 {
     let mut reader = Reader::at(octets, at);
     match reader.next() {
@@ -59,7 +63,8 @@ fn end_of(octets: &[u8], at: usize) -> usize
 fn end_if(octets: &[u8], at: usize, tag: u8) -> usize
     requires { at ≤ length octets.now }
     ensures within { result ≤ length octets.now }
-    ensures present { (content rest : List ℕ) → Fits tag content → drop at octets.now ≡ encode tag content ++ rest → drop result octets.now ≡ rest }
+    ensures present { (content rest : List ℕ) → Fits tag content
+        → drop at octets.now ≡ encode tag content ++ rest → drop result octets.now ≡ rest }
     ensures absent { begins_with tag (drop at octets.now) ≡ false → result ≡ at }
 {
     match octets[at..].first() {
@@ -70,7 +75,8 @@ fn end_if(octets: &[u8], at: usize, tag: u8) -> usize
 
 /// The layout of octets that are a certificate of this version.
 pub(crate) fn layout_of(octets: &[u8], version: Version) -> Layout
-    ensures { (c : Certificate) → IsCertificate octets.now c → c.tbsCertificate.version ≡ version → AreLaidOut octets.now result }
+    ensures { (c : Certificate) → IsCertificate octets.now c → c.tbsCertificate.version ≡ version
+        → AreLaidOut octets.now result }
 {
     let tbs = inside(octets, 0);
     let fields = inside(octets, tbs);

@@ -31,7 +31,8 @@ pub(crate) fn next_unique_id<'a>(
     fields: &mut Reader<'a>,
     tag: u8,
 ) -> Result<Option<Bits<'a>>, Fault>
-    ensures { Takes (option_map parts_of) fields.new result (optional_of tag unique_identifier_of fields.old) }
+    ensures { Takes (option_map parts_of) fields.new result
+        (optional_of tag unique_identifier_of fields.old) }
 {
     match fields.optional(tag)? {
         Some(element) => Ok(Some(element.bits()?)),
@@ -45,7 +46,8 @@ pub(crate) fn next_unique_id<'a>(
 fn next_extensions<'a>(
     fields: &mut Reader<'a>,
 ) -> Result<(Option<Element<'a>>, Option<CertFault>), Fault>
-    ensures takes { Takes (λ x. option_map all_located_within x.0) fields.new result (optional_of 0xA3 explicit_all_located_of fields.old) }
+    ensures takes { Takes (λ x. option_map all_located_within x.0) fields.new result
+        (optional_of 0xA3 explicit_all_located_of fields.old) }
     ensures fault { IfOk result (λ x. x.1 ≡ fault_within x.0) }
 {
     match fields.optional(EXTENSIONS)? {

@@ -83,8 +83,10 @@ impl OwnedCert {
     /// `Unreadable` with the first rule that the octets break, as [`Cert::read`] answers it; then `Memory`, where memory
     /// ran out. Nothing is kept then.
     pub fn read(alloc: Global, octets: &[u8]) -> Result<OwnedCert, OwnedCertFault>
-        ensures kept { certificate_fault octets.now ≡ None → (result ≡ Ok octets.now) ⊎ (result ≡ Err Memory) }
-        ensures refused { (f : CertFault) → certificate_fault octets.now ≡ Some f → result ≡ Err (Unreadable f) }
+        ensures kept { certificate_fault octets.now ≡ None
+            → (result ≡ Ok octets.now) ⊎ (result ≡ Err Memory) }
+        ensures refused { (f : CertFault) → certificate_fault octets.now ≡ Some f
+            → result ≡ Err (Unreadable f) }
     {
         let layout = read_layout(octets)?;
         let octets = Vec::from_slice(alloc, octets)?;

@@ -49,7 +49,8 @@ pub(crate) fn bits_from(octets: &[u8], at: usize) -> &[u8]
 /// The algorithm identifier that begins at an offset.
 pub(crate) fn algorithm_from(octets: &[u8], at: usize) -> AlgorithmIdentifier<'_>
     requires { ∥ ((x : Algorithm) × Holds (Within 0x30 IsAlgorithm) octets.now at x) ∥₁ }
-    ensures { (x : Algorithm) → Holds (Within 0x30 IsAlgorithm) octets.now at x → algorithm_in result ≡ x }
+    ensures { (x : Algorithm) → Holds (Within 0x30 IsAlgorithm) octets.now at x
+        → algorithm_in result ≡ x }
 {
     match next_algorithm(&mut Reader::at(octets, at)) {
         Ok(algorithm) => algorithm,
@@ -82,7 +83,8 @@ pub(crate) fn key_from(octets: &[u8], at: usize) -> SubjectPublicKeyInfo<'_>
 /// The name that begins at an offset. It is not read again.
 pub(crate) fn name_from(octets: &[u8], at: usize) -> Name<'_>
     requires { ∥ ((x : List (List Attr)) × Holds (Within 0x30 IsName) octets.now at x) ∥₁ }
-    ensures { (x : List (List Attr)) → Holds (Within 0x30 IsName) octets.now at x → rdns_in result ≡ x }
+    ensures { (x : List (List Attr)) → Holds (Within 0x30 IsName) octets.now at x
+        → rdns_in result ≡ x }
 {
     match Reader::at(octets, at).element(SEQUENCE) {
         Ok(element) => Name { element },
@@ -93,7 +95,8 @@ pub(crate) fn name_from(octets: &[u8], at: usize) -> Name<'_>
 /// The unique identifier of this tag that begins at an offset, if one does.
 pub(crate) fn unique_id_from(octets: &[u8], at: usize, tag: u8) -> Option<Bits<'_>>
     requires { ∥ ((x : Option (ℕ × List ℕ)) × HoldsIfAny tag IsUniqueIdentifier octets.now at x) ∥₁ }
-    ensures { (x : Option (ℕ × List ℕ)) → HoldsIfAny tag IsUniqueIdentifier octets.now at x → option_map parts_of result ≡ x }
+    ensures { (x : Option (ℕ × List ℕ)) → HoldsIfAny tag IsUniqueIdentifier octets.now at x
+        → option_map parts_of result ≡ x }
 {
     match next_unique_id(&mut Reader::at(octets, at), tag) {
         Ok(bits) => bits,
@@ -104,7 +107,8 @@ pub(crate) fn unique_id_from(octets: &[u8], at: usize, tag: u8) -> Option<Bits<'
 /// The SEQUENCE of the extensions that begin at an offset, if any do.
 pub(crate) fn extensions_from(octets: &[u8], at: usize) -> Option<Element<'_>>
     requires { ∥ ((x : Option (List Extension)) × HoldsIfAny 0xA3 AreExplicit octets.now at x) ∥₁ }
-    ensures { (x : Option (List Extension)) → HoldsIfAny 0xA3 AreExplicit octets.now at x → option_map (map unlocated) (option_map all_located_within result) ≡ x }
+    ensures { (x : Option (List Extension)) → HoldsIfAny 0xA3 AreExplicit octets.now at x
+        → option_map (map unlocated) (option_map all_located_within result) ≡ x }
 {
     match Reader::at(octets, at).optional(EXTENSIONS) {
         Ok(Some(explicit)) => explicit.reader().element(SEQUENCE).ok(),

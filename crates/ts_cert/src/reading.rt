@@ -47,8 +47,8 @@ fn full_cert(octets: &[u8]) -> Result<Cert<'_>, CertFault>
     Ok(Cert { octets, layout })
 }
 
-/// The same, with the fast path first. It is not inlined: for a caller that asks for nothing but an `Ok` the record would not be
-/// made, nor its time be measured.
+/// The same, with the fast path first. It is not inlined: for a caller that asks for nothing but an
+/// `Ok` the record would not be made, nor its time be measured.
 #[inline(never)]
 pub(crate) fn read_cert(octets: &[u8]) -> Result<Cert<'_>, CertFault>
     ensures { Answers cert_in result (certificate_of octets.now) }

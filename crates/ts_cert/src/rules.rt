@@ -1,4 +1,5 @@
-//! The rules of the fields beside their shape: what a version may have, and what extensions keep to.
+//! The rules of the fields beside their shape: what a version may have, and what extensions keep
+//! to.
 
 ghost use Rattle.std.specs.Prelude.{◌≡◌};
 ghost use Rattle.ts_cert.specs.Rules.{must_lack, version_fault, extensions_fault};

@@ -1,5 +1,6 @@
-//! What a certificate says by its unique identifiers and its extensions. Each reader of an extension answers `None` where
-//! there is no such extension: of a certificate none stands without its value (`laws::no_missing_value`).
+//! What a certificate says by its unique identifiers and its extensions. Each reader of an
+//! extension answers `None` where there is no such extension: of a certificate none stands without
+//! its value (`laws::no_missing_value`).
 
 ghost use Rattle.std.specs.Prelude.{◌≡◌, map, option_map};
 ghost use Rattle.ts_der.specs.Answer.{Answers};
@@ -12,9 +13,12 @@ ghost use Rattle.ts_ext.specs.Extension.{unlocated};
 ghost use Rattle.ts_ext.specs.ExtensionView.{extensions_in};
 ghost use Rattle.ts_ext.specs.GeneralNames.{general_names_of};
 ghost use Rattle.ts_ext.specs.NameConstraints.{name_constraints_of};
-ghost use Rattle.ts_ext.specs.NameViews.{alternatives_in, authority_key_in, name_constraints_in, points_in};
+ghost use Rattle.ts_ext.specs.NameViews.{alternatives_in, authority_key_in, name_constraints_in};
+ghost use Rattle.ts_ext.specs.NameViews.{points_in};
 ghost use Rattle.ts_ext.specs.Points.{points_of};
-ghost use Rattle.ts_ext.specs.Reading.{key_usage_of, basic_constraints_of, certificate_policies_of, policy_mappings_of, policy_constraints_of, ext_key_usage_of, skip_certs_of};
+ghost use Rattle.ts_ext.specs.Reading.{key_usage_of, basic_constraints_of, certificate_policies_of};
+ghost use Rattle.ts_ext.specs.Reading.{policy_mappings_of, policy_constraints_of, ext_key_usage_of};
+ghost use Rattle.ts_ext.specs.Reading.{skip_certs_of};
 ghost use Rattle.ts_ext.specs.View.{policies_in, mappings_in, purposes_in};
 ghost use Rattle.ts_cert.specs.CertView.{cert_in};
 ghost use Rattle.ts_cert.specs.AllLocated.{all_located_within};
@@ -74,14 +78,17 @@ impl<'a> Cert<'a> {
     /// What tells the key that signed the certificate from others of the issuer (RFC 5280 4.2.1.1).
     #[tactic(auto, using(crate::proofs::StatedValues::stated_none, crate::proofs::StatedReaders::authority_key_identifier))]
     pub fn authority_key_identifier(self) -> Option<AuthorityKeyIdentifier<'a>>
-        ensures { option_map authority_key_in result ≡ stated extension.AuthorityKeyIdentifier authority_key_of (cert_in self.entry).tbsCertificate }
+        ensures { option_map authority_key_in result
+            ≡ stated extension.AuthorityKeyIdentifier authority_key_of
+            (cert_in self.entry).tbsCertificate }
     {
         AuthorityKeyIdentifier::read(self.content(Known::AuthorityKeyIdentifier)?).ok()
     }
 
     /// What tells the key of the subject from others (RFC 5280 4.2.1.2).
     pub fn subject_key_identifier(self) -> Option<&'a [u8]>
-        ensures { option_map (λ k. k.now) result ≡ stated extension.SubjectKeyIdentifier octets_of (cert_in self.entry).tbsCertificate }
+        ensures { option_map (λ k. k.now) result
+            ≡ stated extension.SubjectKeyIdentifier octets_of (cert_in self.entry).tbsCertificate }
     {
         Some(self.content(Known::SubjectKeyIdentifier)?.content)
     }
@@ -89,7 +96,8 @@ impl<'a> Cert<'a> {
     /// What the key may be used for (RFC 5280 4.2.1.3).
     #[tactic(auto, using(crate::proofs::StatedValues::stated_none, crate::proofs::StatedReaders::key_usage))]
     pub fn key_usage(self) -> Option<KeyUsage<'a>>
-        ensures { option_map (λ u. bits_in u.bits) result ≡ stated extension.KeyUsage key_usage_of (cert_in self.entry).tbsCertificate }
+        ensures { option_map (λ u. bits_in u.bits) result
+            ≡ stated extension.KeyUsage key_usage_of (cert_in self.entry).tbsCertificate }
     {
         KeyUsage::read(self.content(Known::KeyUsage)?).ok()
     }
@@ -97,7 +105,9 @@ impl<'a> Cert<'a> {
     /// The policies under which the certificate was issued (RFC 5280 4.2.1.4).
     #[tactic(auto, using(crate::proofs::StatedValues::stated_none, crate::proofs::StatedReaders::certificate_policies))]
     pub fn certificate_policies(self) -> Option<CertificatePolicies<'a>>
-        ensures { option_map policies_in result ≡ stated extension.CertificatePolicies certificate_policies_of (cert_in self.entry).tbsCertificate }
+        ensures { option_map policies_in result
+            ≡ stated extension.CertificatePolicies certificate_policies_of
+            (cert_in self.entry).tbsCertificate }
     {
         CertificatePolicies::read(self.content(Known::CertificatePolicies)?).ok()
     }
@@ -105,7 +115,9 @@ impl<'a> Cert<'a> {
     /// Which policies of the issuer count as which of the subject (RFC 5280 4.2.1.5).
     #[tactic(auto, using(crate::proofs::StatedValues::stated_none, crate::proofs::StatedReaders::policy_mappings))]
     pub fn policy_mappings(self) -> Option<PolicyMappings<'a>>
-        ensures { option_map mappings_in result ≡ stated extension.PolicyMappings policy_mappings_of (cert_in self.entry).tbsCertificate }
+        ensures { option_map mappings_in result
+            ≡ stated extension.PolicyMappings policy_mappings_of
+            (cert_in self.entry).tbsCertificate }
     {
         PolicyMappings::read(self.content(Known::PolicyMappings)?).ok()
     }
@@ -113,7 +125,8 @@ impl<'a> Cert<'a> {
     /// The names of the subject beside its distinguished name (RFC 5280 4.2.1.6).
     #[tactic(auto, using(crate::proofs::StatedValues::stated_none, crate::proofs::StatedReaders::subject_alt_name))]
     pub fn subject_alt_name(self) -> Option<AlternativeNames<'a>>
-        ensures { option_map alternatives_in result ≡ stated extension.SubjectAltName general_names_of (cert_in self.entry).tbsCertificate }
+        ensures { option_map alternatives_in result
+            ≡ stated extension.SubjectAltName general_names_of (cert_in self.entry).tbsCertificate }
     {
         AlternativeNames::read(self.content(Known::SubjectAltName)?).ok()
     }
@@ -121,15 +134,18 @@ impl<'a> Cert<'a> {
     /// The names of the issuer beside its distinguished name (RFC 5280 4.2.1.7).
     #[tactic(auto, using(crate::proofs::StatedValues::stated_none, crate::proofs::StatedReaders::issuer_alt_name))]
     pub fn issuer_alt_name(self) -> Option<AlternativeNames<'a>>
-        ensures { option_map alternatives_in result ≡ stated extension.IssuerAltName general_names_of (cert_in self.entry).tbsCertificate }
+        ensures { option_map alternatives_in result
+            ≡ stated extension.IssuerAltName general_names_of (cert_in self.entry).tbsCertificate }
     {
         AlternativeNames::read(self.content(Known::IssuerAltName)?).ok()
     }
 
-    /// Whether the subject may issue certificates, and how many may follow in a path (RFC 5280 4.2.1.9).
+    /// Whether the subject may issue certificates, and how many may follow in a path (RFC 5280
+    /// 4.2.1.9).
     #[tactic(auto, using(crate::proofs::StatedValues::stated_none, crate::proofs::StatedReaders::basic_constraints))]
     pub fn basic_constraints(self) -> Option<BasicConstraints>
-        ensures { result ≡ stated extension.BasicConstraints basic_constraints_of (cert_in self.entry).tbsCertificate }
+        ensures { result ≡ stated extension.BasicConstraints basic_constraints_of
+            (cert_in self.entry).tbsCertificate }
     {
         BasicConstraints::read(self.content(Known::BasicConstraints)?).ok()
     }
@@ -137,15 +153,19 @@ impl<'a> Cert<'a> {
     /// Which names may stand below this certificate (RFC 5280 4.2.1.10).
     #[tactic(auto, using(crate::proofs::StatedValues::stated_none, crate::proofs::StatedReaders::name_constraints))]
     pub fn name_constraints(self) -> Option<NameConstraints<'a>>
-        ensures { option_map name_constraints_in result ≡ stated extension.NameConstraints name_constraints_of (cert_in self.entry).tbsCertificate }
+        ensures { option_map name_constraints_in result
+            ≡ stated extension.NameConstraints name_constraints_of
+            (cert_in self.entry).tbsCertificate }
     {
         NameConstraints::read(self.content(Known::NameConstraints)?).ok()
     }
 
-    /// How many certificates may follow in a path before a policy is needed, and before none may be mapped (RFC 5280 4.2.1.11).
+    /// How many certificates may follow in a path before a policy is needed, and before none may be
+    /// mapped (RFC 5280 4.2.1.11).
     #[tactic(auto, using(crate::proofs::StatedValues::stated_none, crate::proofs::StatedReaders::policy_constraints))]
     pub fn policy_constraints(self) -> Option<PolicyConstraints>
-        ensures { result ≡ stated extension.PolicyConstraints policy_constraints_of (cert_in self.entry).tbsCertificate }
+        ensures { result ≡ stated extension.PolicyConstraints policy_constraints_of
+            (cert_in self.entry).tbsCertificate }
     {
         PolicyConstraints::read(self.content(Known::PolicyConstraints)?).ok()
     }
@@ -153,7 +173,9 @@ impl<'a> Cert<'a> {
     /// The purposes that the key may be used for (RFC 5280 4.2.1.12).
     #[tactic(auto, using(crate::proofs::StatedValues::stated_none, crate::proofs::StatedReaders::extended_key_usage))]
     pub fn extended_key_usage(self) -> Option<ExtendedKeyUsage<'a>>
-        ensures { option_map purposes_in result ≡ stated extension.ExtendedKeyUsage ext_key_usage_of (cert_in self.entry).tbsCertificate }
+        ensures { option_map purposes_in result
+            ≡ stated extension.ExtendedKeyUsage ext_key_usage_of
+            (cert_in self.entry).tbsCertificate }
     {
         ExtendedKeyUsage::read(self.content(Known::ExtendedKeyUsage)?).ok()
     }
@@ -161,15 +183,18 @@ impl<'a> Cert<'a> {
     /// Where the lists are found that may revoke this certificate (RFC 5280 4.2.1.13).
     #[tactic(auto, using(crate::proofs::StatedValues::stated_none, crate::proofs::StatedReaders::crl_distribution_points))]
     pub fn crl_distribution_points(self) -> Option<DistributionPoints<'a>>
-        ensures { option_map points_in result ≡ stated extension.CrlDistributionPoints points_of (cert_in self.entry).tbsCertificate }
+        ensures { option_map points_in result
+            ≡ stated extension.CrlDistributionPoints points_of (cert_in self.entry).tbsCertificate }
     {
         DistributionPoints::read(self.content(Known::CrlDistributionPoints)?).ok()
     }
 
-    /// How many certificates may follow in a path before anyPolicy no longer stands for other policies (RFC 5280 4.2.1.14).
+    /// How many certificates may follow in a path before anyPolicy no longer stands for other
+    /// policies (RFC 5280 4.2.1.14).
     #[tactic(auto, using(crate::proofs::StatedValues::stated_none, crate::proofs::StatedReaders::inhibit_any_policy))]
     pub fn inhibit_any_policy(self) -> Option<SkipCerts>
-        ensures { option_map (λ n. n.0) result ≡ stated extension.InhibitAnyPolicy skip_certs_of (cert_in self.entry).tbsCertificate }
+        ensures { option_map (λ n. n.0) result
+            ≡ stated extension.InhibitAnyPolicy skip_certs_of (cert_in self.entry).tbsCertificate }
     {
         SkipCerts::read(self.content(Known::InhibitAnyPolicy)?).ok()
     }
@@ -177,21 +202,25 @@ impl<'a> Cert<'a> {
     /// Where the latest changes of such lists are found (RFC 5280 4.2.1.15).
     #[tactic(auto, using(crate::proofs::StatedValues::stated_none, crate::proofs::StatedReaders::freshest_crl))]
     pub fn freshest_crl(self) -> Option<DistributionPoints<'a>>
-        ensures { option_map points_in result ≡ stated extension.FreshestCrl points_of (cert_in self.entry).tbsCertificate }
+        ensures { option_map points_in result
+            ≡ stated extension.FreshestCrl points_of (cert_in self.entry).tbsCertificate }
     {
         DistributionPoints::read(self.content(Known::FreshestCrl)?).ok()
     }
 
     /// The SEQUENCE of the extensions, if there are any.
     fn extension_list(self) -> Option<Element<'a>>
-        ensures { option_map (map unlocated) (option_map all_located_within result) ≡ (cert_in self.entry).tbsCertificate.extensions }
+        ensures { option_map (map unlocated) (option_map all_located_within result)
+            ≡ (cert_in self.entry).tbsCertificate.extensions }
     {
         extensions_from(self.octets, self.layout.extensions)
     }
 
-    /// The element that is the value of an extension, where that stands and its octets are one element of its tag.
+    /// The element that is the value of an extension, where that stands and its octets are one
+    /// element of its tag.
     fn content(self, known: Known) -> Option<Element<'a>>
-        ensures { option_map (λ e. e.content.now) result ≡ stated known octets_of (cert_in self.entry).tbsCertificate }
+        ensures { option_map (λ e. e.content.now) result
+            ≡ stated known octets_of (cert_in self.entry).tbsCertificate }
     {
         let list = self.extension_list()?;
         let extension = Extensions::within(list).find(known)?;

@@ -107,8 +107,8 @@ const LARGEST: [u8; 65_536] = [0x30; 65_536];
 
 const TOO_LARGE: [u8; 65_537] = [0x30; 65_537];
 
-/// The octets of a certificate by themselves: its serial number, what is signed, the algorithm, the algorithm of its
-/// key, its key and its signature.
+/// The octets of a certificate by themselves: its serial number, what is signed, the algorithm, the
+/// algorithm of its key, its key and its signature.
 type Parts<'a> = (&'a [u8], &'a [u8], &'a [u8], &'a [u8], &'a [u8], &'a [u8]);
 
 fn parts<'a>(octets: &'a [u8]) -> Option<Parts<'a>> {
@@ -142,7 +142,8 @@ fn reads_octets_where_they_lie(rt: HostRuntime) {
     );
 }
 
-/// The version of a certificate, whether its serial number is negative, and whether its issuer is its subject.
+/// The version of a certificate, whether its serial number is negative, and whether its issuer is
+/// its subject.
 pub(crate) type Values = (Version, bool, bool);
 
 /// The forms in which a certificate writes from when to when it is valid, and those moments.

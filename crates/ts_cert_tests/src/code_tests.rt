@@ -1,5 +1,6 @@
-//! A list for each rule that it can break. The octets were made by another tool, and the places counted. What is left out are
-//! the two rules of values that stand in certificates alone: of name constraints and of policies.
+//! A list for each rule that it can break. The octets were made by another tool, and the places
+//! counted. What is left out are the two rules of values that stand in certificates alone: of name
+//! constraints and of policies.
 
 use crate::rule_tests::fault;
 

@@ -1,4 +1,5 @@
-//! Rows by hand: the octets were written by the rules of X.690, and the seconds are those of Python's `datetime`.
+//! Rows by hand: the octets were written by the rules of X.690, and the seconds are those of
+//! Python's `datetime`.
 
 use ts_der::{DerFault, Reader};
 use ts_field::{Stamp, TimeForm, next_algorithm, next_bits, next_integer, next_name, next_time};
@@ -41,7 +42,8 @@ fn reads_times_in_both_forms(rt: HostRuntime) {
     }
 }
 
-/// sha256WithRSAEncryption with parameters NULL, and ecdsa-with-SHA256 without parameters (RFC 4055, RFC 5758).
+/// sha256WithRSAEncryption with parameters NULL, and ecdsa-with-SHA256 without parameters (RFC
+/// 4055, RFC 5758).
 const RSA: &[u8] = b"\x30\x0d\x06\x09\x2a\x86\x48\x86\xf7\x0d\x01\x01\x0b\x05\x00";
 
 const ECDSA: &[u8] = b"\x30\x0a\x06\x08\x2a\x86\x48\xce\x3d\x04\x03\x02";

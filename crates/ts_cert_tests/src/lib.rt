@@ -1,4 +1,5 @@
-//! Tests of certificates, of lists of revoked certificates, and of what is made of descriptions, over the public calls of their crates.
+//! Tests of certificates, of lists of revoked certificates, and of what is made of descriptions,
+//! over the public calls of their crates.
 //!
 //! In a crate of their own they are proved alone: a crate with tests is proved once more with them.
 #![tactic(auto)]

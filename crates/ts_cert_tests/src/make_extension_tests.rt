@@ -1,4 +1,5 @@
-//! Extensions by hand. The octets were made by another tool, with the digests of Python's hashlib, and read by openssl.
+//! Extensions by hand. The octets were made by another tool, with the digests of Python's hashlib,
+//! and read by openssl.
 
 use std::alloc::Global;
 use ts_der::{DerFault, Fault, OidRef, Reader};

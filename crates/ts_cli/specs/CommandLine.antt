@@ -1,4 +1,5 @@
--- Which command line takes words, and the status that the program ends with where words give no task.
+-- Which command line takes words, and the status that the program ends with where words give no
+-- task.
 use Rattle.std.specs.Prelude.{◌≡◌, ◌≢◌, ℕ, ◌≤◌, List, [], ◌∷◌, codes, drop, if◌then◌else◌}
 use Rattle.std.specs.Str.{bytes_eq}
 use Rattle.clap.specs.Words.{Kinds, kind_of, fault_of}
@@ -16,7 +17,8 @@ use Rattle.ts_cli.specs.declared.group.Group.TheVariants as group
 abbrev pub IsWrong : Error → Type 0
 IsWrong error = (kind_of error ≢ kind.DisplayHelp) × (kind_of error ≢ kind.DisplayVersion)
 
--- 1 for want of memory, 2 for a wrong command line, and after help 0, or 1 where it could not be printed
+-- 1 for want of memory, 2 for a wrong command line, and after help 0, or 1 where it could not be
+-- printed
 abbrev pub EndsWith : CommandFault → ℕ → Type 0
 EndsWith Memory status = status ≡ 1
 EndsWith NotText status = status ≡ 2
@@ -35,7 +37,8 @@ AskForLab words = (name : Text) × (words ≡ name ∷ codes "lab" ∷ [])
 -- ---- the three command lines
 
 abbrev pub group_named : Text → Group
-group_named word = if bytes_eq word (codes "command") then group.Command else if bytes_eq word (codes "question") then group.Question else group.Program
+group_named word = if bytes_eq word (codes "command") then group.Command
+    else if bytes_eq word (codes "question") then group.Question else group.Program
 
 -- whose words these are, by the second
 abbrev pub group_of : List Text → Group

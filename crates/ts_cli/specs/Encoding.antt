@@ -1,14 +1,16 @@
 -- The command and the question that words say.
 use Rattle.std.specs.Prelude.{ℕ, Bool, false, nat_lt, List, [], length}
 use Rattle.ts_store.specs.declared.command.Command.{Command}
-use Rattle.ts_store.specs.declared.command.Command.TheVariants.{AddAnchor, WithdrawAnchor, LoadCrl, DropCrl, SetPurposes}
+use Rattle.ts_store.specs.declared.command.Command.TheVariants.{AddAnchor, WithdrawAnchor, LoadCrl}
+use Rattle.ts_store.specs.declared.command.Command.TheVariants.{DropCrl, SetPurposes}
 use Rattle.ts_store.specs.declared.command.Command.TheVariants as command
 use Rattle.ts_question.specs.Question.{Asked}
 use Rattle.ts_question.specs.declared.terms.Terms.{Terms}
 use Rattle.ts_question.specs.declared.question.Target.{Target}
 use Rattle.ts_question.specs.declared.question.Target.TheVariants as target
 use Rattle.ts_cli.specs.declared.command_words.Change.{Change}
-use Rattle.ts_cli.specs.declared.command_words.Change.TheVariants.{Add, Withdraw, Load, Drop, Purposes, Noop}
+use Rattle.ts_cli.specs.declared.command_words.Change.TheVariants.{Add, Withdraw, Load, Drop}
+use Rattle.ts_cli.specs.declared.command_words.Change.TheVariants.{Purposes, Noop}
 use Rattle.ts_cli.specs.declared.question_words.QuestionWords.{QuestionWords}
 use Rattle.ts_cli.specs.declared.question_words.TermWords.{TermWords}
 use Rattle.ts_cli.specs.declared.question_words.Subject.{Subject}
@@ -50,4 +52,5 @@ target_in Search certificates = target.Search certificates
 
 -- the question that words ask about certificates
 abbrev pub asked_in : QuestionWords → List (List ℕ) → Asked
-asked_in words certificates = record { terms = terms_in words.terms; target = target_in words.subject certificates }
+asked_in words certificates = record
+    { terms = terms_in words.terms; target = target_in words.subject certificates }

@@ -1,5 +1,6 @@
 -- The task that a command line asks for: its subcommand, and what that is given.
-use Rattle.std.specs.Prelude.{◌≡◌, ◌≤◌, ℕ, List, [], ◌∷◌, IsPermutation, length, map, option_map, Option, Some, None, codes, string_bytes, MatchOption}
+use Rattle.std.specs.Prelude.{◌≡◌, ◌≤◌, ℕ, List, [], ◌∷◌, IsPermutation, length, map, option_map}
+use Rattle.std.specs.Prelude.{Option, Some, None, codes, string_bytes, MatchOption}
 use Rattle.std.specs.List.{AllByRecursion}
 use Rattle.clap.specs.Walk.{Row, Text, first_of}
 use Rattle.clap.specs.Simple.{App, matches_of, subcommand_of}
@@ -9,13 +10,16 @@ use Rattle.ts_cli.specs.Given.{IsAt, IsNumberAt, IsDigestAt, IsMomentAt, all_at,
 use Rattle.ts_question.specs.declared.terms.Flags.{Flags}
 use Rattle.ts_cli.specs.declared.command_words.CommandWords.{CommandWords}
 use Rattle.ts_cli.specs.declared.command_words.Change.{Change}
-use Rattle.ts_cli.specs.declared.command_words.Change.TheVariants.{Add, Withdraw, Load, Drop, Purposes, Noop}
+use Rattle.ts_cli.specs.declared.command_words.Change.TheVariants.{Add, Withdraw, Load, Drop}
+use Rattle.ts_cli.specs.declared.command_words.Change.TheVariants.{Purposes, Noop}
 use Rattle.ts_cli.specs.declared.question_words.QuestionWords.{QuestionWords}
 use Rattle.ts_cli.specs.declared.question_words.TermWords.{TermWords}
 use Rattle.ts_cli.specs.declared.question_words.Subject.{Subject}
 use Rattle.ts_cli.specs.declared.question_words.Subject.TheVariants.{Chain, Search}
 use Rattle.ts_cli.specs.declared.task.Task.{Task}
-use Rattle.ts_cli.specs.declared.task.Task.TheVariants.{Lab, Format, Migrate, Serve, Submit, Ask, Carry, Status, CatchUp, Compact, Command, Question, Id, Show}
+use Rattle.ts_cli.specs.declared.task.Task.TheVariants.{Lab, Format, Migrate, Serve, Submit, Ask}
+use Rattle.ts_cli.specs.declared.task.Task.TheVariants.{Carry, Status, CatchUp, Compact, Command}
+use Rattle.ts_cli.specs.declared.task.Task.TheVariants.{Question, Id, Show}
 
 pub record IsFormat (name : Text) (rows : List Row) (file : Text) (id nodes : ℕ) : Type 0 where
   pub name_is : name ≡ codes "format"
@@ -28,13 +32,15 @@ pub record IsMigration (name : Text) (rows : List Row) (old new : Text) : Type 0
   pub old_is : IsAt (codes "old") rows old
   pub new_is : IsAt (codes "new") rows new
 
-pub record IsServe (name : Text) (rows : List Row) (file listen : Text) (table : Option Text) (connections : ℕ) : Type 0 where
+pub record IsServe (name : Text) (rows : List Row) (file listen : Text) (table : Option Text)
+    (connections : ℕ) : Type 0 where
   pub name_is : name ≡ codes "serve"
   pub file_is : IsAt (codes "file") rows file
   pub listen_is : IsAt (codes "listen") rows listen
   pub listen_address : IsAddressed listen
   pub table_is : first_of (codes "table") rows ≡ table
-  pub connections_is : MatchOption (first_of (codes "connections") rows) (connections ≡ 1000000) (λ text. IsNumberIn 1 1000000 text connections)
+  pub connections_is : MatchOption (first_of (codes "connections") rows) (connections ≡ 1000000)
+      (λ text. IsNumberIn 1 1000000 text connections)
 
 -- `submit` and `ask`, by their names
 pub record IsSending (name expected : Text) (rows : List Row) (address file : Text) : Type 0 where
@@ -43,7 +49,8 @@ pub record IsSending (name expected : Text) (rows : List Row) (address file : Te
   pub address_form : IsAddressed address
   pub file_is : IsAt (codes "file") rows file
 
-pub record IsCarry (name : Text) (rows : List Row) (addresses : List Text) (rounds : ℕ) : Type 0 where
+pub record IsCarry (name : Text) (rows : List Row) (addresses : List Text)
+    (rounds : ℕ) : Type 0 where
   pub name_is : name ≡ codes "carry"
   pub addresses_are : addresses ≡ all_at (codes "addresses") rows
   pub addresses_form : AllByRecursion IsAddressed addresses
@@ -65,16 +72,19 @@ pub record IsReading (name expected : Text) (rows : List Row) (file : Text) : Ty
 -- ---- commands
 
 -- `withdraw` and `drop`, by their names
-pub record IsNaming (name expected : Text) (rows : List Row) (argument : Text) (digest : List ℕ) : Type 0 where
+pub record IsNaming (name expected : Text) (rows : List Row) (argument : Text)
+    (digest : List ℕ) : Type 0 where
   pub name_is : name ≡ expected
   pub digest_is : IsDigestAt argument rows digest
 
 -- any purposes where none are given; else those, in their order
 abbrev pub ArePurposesOf : List (List ℕ) → Option (List (List ℕ)) → Type 0
 ArePurposesOf [] purposes = purposes ≡ None
-ArePurposesOf (first ∷ others) purposes = (sorted : List (List ℕ)) × (purposes ≡ Some sorted) × IsPermutation (first ∷ others) sorted
+ArePurposesOf (first ∷ others) purposes =
+    (sorted : List (List ℕ)) × (purposes ≡ Some sorted) × IsPermutation (first ∷ others) sorted
 
-pub record IsSetting (name : Text) (rows : List Row) (anchor : List ℕ) (purposes : Option (List (List ℕ))) : Type 0 where
+pub record IsSetting (name : Text) (rows : List Row) (anchor : List ℕ)
+    (purposes : Option (List (List ℕ))) : Type 0 where
   pub name_is : name ≡ codes "purposes"
   pub anchor_is : IsDigestAt (codes "anchor") rows anchor
   pub given : List (List ℕ)
@@ -83,14 +93,16 @@ pub record IsSetting (name : Text) (rows : List Row) (anchor : List ℕ) (purpos
 
 abbrev pub SaysChange : Text → List Row → Change → Type 0
 SaysChange name rows (Add file) = IsReading name (codes "add") rows (string_bytes file)
-SaysChange name rows (Withdraw anchor) = IsNaming name (codes "withdraw") rows (codes "anchor") anchor
+SaysChange name rows (Withdraw anchor) =
+    IsNaming name (codes "withdraw") rows (codes "anchor") anchor
 SaysChange name rows (Load file) = IsReading name (codes "load") rows (string_bytes file)
 SaysChange name rows (Drop list) = IsNaming name (codes "drop") rows (codes "list") list
 SaysChange name rows (Purposes anchor purposes) = IsSetting name rows anchor purposes
 SaysChange name rows Noop = name ≡ codes "noop"
 
 -- a command: its id by the arguments of `trustd command`, what it does by the subcommand
-pub record SaysCommand (own : List Row) (name : Text) (rows : List Row) (words : CommandWords) : Type 0 where
+pub record SaysCommand (own : List Row) (name : Text) (rows : List Row)
+    (words : CommandWords) : Type 0 where
   pub id_is : AsWritten (IsHex 16) (first_of (codes "id") own) words.id
   pub change_is : SaysChange name rows words.change
 
@@ -125,13 +137,15 @@ pub record IsSearched (rows : List Row) (files : List Text) : Type 0 where
   pub leaf_is : IsAt (codes "leaf") rows leaf
   pub files_are : AreFiles 33 (leaf ∷ all_at (codes "pool") rows) files
 
-pub record IsChain (name : Text) (rows : List Row) (anchor : List ℕ) (files : List Text) (terms : TermWords) : Type 0 where
+pub record IsChain (name : Text) (rows : List Row) (anchor : List ℕ) (files : List Text)
+    (terms : TermWords) : Type 0 where
   pub name_is : name ≡ codes "chain"
   pub anchor_is : IsDigestAt (codes "anchor") rows anchor
   pub files_are : AreFiles 16 (all_at (codes "certificates") rows) files
   pub terms_are : AreTerms rows terms
 
-pub record IsSearch (name : Text) (rows : List Row) (files : List Text) (terms : TermWords) : Type 0 where
+pub record IsSearch (name : Text) (rows : List Row) (files : List Text)
+    (terms : TermWords) : Type 0 where
   pub name_is : name ≡ codes "search"
   pub files_are : IsSearched rows files
   pub terms_are : AreTerms rows terms
@@ -141,7 +155,8 @@ IsAsked (Chain anchor) name rows files terms = IsChain name rows anchor files te
 IsAsked Search name rows files terms = IsSearch name rows files terms
 
 abbrev pub SaysQuestion : Text → List Row → QuestionWords → Type 0
-SaysQuestion name rows words = IsAsked words.subject name rows (map string_bytes words.files.items) words.terms
+SaysQuestion name rows words = IsAsked words.subject name rows
+    (map string_bytes words.files.items) words.terms
 
 -- ---- tasks
 
@@ -149,10 +164,14 @@ abbrev pub SaysTask : Text → List Row → Task → Type 0
 SaysTask name rows Lab = name ≡ codes "lab"
 SaysTask name rows (Format file id nodes) = IsFormat name rows (string_bytes file) id nodes
 SaysTask name rows (Migrate old new) = IsMigration name rows (string_bytes old) (string_bytes new)
-SaysTask name rows (Serve file listen table connections) = IsServe name rows (string_bytes file) (string_bytes listen) (option_map string_bytes table) connections
-SaysTask name rows (Submit address file) = IsSending name (codes "submit") rows (string_bytes address) (string_bytes file)
-SaysTask name rows (Ask address file) = IsSending name (codes "ask") rows (string_bytes address) (string_bytes file)
-SaysTask name rows (Carry addresses rounds) = IsCarry name rows (map string_bytes addresses.items) rounds
+SaysTask name rows (Serve file listen table connections) = IsServe name rows (string_bytes file)
+    (string_bytes listen) (option_map string_bytes table) connections
+SaysTask name rows (Submit address file) =
+    IsSending name (codes "submit") rows (string_bytes address) (string_bytes file)
+SaysTask name rows (Ask address file) =
+    IsSending name (codes "ask") rows (string_bytes address) (string_bytes file)
+SaysTask name rows (Carry addresses rounds) =
+    IsCarry name rows (map string_bytes addresses.items) rounds
 SaysTask name rows (Status address) = IsReaching name (codes "status") rows (string_bytes address)
 SaysTask name rows (CatchUp address) = IsReaching name (codes "catchup") rows (string_bytes address)
 SaysTask name rows (Compact address) = IsReaching name (codes "compact") rows (string_bytes address)
@@ -168,7 +187,8 @@ SaysAny own name rows (Question words) = SaysQuestion name rows words
 SaysAny own name rows Lab = SaysTask name rows Lab
 SaysAny own name rows (Format file id nodes) = SaysTask name rows (Format file id nodes)
 SaysAny own name rows (Migrate old new) = SaysTask name rows (Migrate old new)
-SaysAny own name rows (Serve file listen table connections) = SaysTask name rows (Serve file listen table connections)
+SaysAny own name rows (Serve file listen table connections) =
+    SaysTask name rows (Serve file listen table connections)
 SaysAny own name rows (Submit address file) = SaysTask name rows (Submit address file)
 SaysAny own name rows (Ask address file) = SaysTask name rows (Ask address file)
 SaysAny own name rows (Carry addresses rounds) = SaysTask name rows (Carry addresses rounds)
@@ -193,7 +213,8 @@ AsksFor words task = Asks (app_in (group_of words)) (words_in (group_of words) w
 abbrev pub IsInRange : Task → Type 0
 IsInRange (Format file id nodes) = (1 ≤ id) × (id ≤ nodes) × (nodes ≤ 9)
 IsInRange (Serve file listen table connections) = (1 ≤ connections) × (connections ≤ 1000000)
-IsInRange (Carry addresses rounds) = (1 ≤ length addresses.items) × (length addresses.items ≤ 9) × (1 ≤ rounds) × (rounds ≤ 1000000)
+IsInRange (Carry addresses rounds) =
+    (1 ≤ length addresses.items) × (length addresses.items ≤ 9) × (1 ≤ rounds) × (rounds ≤ 1000000)
 IsInRange Lab = Unit {0}
 IsInRange (Migrate old new) = Unit {0}
 IsInRange (Submit address file) = Unit {0}

@@ -40,7 +40,8 @@ pub fn task_of_process(rt: &(impl AllocGlobal + Env)) -> Result<Task, CommandFau
 
 /// The subcommand that was named, with what it was given.
 fn given<'m, 'a>(matches: &'m ArgMatches<'a>) -> Option<(&'a str, &'m ArgMatches<'a>)>
-    ensures { option_map (λ p. (p.0.now, rows_of (found_of p.1.now))) result ≡ subcommand_rows_of matches.now }
+    ensures { option_map (λ p. (p.0.now, rows_of (found_of p.1.now))) result
+        ≡ subcommand_rows_of matches.now }
 {
     matches.subcommand()
 }

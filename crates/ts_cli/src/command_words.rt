@@ -71,7 +71,8 @@ pub(crate) fn digest_at(matches: &ArgMatches<'_>, id: &str) -> Result<[u8; 32], 
 
 /// The id of the command, if it is given.
 fn command_id(matches: &ArgMatches<'_>) -> Result<Option<[u8; 16]>, CommandFault>
-    ensures { IfOk result (AsWritten (IsHex 16) (first_of (codes "id") (rows_of (found_of matches.now)))) }
+    ensures { IfOk result (AsWritten (IsHex 16)
+        (first_of (codes "id") (rows_of (found_of matches.now)))) }
 {
     let Some(text) = value_at(matches, "id") else {
         return Ok(None);
@@ -123,7 +124,8 @@ pub(crate) fn command_named(
     name: &str,
     matches: &ArgMatches<'_>,
 ) -> Result<CommandWords, CommandFault>
-    ensures { IfOk result (SaysCommand (rows_of (found_of own.now)) name.now (rows_of (found_of matches.now))) }
+    ensures { IfOk result (SaysCommand (rows_of (found_of own.now)) name.now
+        (rows_of (found_of matches.now))) }
 {
     Ok(CommandWords {
         id: command_id(own)?,

@@ -1,13 +1,16 @@
 //! Words as encoded commands and questions.
 
-ghost use Rattle.std.specs.Prelude.{◌≡◌, ◌⊎◌, ◌<◌, true, false, Err, map, length, IfOk, IfErr, string_bytes};
+ghost use Rattle.std.specs.Prelude.{◌≡◌, ◌⊎◌, ◌<◌, true, false, Err, map, length, IfOk, IfErr};
+ghost use Rattle.std.specs.Prelude.{string_bytes};
 ghost use Rattle.hex.specs.Hex.{encode_lower};
 ghost use Rattle.sha2.specs.Sha256.{sha256};
 ghost use Rattle.ts_store.specs.Commands as commands;
-ghost use Rattle.ts_store.specs.declared.command.Command.TheVariants.{AddAnchor, LoadCrl, SetPurposes};
+ghost use Rattle.ts_store.specs.declared.command.Command.TheVariants.{AddAnchor, LoadCrl};
+ghost use Rattle.ts_store.specs.declared.command.Command.TheVariants.{SetPurposes};
 ghost use Rattle.ts_question.specs.Question as questions;
 ghost use Rattle.ts_cli.specs.Encoding.{command_in, is_too_long, terms_in, asked_in};
-ghost use Rattle.ts_cli.specs.declared.encoding.MakeFault.TheVariants.{Memory, TooLong, OutOfLimits};
+ghost use Rattle.ts_cli.specs.declared.encoding.MakeFault.TheVariants.{Memory, TooLong};
+ghost use Rattle.ts_cli.specs.declared.encoding.MakeFault.TheVariants.{OutOfLimits};
 
 use crate::command_words::Change;
 use crate::question_words::{QuestionWords, Subject, TermWords};
@@ -108,7 +111,8 @@ fn command_in(
     contents: &[u8],
 ) -> Result<Command, MakeFault>
     ensures made { IfOk result (λ command. command ≡ command_in id change.now contents.now) }
-    ensures refused { IfErr result (λ fault. (fault ≡ Memory) ⊎ (is_too_long change.now contents.now ≡ true)) }
+    ensures refused { IfErr result
+        (λ fault. (fault ≡ Memory) ⊎ (is_too_long change.now contents.now ≡ true)) }
 {
     match change {
         Change::Add { .. } => add(alloc, id, contents),
@@ -123,8 +127,8 @@ fn command_in(
     }
 }
 
-/// The octets of the command of this id that does this change. `contents` are the octets of the file of `Add` or `Load`, and
-/// are not looked at for the others.
+/// The octets of the command of this id that does this change. `contents` are the octets of the
+/// file of `Add` or `Load`, and are not looked at for the others.
 ///
 /// # Errors
 ///
@@ -137,11 +141,13 @@ pub fn command_octets(
     contents: &[u8],
 ) -> Result<Vec<u8>, MakeFault>
     // The octets are the one encoding of that command, which fits its limits.
-    ensures made { IfOk result (λ octets. octets.items ≡ commands.encoding (command_in id.now change.now contents.now)) }
+    ensures made { IfOk result (λ octets. octets.items
+        ≡ commands.encoding (command_in id.now change.now contents.now)) }
     ensures fits { IfOk result (λ _. commands.Fits (command_in id.now change.now contents.now)) }
     // A file is too long exactly where the limits say so, and else only memory is wanting.
     ensures long { is_too_long change.now contents.now ≡ true → result ≡ Err TooLong }
-    ensures memory { is_too_long change.now contents.now ≡ false → IfErr result (λ fault. fault ≡ Memory) }
+    ensures memory { is_too_long change.now contents.now ≡ false
+        → IfErr result (λ fault. fault ≡ Memory) }
 {
     if is_too_long(change, contents) {
         return Err(MakeFault::TooLong);
@@ -173,7 +179,8 @@ fn copy_oid(alloc: Global, oid: &Option<Oid>) -> Result<Option<Oid>, AllocError>
 
 /// A copy of the octets of files.
 fn copy_files(alloc: Global, files: &[Vec<u8>]) -> Result<Vec<Vec<u8>>, AllocError>
-    ensures { IfOk result (λ copies. map (λ file. file.items) copies.items ≡ map (λ file. file.items) files.now) }
+    ensures { IfOk result (λ copies. map (λ file. file.items) copies.items
+        ≡ map (λ file. file.items) files.now) }
 {
     let mut copies = Vec::new(alloc);
     for file in files {
@@ -198,7 +205,8 @@ fn terms_in(alloc: Global, words: &TermWords) -> Result<Terms, AllocError>
     })
 }
 
-/// The octets of the question that words ask about these certificates, which are the octets of its files in their order.
+/// The octets of the question that words ask about these certificates, which are the octets of its
+/// files in their order.
 ///
 /// # Errors
 ///
@@ -210,11 +218,14 @@ pub fn question_octets(
     certificates: &[Vec<u8>],
 ) -> Result<Vec<u8>, MakeFault>
     // The octets are the one encoding of that question, which is within its limits.
-    ensures made { IfOk result (λ octets. octets.items ≡ questions.encoding (asked_in words.now (map (λ c. c.items) certificates.now))) }
-    ensures fits { IfOk result (λ _. questions.Fits (asked_in words.now (map (λ c. c.items) certificates.now))) }
+    ensures made { IfOk result (λ octets. octets.items
+        ≡ questions.encoding (asked_in words.now (map (λ c. c.items) certificates.now))) }
+    ensures fits { IfOk result (λ _. questions.Fits
+        (asked_in words.now (map (λ c. c.items) certificates.now))) }
     // It is refused where it is outside its limits, and else only memory is wanting.
     ensures refused { IfErr result (λ fault. (fault ≡ Memory)
-        ⊎ ((fault ≡ OutOfLimits) × (questions.is_within (asked_in words.now (map (λ c. c.items) certificates.now)) ≡ false))) }
+        ⊎ ((fault ≡ OutOfLimits) × (questions.is_within
+        (asked_in words.now (map (λ c. c.items) certificates.now)) ≡ false))) }
 {
     let terms = terms_in(alloc, &words.terms)?;
     let copies = copy_files(alloc, certificates)?;
@@ -228,7 +239,8 @@ pub fn question_octets(
     }
 }
 
-/// The name of an anchor or a list: the SHA-256 of its octets in lower-case hexadecimal digits, by which the store knows it.
+/// The name of an anchor or a list: the SHA-256 of its octets in lower-case hexadecimal digits, by
+/// which the store knows it.
 ///
 /// # Errors
 ///

@@ -108,8 +108,8 @@ impl From<clap::Error> for CommandFault {
     }
 }
 
-/// Prints why there is no task, and returns the status to end with: 2 for a wrong command line, 0 for help that was
-/// asked for and could be printed, and else 1.
+/// Prints why there is no task, and returns the status to end with: 2 for a wrong command line, 0
+/// for help that was asked for and could be printed, and else 1.
 pub fn report(rt: &(impl Eprint + Print), fault: &CommandFault) -> u8
     ensures { EndsWith fault.now result }
 {

@@ -6,7 +6,8 @@
 //! let octets = question_octets(alloc, &words, &certificates)?;          // the one encoding of the question
 //! ```
 //!
-//! There are three command lines, each of one level, so that the parser's contracts say all of it: the program's own, that of
+//! There are three command lines, each of one level, so that the parser's contracts say all of it:
+//! the program's own, that of
 //! `trustd command` and that of `trustd question`. The second word says whose words these are. No file is read here, no id is
 //! drawn, and no connection is made.
 //!
@@ -19,8 +20,9 @@
 //! | [`id_text`] | the SHA-256 in lower-case hexadecimal digits, by which a store knows an anchor or a list |
 //! | [`address_of`] | the host and the port, exactly where a text is an address |
 //!
-//! Gaps. No clause says that words whose values are all right have a task, but for `trustd lab`: that is tested. Nor is there one
-//! for the text of help and of errors, nor for which words a process has: of [`task_of_process`] only `ranges` is promised.
+//! Gaps. No clause says that words whose values are all right have a task, but for `trustd lab`:
+//! that is tested. Nor is there one for the text of help and of errors, nor for which words a
+//! process has: of [`task_of_process`] only `ranges` is promised.
 //!
 //! Memory that is refused is answered as `Memory` or `AllocError`.
 #![tactic(auto)]

@@ -14,14 +14,16 @@ use std::alloc::{AllocError, Global};
 
 /// The value of an argument, if it has one.
 pub(crate) fn value_at<'a>(matches: &ArgMatches<'a>, id: &str) -> Option<&'a str>
-    ensures { option_map (λ text. text.now) result ≡ first_of id.now (rows_of (found_of matches.now)) }
+    ensures { option_map (λ text. text.now) result
+        ≡ first_of id.now (rows_of (found_of matches.now)) }
 {
     matches.get_str(id)
 }
 
 /// The value of an argument.
 pub(crate) fn text_at<'a>(matches: &ArgMatches<'a>, id: &str) -> Result<&'a str, CommandFault>
-    ensures { IfOk result (λ text. first_of id.now (rows_of (found_of matches.now)) ≡ Some text.now) }
+    ensures { IfOk result (λ text. first_of id.now (rows_of (found_of matches.now))
+        ≡ Some text.now) }
 {
     match value_at(matches, id) {
         Some(text) => Ok(text),
@@ -35,7 +37,8 @@ pub(crate) fn string_at(
     matches: &ArgMatches<'_>,
     id: &str,
 ) -> Result<String, CommandFault>
-    ensures { IfOk result (λ text. first_of id.now (rows_of (found_of matches.now)) ≡ Some (string_bytes text)) }
+    ensures { IfOk result (λ text. first_of id.now (rows_of (found_of matches.now))
+        ≡ Some (string_bytes text)) }
 {
     let text = text_at(matches, id)?;
     Ok(String::from_str(alloc, text)?)
@@ -47,7 +50,8 @@ pub(crate) fn optional_string_at(
     matches: &ArgMatches<'_>,
     id: &str,
 ) -> Result<Option<String>, AllocError>
-    ensures { IfOk result (λ text. first_of id.now (rows_of (found_of matches.now)) ≡ option_map string_bytes text) }
+    ensures { IfOk result (λ text. first_of id.now (rows_of (found_of matches.now))
+        ≡ option_map string_bytes text) }
 {
     match value_at(matches, id) {
         Some(text) => Ok(Some(String::from_str(alloc, text)?)),
@@ -61,7 +65,8 @@ pub(crate) fn address_at(
     matches: &ArgMatches<'_>,
     id: &str,
 ) -> Result<String, CommandFault>
-    ensures given { IfOk result (λ text. first_of id.now (rows_of (found_of matches.now)) ≡ Some (string_bytes text)) }
+    ensures given { IfOk result (λ text. first_of id.now (rows_of (found_of matches.now))
+        ≡ Some (string_bytes text)) }
     ensures address { IfOk result (λ text. IsAddressed (string_bytes text)) }
 {
     let text = text_at(matches, id)?;
@@ -100,14 +105,16 @@ pub(crate) fn is_set(matches: &ArgMatches<'_>, id: &str) -> bool
 
 /// All values of an argument.
 pub(crate) fn values_at<'m, 'a>(matches: &'m ArgMatches<'a>, id: &str) -> Option<&'m [&'a str]>
-    ensures { option_map (λ texts. map (λ text. text.now) texts.now) result ≡ all_of id.now (rows_of (found_of matches.now)) }
+    ensures { option_map (λ texts. map (λ text. text.now) texts.now) result
+        ≡ all_of id.now (rows_of (found_of matches.now)) }
 {
     matches.get_strs(id)
 }
 
 /// Texts, kept.
 fn strings(alloc: Global, texts: &[&str]) -> Result<Vec<String>, AllocError>
-    ensures { IfOk result (λ strings. map string_bytes strings.items ≡ map (λ text. text.now) texts.now) }
+    ensures { IfOk result (λ strings. map string_bytes strings.items
+        ≡ map (λ text. text.now) texts.now) }
 {
     let mut strings = Vec::new(alloc);
     for text in texts {
@@ -122,7 +129,8 @@ pub(crate) fn strings_at(
     matches: &ArgMatches<'_>,
     id: &str,
 ) -> Result<Vec<String>, AllocError>
-    ensures { IfOk result (λ strings. map string_bytes strings.items ≡ all_at id.now (rows_of (found_of matches.now))) }
+    ensures { IfOk result (λ strings. map string_bytes strings.items
+        ≡ all_at id.now (rows_of (found_of matches.now))) }
 {
     match values_at(matches, id) {
         Some(texts) => strings(alloc, texts),

@@ -42,7 +42,8 @@ pub(crate) fn oids_at(
     matches: &ArgMatches<'_>,
     id: &str,
 ) -> Result<Vec<Oid>, CommandFault>
-    ensures { IfOk result (λ oids. map written oids.items ≡ all_at id.now (rows_of (found_of matches.now))) }
+    ensures { IfOk result (λ oids. map written oids.items
+        ≡ all_at id.now (rows_of (found_of matches.now))) }
 {
     match values_at(matches, id) {
         Some(texts) => oids_of(alloc, texts),

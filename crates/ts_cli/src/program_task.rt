@@ -45,7 +45,9 @@ fn migrate(alloc: Global, matches: &ArgMatches<'_>) -> Result<Task, CommandFault
 
 /// How many connections to take, which need not be given.
 fn connections(matches: &ArgMatches<'_>) -> Result<u32, CommandFault>
-    ensures { IfOk result (λ n. MatchOption (first_of (codes "connections") (rows_of (found_of matches.now))) (n ≡ 1000000) (λ text. IsNumberIn 1 1000000 text n)) }
+    ensures { IfOk result (λ n. MatchOption
+        (first_of (codes "connections") (rows_of (found_of matches.now))) (n ≡ 1000000)
+        (λ text. IsNumberIn 1 1000000 text n)) }
 {
     let Some(text) = value_at(matches, "connections") else {
         return Ok(MANY);

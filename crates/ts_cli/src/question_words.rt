@@ -66,7 +66,8 @@ fn moment_at(matches: &ArgMatches<'_>) -> Result<i64, CommandFault>
 }
 
 fn position_at(matches: &ArgMatches<'_>) -> Result<Option<u32>, CommandFault>
-    ensures { IfOk result (AsWritten (IsNumberIn 0 1000000) (first_of (codes "k") (rows_of (found_of matches.now)))) }
+    ensures { IfOk result (AsWritten (IsNumberIn 0 1000000)
+        (first_of (codes "k") (rows_of (found_of matches.now)))) }
 {
     let Some(text) = value_at(matches, "k") else {
         return Ok(None);
@@ -90,7 +91,9 @@ fn flags_in(matches: &ArgMatches<'_>) -> Flags
 }
 
 fn policies_at(alloc: Global, matches: &ArgMatches<'_>) -> Result<Oids, CommandFault>
-    ensures { IfOk result (λ oids. (map written oids ≡ all_at (codes "policy") (rows_of (found_of matches.now))) × (length oids ≤ 32)) }
+    ensures { IfOk result (λ oids.
+        (map written oids ≡ all_at (codes "policy") (rows_of (found_of matches.now)))
+        × (length oids ≤ 32)) }
 {
     let oids = oids_at(alloc, matches, "policy")?;
     if oids.len() > MAX_POLICIES {
@@ -113,7 +116,9 @@ fn terms_at(alloc: Global, matches: &ArgMatches<'_>) -> Result<TermWords, Comman
 
 /// The files of a chain.
 fn chain_files(alloc: Global, matches: &ArgMatches<'_>) -> Result<Vec<String>, CommandFault>
-    ensures { IfOk result (λ files. AreFiles 16 (all_at (codes "certificates") (rows_of (found_of matches.now))) (map string_bytes files.items)) }
+    ensures { IfOk result (λ files. AreFiles 16
+        (all_at (codes "certificates") (rows_of (found_of matches.now)))
+        (map string_bytes files.items)) }
 {
     let files = strings_at(alloc, matches, "certificates")?;
     if files.is_empty() || files.len() > MAX_CHAIN {
@@ -124,7 +129,8 @@ fn chain_files(alloc: Global, matches: &ArgMatches<'_>) -> Result<Vec<String>, C
 
 /// The files of a search.
 fn search_files(alloc: Global, matches: &ArgMatches<'_>) -> Result<Vec<String>, CommandFault>
-    ensures { IfOk result (λ files. IsSearched (rows_of (found_of matches.now)) (map string_bytes files.items)) }
+    ensures { IfOk result (λ files. IsSearched (rows_of (found_of matches.now))
+        (map string_bytes files.items)) }
 {
     let leaf = string_at(alloc, matches, "leaf")?;
     let mut files = strings_at(alloc, matches, "pool")?;

@@ -21,7 +21,8 @@ fn number_of(text: &str) -> Option<u32>
 
 /// The number that a text writes, where it is from `least` to `most`.
 pub(crate) fn number_in(text: &str, least: u32, most: u32) -> Option<u32>
-    ensures { MatchOption result ((n : ℕ) → ¬ (IsNumberIn least most text.now n)) (IsNumberIn least most text.now) }
+    ensures { MatchOption result ((n : ℕ) → ¬ (IsNumberIn least most text.now n))
+        (IsNumberIn least most text.now) }
 {
     let number = number_of(text)?;
     if number < least || most < number {
@@ -30,10 +31,12 @@ pub(crate) fn number_in(text: &str, least: u32, most: u32) -> Option<u32>
     Some(number)
 }
 
-/// The host and the port of an address: a host, which is not empty and has no colon, a colon, and a port of 0 to 65,535 in
-/// decimal without leading zeros. `None` exactly where the text is no address.
+/// The host and the port of an address: a host, which is not empty and has no colon, a colon, and a
+/// port of 0 to 65,535 in decimal without leading zeros. `None` exactly where the text is no
+/// address.
 pub fn address_of(text: &str) -> Option<(&str, u16)>
-    ensures { MatchOption result ((host : List ℕ) (port : ℕ) → ¬ (IsAddress text.now host port)) (λ found. IsAddress text.now found.0.now found.1) }
+    ensures { MatchOption result ((host : List ℕ) (port : ℕ) → ¬ (IsAddress text.now host port))
+        (λ found. IsAddress text.now found.0.now found.1) }
 {
     let (host, port) = text.split_once(COLON)?;
     if host.is_empty() {
@@ -43,11 +46,12 @@ pub fn address_of(text: &str) -> Option<(&str, u16)>
     Some((host, port as u16))
 }
 
-/// Writes the octets that a text writes in lower-case hexadecimal digits, if it writes so many; else the octets are left as
-/// they may be. There is room for the digits.
+/// Writes the octets that a text writes in lower-case hexadecimal digits, if it writes so many;
+/// else the octets are left as they may be. There is room for the digits.
 fn hex_into(text: &str, octets: &mut [u8], digits: &mut [u8]) -> bool
     requires { length digits.now ≡ 2 * length octets.now }
-    ensures { MatchBool result (IsHex (length octets.old) text.now octets.new) ((xs : List ℕ) → ¬ (IsHex (length octets.old) text.now xs)) }
+    ensures { MatchBool result (IsHex (length octets.old) text.now octets.new)
+        ((xs : List ℕ) → ¬ (IsHex (length octets.old) text.now xs)) }
 {
     if hex::decode_to_slice(text, octets).is_err() {
         return false;
@@ -60,7 +64,8 @@ fn hex_into(text: &str, octets: &mut [u8], digits: &mut [u8]) -> bool
 
 /// The 32 octets that a text writes in lower-case hexadecimal digits.
 pub(crate) fn digest_of(text: &str) -> Option<[u8; 32]>
-    ensures { MatchOption result ((octets : List ℕ) → ¬ (IsHex 32 text.now octets)) (IsHex 32 text.now) }
+    ensures { MatchOption result ((octets : List ℕ) → ¬ (IsHex 32 text.now octets))
+        (IsHex 32 text.now) }
 {
     let mut octets = [0; 32];
     if hex_into(text, &mut octets, &mut [0; 64]) {
@@ -72,7 +77,8 @@ pub(crate) fn digest_of(text: &str) -> Option<[u8; 32]>
 
 /// The 16 octets that a text writes in lower-case hexadecimal digits.
 pub(crate) fn id_of(text: &str) -> Option<[u8; 16]>
-    ensures { MatchOption result ((octets : List ℕ) → ¬ (IsHex 16 text.now octets)) (IsHex 16 text.now) }
+    ensures { MatchOption result ((octets : List ℕ) → ¬ (IsHex 16 text.now octets))
+        (IsHex 16 text.now) }
 {
     let mut octets = [0; 16];
     if hex_into(text, &mut octets, &mut [0; 32]) {

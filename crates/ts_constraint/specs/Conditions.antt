@@ -1,5 +1,7 @@
--- The conditions that sources of constraints put on the names of a certificate (RFC 5280 4.2.1.10, 6.1.3 (b) and (c)).
-use Rattle.std.specs.Prelude.{◌≡◌, Bool, true, false, List, [], ◌∷◌, ◌++◌, ◌⊎◌, Option, Some, None, Result, Ok, Err}
+-- The conditions that sources of constraints put on the names of a certificate (RFC 5280 4.2.1.10,
+-- 6.1.3 (b) and (c)).
+use Rattle.std.specs.Prelude.{◌≡◌, Bool, true, false, List, [], ◌∷◌, ◌++◌, ◌⊎◌, Option, Some, None}
+use Rattle.std.specs.Prelude.{Result, Ok, Err}
 use Rattle.std.specs.List.{AllByRecursion}
 use Rattle.ts_name.specs.General.{GeneralName}
 use Rattle.ts_name.specs.Holds.{Holds}
@@ -7,9 +9,11 @@ use Rattle.ts_name.specs.Sameness.{canon_name}
 use Rattle.ts_cert.specs.Certificate.{Tbs}
 use Rattle.ts_constraint.specs.declared.form.Form.{Form}
 use Rattle.ts_constraint.specs.declared.fault.NameFault.{NameFault}
-use Rattle.ts_constraint.specs.declared.fault.NameFault.TheVariants.{Unsupported, NotPermitted, Excluded}
+use Rattle.ts_constraint.specs.declared.fault.NameFault.TheVariants.{Unsupported, NotPermitted}
+use Rattle.ts_constraint.specs.declared.fault.NameFault.TheVariants.{Excluded}
 use Rattle.ts_constraint.specs.declared.condition.Condition.{Condition}
-use Rattle.ts_constraint.specs.declared.condition.Condition.TheVariants.{Supported, Permitted, NotExcluded}
+use Rattle.ts_constraint.specs.declared.condition.Condition.TheVariants.{Supported, Permitted}
+use Rattle.ts_constraint.specs.declared.condition.Condition.TheVariants.{NotExcluded}
 use Rattle.ts_constraint.specs.Names.{form_of, is_processed}
 use Rattle.ts_constraint.specs.Source.{Source}
 
@@ -28,11 +32,15 @@ HasForm name base = form_of base ≡ form_of name
 
 -- what it means that a name does not meet a condition of a source:
 abbrev pub FailsAt : Condition → GeneralName → Source → Type 0
--- the source has a subtree of the name's form, which this profile does not process, so that the certificate has to be refused (4.2.1.10)
-FailsAt Supported name source = (is_processed (form_of name) ≡ false) × Some_of (HasForm name) (source.permitted ++ source.excluded)
--- the source permits subtrees of the name's form, which is processed, and the name lies in none of them (6.1.3 (b))
+-- the source has a subtree of the name's form, which this profile does not process, so that the
+-- certificate has to be refused (4.2.1.10)
+FailsAt Supported name source = (is_processed (form_of name) ≡ false)
+    × Some_of (HasForm name) (source.permitted ++ source.excluded)
+-- the source permits subtrees of the name's form, which is processed, and the name lies in none of
+-- them (6.1.3 (b))
 FailsAt Permitted name source =
-    (is_processed (form_of name) ≡ true) × Some_of (HasForm name) source.permitted × None_of (λ base. Holds base name) source.permitted
+    (is_processed (form_of name) ≡ true) × Some_of (HasForm name) source.permitted
+    × None_of (λ base. Holds base name) source.permitted
 -- the name lies in a subtree that the source excludes (6.1.3 (c))
 FailsAt NotExcluded name source = Some_of (λ base. Holds base name) source.excluded
 
@@ -55,7 +63,8 @@ abbrev pub AreNotExcluded : List Source → List GeneralName → Type 0
 AreNotExcluded sources names = Meets NotExcluded sources names
 
 -- the first name that does not meet a condition, by its form
-pub record FailsFirst (condition : Condition) (sources : List Source) (names : List GeneralName) (form : Form) : Type 0 where
+pub record FailsFirst (condition : Condition) (sources : List Source) (names : List GeneralName)
+    (form : Form) : Type 0 where
   pub before : List GeneralName
   pub name : GeneralName
   pub rest : List GeneralName
@@ -64,14 +73,19 @@ pub record FailsFirst (condition : Condition) (sources : List Source) (names : L
   pub fails : Fails condition sources name
   pub form_is : form ≡ form_of name
 
--- all three conditions are met, or the fault is the least that is not, with the form of the first name that does not meet it
+-- all three conditions are met, or the fault is the least that is not, with the form of the first
+-- name that does not meet it
 abbrev pub IsAnswer : List Source → List GeneralName → Result (Unit {0}) NameFault → Type 0
-IsAnswer sources names (Ok _) = Meets Supported sources names × Meets Permitted sources names × Meets NotExcluded sources names
+IsAnswer sources names (Ok _) = Meets Supported sources names × Meets Permitted sources names
+    × Meets NotExcluded sources names
 IsAnswer sources names (Err (Unsupported form)) = FailsFirst Supported sources names form
-IsAnswer sources names (Err (NotPermitted form)) = Meets Supported sources names × FailsFirst Permitted sources names form
-IsAnswer sources names (Err (Excluded form)) = Meets Supported sources names × Meets Permitted sources names × FailsFirst NotExcluded sources names form
+IsAnswer sources names (Err (NotPermitted form)) =
+    Meets Supported sources names × FailsFirst Permitted sources names form
+IsAnswer sources names (Err (Excluded form)) = Meets Supported sources names
+    × Meets Permitted sources names × FailsFirst NotExcluded sources names form
 
--- constraints do not bear on a self-issued certificate, unless it is the last of the chain (6.1.3 (b), (c))
+-- constraints do not bear on a self-issued certificate, unless it is the last of the chain (6.1.3
+-- (b), (c))
 abbrev pub IsExempt : Tbs → Bool → Type 0
 IsExempt t last = (last ≡ false) × (canon_name t.issuer ≡ canon_name t.subject)
 

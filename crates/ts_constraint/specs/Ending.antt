@@ -6,7 +6,8 @@ use Rattle.ts_constraint.specs.declared.ending.Ending.{Ending}
 -- a text from its end on, the letters A to Z as a to z, and then a dot where there is one before it
 abbrev pub backwards : List ℕ → Bool → List ℕ
 backwards [] dotted = cond dotted (46 ∷ []) []
-backwards (octet ∷ rest) dotted = backwards rest false ++ to_ascii_lowercase octet ∷ cond dotted (46 ∷ []) []
+backwards (octet ∷ rest) dotted =
+    backwards rest false ++ to_ascii_lowercase octet ∷ cond dotted (46 ∷ []) []
 
 -- of an ending in memory
 abbrev pub octets : Ending → List ℕ

@@ -1,15 +1,23 @@
--- The names that a certificate shows (RFC 5280 4.2.1.6, 4.2.1.10), in order, and the forms of names.
-use Rattle.std.specs.Prelude.{ℕ, ◌==◌, Bool, true, false, List, [], ◌∷◌, ◌++◌, map, filter, Option, Some, None}
+-- The names that a certificate shows (RFC 5280 4.2.1.6, 4.2.1.10), in order, and the forms of
+-- names.
+use Rattle.std.specs.Prelude.{ℕ, ◌==◌, Bool, true, false, List, [], ◌∷◌, ◌++◌, map, filter, Option}
+use Rattle.std.specs.Prelude.{Some, None}
 use Rattle.std.specs.List.{flat_map}
 use Rattle.std.specs.Str.{bytes_eq}
 use Rattle.ts_name.specs.Canon.{Attr}
-use Rattle.ts_name.specs.General.{GeneralName, otherName, rfc822Name, dNSName, x400Address, directoryName, ediPartyName, uniformResourceIdentifier, iPAddress, registeredID}
+use Rattle.ts_name.specs.General.{GeneralName, otherName, rfc822Name, dNSName, x400Address}
+use Rattle.ts_name.specs.General.{directoryName, ediPartyName, uniformResourceIdentifier, iPAddress}
+use Rattle.ts_name.specs.General.{registeredID}
 use Rattle.ts_ext.specs.declared.known.Known.TheVariants.{SubjectAltName}
 use Rattle.ts_ext.specs.GeneralNames.{general_names_of}
 use Rattle.ts_cert.specs.Certificate.{Tbs}
 use Rattle.ts_cert.specs.Stated.{stated}
 use Rattle.ts_constraint.specs.declared.form.Form.{Form}
-use Rattle.ts_constraint.specs.declared.form.Form.TheVariants.{OtherName, Rfc822Name, DnsName, X400Address, DirectoryName, EdiPartyName, UniformResourceIdentifier, IpAddress, RegisteredId}
+use Rattle.ts_constraint.specs.declared.form.Form.TheVariants.{OtherName, Rfc822Name, DnsName}
+use Rattle.ts_constraint.specs.declared.form.Form.TheVariants.{X400Address, DirectoryName}
+use Rattle.ts_constraint.specs.declared.form.Form.TheVariants.{EdiPartyName}
+use Rattle.ts_constraint.specs.declared.form.Form.TheVariants.{UniformResourceIdentifier, IpAddress}
+use Rattle.ts_constraint.specs.declared.form.Form.TheVariants.{RegisteredId}
 
 -- the form of a name, one of nine (4.2.1.6)
 abbrev pub form_of : GeneralName → Form
@@ -36,7 +44,8 @@ email_address = 0x2A ∷ 0x86 ∷ 0x48 ∷ 0x86 ∷ 0xF7 ∷ 0x0D ∷ 0x01 ∷ 0
 
 -- the mail addresses in a distinguished name, in order (4.1.2.6)
 abbrev pub addresses_of : List Attr → List GeneralName
-addresses_of attributes = map (λ a. rfc822Name a.value) (filter (λ a. bytes_eq a.kind email_address) attributes)
+addresses_of attributes = map (λ a. rfc822Name a.value)
+    (filter (λ a. bytes_eq a.kind email_address) attributes)
 
 -- a subject counts as a directory name unless it is empty
 abbrev pub subject_names : List (List Attr) → List GeneralName
@@ -48,6 +57,8 @@ abbrev pub alternatives : List (List Attr) → Option (List GeneralName) → Lis
 alternatives subject None = addresses_of (flat_map (λ rdn. rdn) subject)
 alternatives subject (Some names) = names
 
--- the names that a certificate shows: its subject, the mail addresses there, and the names of subjectAltName
+-- the names that a certificate shows: its subject, the mail addresses there, and the names of
+-- subjectAltName
 abbrev pub names_of : Tbs → List GeneralName
-names_of t = subject_names t.subject ++ alternatives t.subject (stated SubjectAltName general_names_of t)
+names_of t = subject_names t.subject
+    ++ alternatives t.subject (stated SubjectAltName general_names_of t)

@@ -14,9 +14,11 @@ use Rattle.ts_constraint.specs.View.{bases_in}
 abbrev pub LiesIn : List ℕ → List GeneralName → Type 0
 LiesIn address bases = Some_of (λ base. Holds base (iPAddress address)) bases
 
--- an address of this length has the bits of one of these ranges exactly where it lies in one of the bases
+-- an address of this length has the bits of one of these ranges exactly where it lies in one of the
+-- bases
 abbrev pub AreRangesOf : ℕ → List Masked → List GeneralName → Type 0
-AreRangesOf size ranges bases = (address : List ℕ) → AreOctets address → length address ≡ size → IsTrue (is_in_one ranges (number address)) ↔ LiesIn address bases
+AreRangesOf size ranges bases = (address : List ℕ) → AreOctets address → length address ≡ size
+    → IsTrue (is_in_one ranges (number address)) ↔ LiesIn address bases
 
 -- the address of neither version of IP
 abbrev pub IsOtherLength : List ℕ → Type 0
@@ -24,7 +26,8 @@ IsOtherLength address = (length address ≡ 4 → ⊥) × (length address ≡ 16
 
 -- these bases are enough for such addresses
 abbrev pub AreOtherRanges : List GeneralName → List GeneralName → Type 0
-AreOtherRanges some bases = (address : List ℕ) → IsOtherLength address → LiesIn address some ↔ LiesIn address bases
+AreOtherRanges some bases = (address : List ℕ) → IsOtherLength address
+    → LiesIn address some ↔ LiesIn address bases
 
 pub record AreRanges (ranges : Ranges) (bases : List GeneralName) : Type 0 where
   pub short_are : AreRangesOf 4 (map widened ranges.short.items) bases

@@ -1,5 +1,6 @@
 -- Addresses that are looked up among ranges, each as one number.
-use Rattle.std.specs.Prelude.{◌≡◌, ℕ, ◌+◌, ◌*◌, ◌^◌, ◌<◌, ◌==◌, Bool, true, false, List, [], ◌∷◌, Option, Some, None, bit_and}
+use Rattle.std.specs.Prelude.{◌≡◌, ℕ, ◌+◌, ◌*◌, ◌^◌, ◌<◌, ◌==◌, Bool, true, false, List, [], ◌∷◌}
+use Rattle.std.specs.Prelude.{Option, Some, None, bit_and}
 use Rattle.std.specs.List.{list_any}
 use Rattle.ts_constraint.specs.declared.masked.Masked.{Masked}
 

@@ -1,4 +1,5 @@
--- A source of constraints (RFC 5280 6.1.1 (h) and (i), 6.1.4 (g)): the subtrees that it permits and those that it excludes.
+-- A source of constraints (RFC 5280 6.1.1 (h) and (i), 6.1.4 (g)): the subtrees that it permits and
+-- those that it excludes.
 use Rattle.std.specs.Prelude.{List, [], map, Option, Some, None}
 use Rattle.ts_name.specs.General.{GeneralName}
 use Rattle.ts_name.specs.Subtree.{GeneralSubtree}
@@ -23,7 +24,10 @@ bases_if (Some subtrees) = bases subtrees
 -- what the extension nameConstraints says, which is nothing where it is absent
 abbrev pub source_if : Option Constraints → Source
 source_if None = record { permitted = []; excluded = [] }
-source_if (Some c) = record { permitted = bases_if c.permittedSubtrees; excluded = bases_if c.excludedSubtrees }
+source_if (Some c) = record {
+  permitted = bases_if c.permittedSubtrees;
+  excluded = bases_if c.excludedSubtrees;
+}
 
 -- what a certificate asks of the names of those that follow it
 abbrev pub source_of : Tbs → Source

@@ -10,4 +10,5 @@ bases_in subtrees = map (λ s. (subtree_in s).base) subtrees
 
 -- a source that has these subtrees
 abbrev pub AreBases : Source → List Subtree → List Subtree → Type 0
-AreBases source permitted excluded = source ≡ record { permitted = bases_in permitted; excluded = bases_in excluded }
+AreBases source permitted excluded =
+    source ≡ record { permitted = bases_in permitted; excluded = bases_in excluded }

@@ -1,6 +1,7 @@
 //! All sources of constraints above a certificate.
 
-ghost use Rattle.std.specs.Prelude.{◌≡◌, ◌↔◌, ◌++◌, ◌∷◌, [], IsTrue, IfOk, OnOk, OnErr, Ok, List, map};
+ghost use Rattle.std.specs.Prelude.{◌≡◌, ◌↔◌, ◌++◌, ◌∷◌, [], IsTrue, IfOk, OnOk, OnErr, Ok, List};
+ghost use Rattle.std.specs.Prelude.{map};
 ghost use Rattle.std.specs.List.{flat_map};
 ghost use Rattle.std.specs.Str.{bytes_eq};
 ghost use Rattle.ts_name.specs.GeneralView.{general_in};
@@ -25,7 +26,8 @@ use ts_cert::Cert;
 use ts_ext::AlternativeNames;
 use ts_name::{Attribute, General, Name, Rdn, Subtree};
 
-/// The sources of constraints above a certificate: those of the question, and those of each certificate above it, in order.
+/// The sources of constraints above a certificate: those of the question, and those of each
+/// certificate above it, in order.
 #[derive(Drop)]
 pub struct Bounds<'a> {
     alloc: Global,
@@ -42,24 +44,26 @@ impl<'a> Model for Bounds<'a> {
 }
 
 impl<'a> Bounds<'a> {
-    /// The bounds of a question: its permitted and its excluded subtrees are the one source (RFC 5280 6.1.1 (h), (i)). The
-    /// error is that memory ran out.
+    /// The bounds of a question: its permitted and its excluded subtrees are the one source (RFC
+    /// 5280 6.1.1 (h), (i)). The error is that memory ran out.
     pub fn initial(
         alloc: Global,
         permitted: &[Subtree<'a>],
         excluded: &[Subtree<'a>],
     ) -> Result<Self, AllocError>
-        ensures { IfOk result (λ b. b ≡ record { permitted = bases_in permitted.now; excluded = bases_in excluded.now } ∷ []) }
+        ensures { IfOk result (λ b. b ≡ record
+            { permitted = bases_in permitted.now; excluded = bases_in excluded.now } ∷ []) }
     {
         let mut sources = Vec::new(alloc);
         sources.push(Source::new(alloc, permitted, excluded)?)?;
         Ok(Bounds { alloc, sources })
     }
 
-    /// Adds what a certificate asks of the names of those that follow it (RFC 5280 6.1.4 (g)). Where memory runs out, the
-    /// bounds stay as they were.
+    /// Adds what a certificate asks of the names of those that follow it (RFC 5280 6.1.4 (g)).
+    /// Where memory runs out, the bounds stay as they were.
     pub fn narrow(&mut self, cert: &Cert<'a>) -> Result<(), AllocError>
-        ensures ok { OnOk result (self.new ≡ self.old ++ source_of (cert_in cert.now).tbsCertificate ∷ []) }
+        ensures ok { OnOk result (self.new
+            ≡ self.old ++ source_of (cert_in cert.now).tbsCertificate ∷ []) }
         ensures err { OnErr result (self.new ≡ self.old) }
     {
         let source = Source::of(self.alloc, cert)?;
@@ -67,18 +71,21 @@ impl<'a> Bounds<'a> {
         Ok(())
     }
 
-    /// Whether the names of a certificate, which is the last of its chain or not, meet the conditions of every source
-    /// (RFC 5280 6.1.3 (b) and (c)). It takes memory only for the canonical form of a directory name, for as long as that is
-    /// looked up; where there is none, it compares the name with each subtree, which takes longer and answers the same.
+    /// Whether the names of a certificate, which is the last of its chain or not, meet the
+    /// conditions of every source (RFC 5280 6.1.3 (b) and (c)). It takes memory only for the
+    /// canonical form of a directory name, for as long as that is looked up; where there is none,
+    /// it compares the name with each subtree, which takes longer and answers the same.
     ///
     /// # Errors
     ///
-    /// The least condition that a name does not meet, with the form of the first name that does not meet it: the subject
-    /// comes first, then the mail addresses in it, which count where there is no subjectAltName, then the names of that
-    /// extension. A self-issued certificate that is not the last is not looked at.
+    /// The least condition that a name does not meet, with the form of the first name that does not
+    /// meet it: the subject comes first, then the mail addresses in it, which count where there is
+    /// no subjectAltName, then the names of that extension. A self-issued certificate that is not
+    /// the last is not looked at.
     pub fn check(&self, cert: &Cert<'_>, last: bool) -> Result<(), NameFault>
         ensures exempt { IsExempt (cert_in cert.now).tbsCertificate last → result ≡ Ok tt }
-        ensures checked { ¬ (IsExempt (cert_in cert.now).tbsCertificate last) → IsAnswer self.now (names_of (cert_in cert.now).tbsCertificate) result }
+        ensures checked { ¬ (IsExempt (cert_in cert.now).tbsCertificate last)
+            → IsAnswer self.now (names_of (cert_in cert.now).tbsCertificate) result }
     {
         if is_exempt(cert, last) {
             return Ok(());
@@ -157,7 +164,8 @@ impl<'a> Bounds<'a> {
 
     /// The form of a mail address, if one in the subject does not meet a condition.
     fn first_of_addresses(&self, condition: Condition, subject: Name<'_>) -> Option<Form>
-        ensures { IsFirst condition self.now (addresses_of (flat_map (λ rdn. rdn) (rdns_in subject.entry))) result }
+        ensures { IsFirst condition self.now
+            (addresses_of (flat_map (λ rdn. rdn) (rdns_in subject.entry))) result }
     {
         for rdn in subject.rdns() {
             if let Some(form) = self.first_of_rdn(condition, rdn) {
@@ -167,7 +175,8 @@ impl<'a> Bounds<'a> {
         None
     }
 
-    /// The form of a mail address, if one in a relative distinguished name does not meet a condition.
+    /// The form of a mail address, if one in a relative distinguished name does not meet a
+    /// condition.
     fn first_of_rdn(&self, condition: Condition, rdn: Rdn<'_>) -> Option<Form>
         ensures { IsFirst condition self.now (addresses_of (attributes_in rdn.entry)) result }
     {

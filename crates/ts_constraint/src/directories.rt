@@ -26,7 +26,8 @@ pub(crate) struct Directories<'a> {
 impl<'a> Directories<'a> {
     /// The table of these names, without each that begins with another.
     pub(crate) fn new(names: Vec<Directory<'a>>) -> Self
-        ensures { (name : List (List CanonAttr)) → has_directory result.entries.items name ≡ has_directory names.entry.items name }
+        ensures { (name : List (List CanonAttr))
+            → has_directory result.entries.items name ≡ has_directory names.entry.items name }
     {
         let mut entries = names;
         entries.sort_unstable_by(|a, b| a.order(b));
@@ -34,15 +35,19 @@ impl<'a> Directories<'a> {
         Directories { entries }
     }
 
-    /// The table of the distinguished names among the bases of subtrees. The error is that memory ran out.
+    /// The table of the distinguished names among the bases of subtrees. The error is that memory
+    /// ran out.
     pub(crate) fn of(alloc: Global, subtrees: &[Subtree<'a>]) -> Result<Self, AllocError>
-        ensures { IfOk result (λ t. (name : List (List Attr)) → IsTrue (has_directory t.entries.items (canon_name name)) ↔ Some_of (λ base. Holds base (directoryName name)) (bases_in subtrees.now)) }
+        ensures { IfOk result (λ t. (name : List (List Attr))
+            → IsTrue (has_directory t.entries.items (canon_name name))
+            ↔ Some_of (λ base. Holds base (directoryName name)) (bases_in subtrees.now)) }
     {
         let names = gather(alloc, subtrees)?;
         Ok(Directories::new(names))
     }
 
-    /// Whether a name lies in the subtree of one of these. The steps grow with the logarithm of their number.
+    /// Whether a name lies in the subtree of one of these. The steps grow with the logarithm of
+    /// their number.
     pub(crate) fn has(&self, name: &Directory<'_>) -> bool
         ensures { result ≡ has_directory self.now.entries.items (form_in name.now) }
     {
@@ -54,7 +59,8 @@ impl<'a> Directories<'a> {
         is_front(entries[end - 1].name, name.name)
     }
 
-    /// Whether a name lies in the subtree of one of these, which are compared with it one by one. It takes no memory.
+    /// Whether a name lies in the subtree of one of these, which are compared with it one by one.
+    /// It takes no memory.
     pub(crate) fn has_one_by_one(&self, name: Name<'_>) -> bool
         ensures { result ≡ has_directory self.now.entries.items (canon_name (rdns_in name.entry)) }
     {

@@ -31,7 +31,8 @@ impl<'a> Directory<'a> {
 
     /// The order of two names in canonical form.
     pub(crate) fn order(&self, other: &Directory<'_>) -> Ordering
-        ensures { result ≡ slice_cmp compare_rdns (canon_name (rdns_in self.now.name)) (canon_name (rdns_in other.now.name)) }
+        ensures { result ≡ slice_cmp compare_rdns (canon_name (rdns_in self.now.name))
+            (canon_name (rdns_in other.now.name)) }
     {
         self.canon.cmp(&other.canon)
     }
@@ -39,7 +40,8 @@ impl<'a> Directory<'a> {
 
 /// Whether a name begins with the relative distinguished names of another.
 pub(crate) fn is_front(front: Name<'_>, name: Name<'_>) -> bool
-    ensures { result ≡ is_front compare_rdns (canon_name (rdns_in front.entry)) (canon_name (rdns_in name.entry)) }
+    ensures { result ≡ is_front compare_rdns (canon_name (rdns_in front.entry))
+        (canon_name (rdns_in name.entry)) }
 {
     name.within(front)
 }

@@ -8,7 +8,8 @@ ghost use Rattle.ts_constraint.specs.Fronts.{front_cmp};
 
 use std::cmp::Ordering;
 
-/// The octets of a text from its end on, the letters A to Z as a to z, and then a dot where there is one before it.
+/// The octets of a text from its end on, the letters A to Z as a to z, and then a dot where there
+/// is one before it.
 #[derive(Clone, Copy)]
 pub(crate) struct Ending<'a> {
     pub(crate) text: &'a [u8],
@@ -34,8 +35,8 @@ impl Ending<'_> {
         }
     }
 
-    /// The order of the octets and the first ones of another, as many as these are. `Equal` where these are the front of
-    /// those, `Greater` where they are more.
+    /// The order of the octets and the first ones of another, as many as these are. `Equal` where
+    /// these are the front of those, `Greater` where they are more.
     pub(crate) fn front_order(self, whole: Ending<'_>) -> Ordering
         ensures { result ≡ front_cmp nat_cmp (octets self.entry) (octets whole.entry) }
     {
@@ -52,7 +53,8 @@ impl Ending<'_> {
         Ordering::Equal
     }
 
-    /// The order of the octets of two endings: the first that differ decide, and a front is before the whole.
+    /// The order of the octets of two endings: the first that differ decide, and a front is before
+    /// the whole.
     pub(crate) fn order(self, other: Ending<'_>) -> Ordering
         ensures { result ≡ slice_cmp nat_cmp (octets self.entry) (octets other.entry) }
     {

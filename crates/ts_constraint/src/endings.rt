@@ -17,7 +17,8 @@ pub(crate) struct Endings<'a> {
 impl<'a> Endings<'a> {
     /// The table of these endings, without each of which another is the front.
     pub(crate) fn new(endings: Vec<Ending<'a>>) -> Self
-        ensures { (item : List ℕ) → has_front nat_cmp octets result.items.items item ≡ has_front nat_cmp octets endings.entry.items item }
+        ensures { (item : List ℕ) → has_front nat_cmp octets result.items.items item
+            ≡ has_front nat_cmp octets endings.entry.items item }
     {
         let mut items = endings;
         items.sort_unstable_by(|a, b| a.order(*b));
@@ -25,7 +26,8 @@ impl<'a> Endings<'a> {
         Endings { items }
     }
 
-    /// Whether one of the endings is the front of this one. The steps grow with the logarithm of their number.
+    /// Whether one of the endings is the front of this one. The steps grow with the logarithm of
+    /// their number.
     pub(crate) fn has_front(&self, item: Ending<'_>) -> bool
         ensures { result ≡ has_front nat_cmp octets self.now.items.items (octets item.entry) }
     {

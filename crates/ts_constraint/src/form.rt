@@ -39,7 +39,8 @@ impl Form {
         }
     }
 
-    /// Whether this profile processes constraints of this form: directory names, names of hosts and IP addresses.
+    /// Whether this profile processes constraints of this form: directory names, names of hosts and
+    /// IP addresses.
     pub fn is_processed(self) -> bool
         ensures { result ≡ is_processed self }
     {

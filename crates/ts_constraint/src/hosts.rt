@@ -1,12 +1,14 @@
 //! Names of hosts that are looked up among the domains of constraints.
 
-ghost use Rattle.std.specs.Prelude.{◌≡◌, ◌↔◌, ℕ, List, IsTrue, IfOk, map, option_map, option_to_list};
+ghost use Rattle.std.specs.Prelude.{◌≡◌, ◌↔◌, ℕ, List, IsTrue, IfOk, map, option_map};
+ghost use Rattle.std.specs.Prelude.{option_to_list};
 ghost use Rattle.ts_name.specs.General.{dNSName};
 ghost use Rattle.ts_name.specs.GeneralView.{general_in};
 ghost use Rattle.ts_name.specs.Holds.{Holds};
 ghost use Rattle.ts_constraint.specs.Conditions.{Some_of};
 ghost use Rattle.ts_constraint.specs.Ending.{octets};
-ghost use Rattle.ts_constraint.specs.Hosts.{domain_ending, domain_endings, dotted_ending, dotted_endings, has_host};
+ghost use Rattle.ts_constraint.specs.Hosts.{domain_ending, domain_endings, dotted_ending};
+ghost use Rattle.ts_constraint.specs.Hosts.{dotted_endings, has_host};
 ghost use Rattle.ts_constraint.specs.View.{bases_in};
 
 use crate::ending::Ending;
@@ -26,7 +28,9 @@ pub(crate) struct Hosts<'a> {
 impl<'a> Hosts<'a> {
     /// The domains among the bases of subtrees. The error is that memory ran out.
     pub(crate) fn new(alloc: Global, subtrees: &[Subtree<'a>]) -> Result<Self, AllocError>
-        ensures { IfOk result (λ h. (host : List ℕ) → IsTrue (has_host h host) ↔ Some_of (λ base. Holds base (dNSName host)) (bases_in subtrees.now)) }
+        ensures { IfOk result (λ h. (host : List ℕ)
+            → IsTrue (has_host h host) ↔ Some_of (λ base. Holds base (dNSName host))
+            (bases_in subtrees.now)) }
     {
         let domains = gather_domains(alloc, subtrees)?;
         let dotted = gather_dotted(alloc, subtrees)?;

@@ -1,4 +1,5 @@
-//! Name constraints (RFC 5280 4.2.1.10): the names of a certificate against every source of constraints above it.
+//! Name constraints (RFC 5280 4.2.1.10): the names of a certificate against every source of
+//! constraints above it.
 //!
 //! ```text
 //! let mut bounds = Bounds::initial(alloc, &permitted, &excluded)?;   // those of the question
@@ -8,12 +9,14 @@
 //! }
 //! ```
 //!
-//! Each source is put into tables once (`table`), when it is made: the ends of host names and the canonical forms of directory names
-//! in order, so that a name is found in a number of steps that grows with the logarithm of theirs; IP ranges as numbers, each of
-//! which is compared, since a mask may have its bits anywhere.
+//! Each source is put into tables once (`table`), when it is made: the ends of host names and the
+//! canonical forms of directory names in order, so that a name is found in a number of steps that
+//! grows with the logarithm of theirs; IP ranges as numbers, each of which is compared, since a
+//! mask may have its bits anywhere.
 //!
-//! Contracts see `Bounds` as the list of its sources (`specs/Source`), each the names at which its permitted and its excluded subtrees
-//! begin. The names that a certificate shows are in `specs/Names`, the three conditions in `specs/Conditions`.
+//! Contracts see `Bounds` as the list of its sources (`specs/Source`), each the names at which its
+//! permitted and its excluded subtrees begin. The names that a certificate shows are in
+//! `specs/Names`, the three conditions in `specs/Conditions`.
 //!
 //! | Call | What its clauses say |
 //! |---|---|

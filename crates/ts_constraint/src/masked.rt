@@ -1,6 +1,7 @@
 //! Ranges of addresses as numbers.
 
-ghost use Rattle.std.specs.Prelude.{◌≡◌, ◌↔◌, ◌<◌, ◌≤◌, ◌*◌, ◌^◌, ℕ, List, IsTrue, IfSome, length, map};
+ghost use Rattle.std.specs.Prelude.{◌≡◌, ◌↔◌, ◌<◌, ◌≤◌, ◌*◌, ◌^◌, ℕ, List, IsTrue, IfSome, length};
+ghost use Rattle.std.specs.Prelude.{map};
 ghost use Rattle.ts_der.specs.Octets.{AreOctets};
 ghost use Rattle.ts_name.specs.General.{iPAddress};
 ghost use Rattle.ts_name.specs.GeneralView.{general_in};
@@ -10,7 +11,8 @@ ghost use Rattle.ts_constraint.specs.Quads.{widened};
 
 use ts_name::General;
 
-/// A range of addresses of up to sixteen octets: those that have the bits of the base wherever the mask has a bit.
+/// A range of addresses of up to sixteen octets: those that have the bits of the base wherever the
+/// mask has a bit.
 #[derive(Clone, Copy)]
 pub(crate) struct Masked {
     /// The address of the range, without the bits that the mask doesn't have.
@@ -34,7 +36,8 @@ pub(crate) fn number(octets: &[u8]) -> u128
 /// The range of addresses of this length that octets are, which are an address and a mask.
 fn range(octets: &[u8], size: usize) -> Option<Masked>
     requires { size ≤ 16 }
-    ensures found { (address : List ℕ) → AreOctets address → length address ≡ size → IsTrue (is_in result (number address)) ↔ IsWithinRange address octets.now }
+    ensures found { (address : List ℕ) → AreOctets address → length address ≡ size
+        → IsTrue (is_in result (number address)) ↔ IsWithinRange address octets.now }
     ensures bound { IfSome result (λ r. AreBelow size r) }
 {
     if octets.len() != 2 * size {
@@ -51,7 +54,9 @@ fn range(octets: &[u8], size: usize) -> Option<Masked>
 /// The range of addresses of this length that a base is, if it is one.
 pub(crate) fn range_of(base: General<'_>, size: usize) -> Option<Masked>
     requires { size ≤ 16 }
-    ensures found { (address : List ℕ) → AreOctets address → length address ≡ size → IsTrue (is_in result (number address)) ↔ Holds (general_in base.entry) (iPAddress address) }
+    ensures found { (address : List ℕ) → AreOctets address → length address ≡ size
+        → IsTrue (is_in result (number address))
+        ↔ Holds (general_in base.entry) (iPAddress address) }
     ensures bound { IfSome result (λ r. AreBelow size r) }
 {
     match base {

@@ -5,7 +5,8 @@ ghost use Rattle.ts_name.specs.General.{GeneralName, iPAddress};
 ghost use Rattle.ts_name.specs.GeneralView.{general_in};
 ghost use Rattle.ts_name.specs.Holds.{Holds};
 ghost use Rattle.ts_constraint.specs.Conditions.{Some_of};
-ghost use Rattle.ts_constraint.specs.RangeTable.{AreRanges, AreRangesOf, AreOtherRanges, IsOtherLength};
+ghost use Rattle.ts_constraint.specs.RangeTable.{AreRanges, AreRangesOf, AreOtherRanges};
+ghost use Rattle.ts_constraint.specs.RangeTable.{IsOtherLength};
 ghost use Rattle.ts_constraint.specs.Quads.{widened};
 ghost use Rattle.ts_constraint.specs.View.{bases_in};
 
@@ -39,9 +40,11 @@ impl<'a> Ranges<'a> {
         })
     }
 
-    /// Whether an address lies in one of the ranges. Each is looked at, since masks may have their bits anywhere.
+    /// Whether an address lies in one of the ranges. Each is looked at, since masks may have their
+    /// bits anywhere.
     pub(crate) fn has(&self, address: &[u8]) -> bool
-        ensures { (bases : List GeneralName) → AreRanges self.now bases → IsTrue result ↔ Some_of (λ base. Holds base (iPAddress address.now)) bases }
+        ensures { (bases : List GeneralName) → AreRanges self.now bases
+            → IsTrue result ↔ Some_of (λ base. Holds base (iPAddress address.now)) bases }
     {
         if address.len() == 4 {
             return is_in_quad(self.short.as_slice(), number(address) as u32);
@@ -100,7 +103,8 @@ fn gather_others<'a>(
 
 /// Whether a base is a range of addresses that have neither four octets nor sixteen.
 fn may_be_other(base: General<'_>) -> bool
-    ensures { result ≡ false → (address : List ℕ) → IsOtherLength address → Holds (general_in base.entry) (iPAddress address) → ⊥ }
+    ensures { result ≡ false → (address : List ℕ) → IsOtherLength address
+        → Holds (general_in base.entry) (iPAddress address) → ⊥ }
 {
     match base {
         General::IpAddress(range) => range.len() != 8 && range.len() != 32,
@@ -110,7 +114,8 @@ fn may_be_other(base: General<'_>) -> bool
 
 /// Whether a name lies in one of the subtrees.
 fn hold(subtrees: &[Subtree<'_>], name: General<'_>) -> bool
-    ensures { IsTrue result ↔ Some_of (λ base. Holds base (general_in name.entry)) (bases_in subtrees.now) }
+    ensures { IsTrue result ↔ Some_of (λ base. Holds base (general_in name.entry))
+        (bases_in subtrees.now) }
 {
     let mut rest = subtrees;
     while let [subtree, others @ ..] = rest {

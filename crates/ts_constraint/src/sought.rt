@@ -10,7 +10,8 @@ use crate::form::Form;
 use std::alloc::Global;
 use ts_name::General;
 
-/// A name that is looked up. The canonical form of a distinguished name is made once, for all sources.
+/// A name that is looked up. The canonical form of a distinguished name is made once, for all
+/// sources.
 #[derive(Drop)]
 pub(crate) enum Sought<'a> {
     Directory(Directory<'a>),

@@ -4,7 +4,8 @@ ghost use Rattle.std.specs.Prelude.{◌≡◌, ◌↔◌, IsTrue, IfOk, List, ma
 ghost use Rattle.ts_ext.specs.NameViews.{subtrees_in};
 ghost use Rattle.ts_cert.specs.CertView.{cert_in};
 ghost use Rattle.ts_constraint.specs.Conditions.{FailsAt};
-ghost use Rattle.ts_constraint.specs.declared.condition.Condition.TheVariants.{Supported, Permitted};
+ghost use Rattle.ts_constraint.specs.declared.condition.Condition.TheVariants.{Supported};
+ghost use Rattle.ts_constraint.specs.declared.condition.Condition.TheVariants.{Permitted};
 ghost use Rattle.ts_constraint.specs.Source.{bases, bases_if, source_of};
 ghost use Rattle.ts_constraint.specs.Sought.{name_in};
 ghost use Rattle.ts_constraint.specs.View.{bases_in, AreBases};
@@ -89,7 +90,8 @@ impl<'a> Source<'a> {
         self.excluded.has_form(form)
     }
 
-    /// Whether the source permits subtrees of the name's form, which is processed, and the name lies in none of them.
+    /// Whether the source permits subtrees of the name's form, which is processed, and the name
+    /// lies in none of them.
     fn is_not_permitted(&self, name: &Sought<'_>) -> bool
         ensures { IsTrue result ↔ FailsAt Permitted (name_in name.now) self.now }
     {

@@ -18,7 +18,8 @@ use std::alloc::{AllocError, Global};
 use std::marker::Model;
 use ts_name::{General, Subtree};
 
-/// Subtrees, and tables in which a name is looked up. Contracts see the names at which the subtrees begin.
+/// Subtrees, and tables in which a name is looked up. Contracts see the names at which the subtrees
+/// begin.
 #[derive(Drop)]
 pub(crate) struct Table<'a> {
     subtrees: Vec<Subtree<'a>>,
@@ -39,7 +40,8 @@ impl<'a> Model for Table<'a> {
 
     ghost view = { λ t. bases_in t.subtrees.items };
 
-    ghost invariant = { λ t. AreTables (bases_in t.subtrees.items) t.forms.items t.hosts t.directories.entries.items t.ranges };
+    ghost invariant = { λ t. AreTables
+        (bases_in t.subtrees.items) t.forms.items t.hosts t.directories.entries.items t.ranges };
 }
 
 impl<'a> Table<'a> {

@@ -1,5 +1,5 @@
--- The one encoding of a list of revoked certificates (RFC 5280 5.1, as restated in Appendix A.1), from its parts up to the
--- whole.
+-- The one encoding of a list of revoked certificates (RFC 5280 5.1, as restated in Appendix A.1),
+-- from its parts up to the whole.
 use Rattle.std.specs.Prelude.{◌≡◌, ℕ, ◌≤◌, List, [], ◌∷◌, ◌++◌, length, Option, Some, None}
 use Rattle.ts_der.specs.Element.{encode}
 use Rattle.ts_name.specs.NameEncoding.{IsName}
@@ -26,8 +26,8 @@ abbrev pub IsTimeIfAny : List ℕ → Option Time → Type 0
 IsTimeIfAny octets None = octets ≡ []
 IsTimeIfAny octets (Some t) = IsTime octets t
 
--- a member of revokedCertificates ::= SEQUENCE { userCertificate CertificateSerialNumber, revocationDate Time,
--- crlEntryExtensions Extensions OPTIONAL } (5.1.2.6)
+-- a member of revokedCertificates ::= SEQUENCE { userCertificate CertificateSerialNumber,
+-- revocationDate Time, crlEntryExtensions Extensions OPTIONAL } (5.1.2.6)
 pub record IsRevokedCertificate (content : List ℕ) (e : RevokedCertificate) : Type 0 where
   pub serial : List ℕ
   pub date : List ℕ
@@ -41,7 +41,8 @@ pub record IsRevokedCertificate (content : List ℕ) (e : RevokedCertificate) : 
 abbrev pub AreRevoked : List ℕ → List RevokedCertificate → Type 0
 AreRevoked = AreItems (Within 0x30 IsRevokedCertificate)
 
--- TBSCertList ::= SEQUENCE { version, signature, issuer, thisUpdate, nextUpdate, revokedCertificates, crlExtensions } (5.1.2)
+-- TBSCertList ::= SEQUENCE { version, signature, issuer, thisUpdate, nextUpdate,
+-- revokedCertificates, crlExtensions } (5.1.2)
 pub record IsTbsCertList (content : List ℕ) (t : TbsCertList) : Type 0 where
   pub algorithm : List ℕ
   pub issued_by : List ℕ
@@ -55,9 +56,11 @@ pub record IsTbsCertList (content : List ℕ) (t : TbsCertList) : Type 0 where
   pub nextUpdate : IsTimeIfAny next t.nextUpdate
   pub revokedCertificates : IfAny 0x30 AreRevoked revoked t.revokedCertificates
   pub crlExtensions : IfAny 0xA0 (Within 0x30 AreExtensions) extensions t.crlExtensions
-  pub fields : content ≡ version_octets t.version ++ (algorithm ++ (issued_by ++ (this ++ (next ++ (revoked ++ extensions)))))
+  pub fields : content ≡ version_octets t.version
+      ++ (algorithm ++ (issued_by ++ (this ++ (next ++ (revoked ++ extensions)))))
 
--- the fields of CertificateList ::= SEQUENCE { tbsCertList, signatureAlgorithm, signatureValue BIT STRING } (5.1.1)
+-- the fields of CertificateList ::= SEQUENCE { tbsCertList, signatureAlgorithm, signatureValue BIT
+-- STRING } (5.1.1)
 pub record IsSigned (content : List ℕ) (c : CertificateList) : Type 0 where
   pub identifier : List ℕ
   pub bits : List ℕ
@@ -66,9 +69,9 @@ pub record IsSigned (content : List ℕ) (c : CertificateList) : Type 0 where
   pub signatureValue : Within 0x03 IsBits bits c.signatureValue
   pub fields : content ≡ c.tbs ++ (identifier ++ bits)
 
--- the octets are the list: at most 4,194,304; both algorithm identifiers are one (5.1.1.2); in version 1 there are no
--- extensions (5.1.2.1); none occurs twice (4.2); the values are those of their extensions (5.2, 5.3); and the list keeps the
--- rules of this profile
+-- the octets are the list: at most 4,194,304; both algorithm identifiers are one (5.1.1.2); in
+-- version 1 there are no extensions (5.1.2.1); none occurs twice (4.2); the values are those of
+-- their extensions (5.2, 5.3); and the list keeps the rules of this profile
 pub record IsCertificateList (octets : List ℕ) (c : CertificateList) : Type 0 where
   pub size : length octets ≤ 4194304
   pub whole : Within 0x30 IsSigned octets c

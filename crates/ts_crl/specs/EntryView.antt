@@ -21,7 +21,11 @@ abbrev pub placed_in : Placed → LocatedExtensions
 placed_in p = record { at = p.at; extensions = listed_in p.list }
 
 abbrev pub entry_as : Entry → LocatedEntry
-entry_as e = record { userCertificate = e.serial_number.octets.now; revocationDate = time_in e.date; crlEntryExtensions = option_map placed_in e.extensions }
+entry_as e = record {
+  userCertificate = e.serial_number.octets.now;
+  revocationDate = time_in e.date;
+  crlEntryExtensions = option_map placed_in e.extensions;
+}
 
 abbrev pub revoked_in : Revoked → List LocatedEntry
 revoked_in r = items_at reading_of (inside (now r.element))

@@ -1,5 +1,5 @@
--- Why octets are no list that can be used: a rule of its shape and of its extensions with a place, or one of this profile
--- without (RFC 5280 5, 6.3).
+-- Why octets are no list that can be used: a rule of its shape and of its extensions with a place,
+-- or one of this profile without (RFC 5280 5, 6.3).
 use Rattle.std.specs.Prelude.{◌≡◌, ℕ, List, ◌++◌, codes, Result, Ok, Err}
 use Rattle.std.specs.Fmt.{decimal}
 use Rattle.ts_shape.specs.declared.fault.CertFault.{CertFault}

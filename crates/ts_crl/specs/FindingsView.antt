@@ -4,4 +4,10 @@ use Rattle.ts_crl.specs.declared.findings.Findings.{Findings as Lent}
 use Rattle.ts_crl.specs.Findings.{Findings}
 
 abbrev pub findings_in : Lent → Findings
-findings_in f = record { old_version = f.old_version; repeated = f.repeated; value = f.value; unprocessed = option_copied f.unprocessed; issuer = f.names_issuer }
+findings_in f = record {
+  old_version = f.old_version;
+  repeated = f.repeated;
+  value = f.value;
+  unprocessed = option_copied f.unprocessed;
+  issuer = f.names_issuer;
+}

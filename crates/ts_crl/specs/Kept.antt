@@ -1,4 +1,5 @@
--- A list that was read and is kept: what has to be known of its entries so that it is lent again without reading them.
+-- A list that was read and is kept: what has to be known of its entries so that it is lent again
+-- without reading them.
 use Rattle.std.specs.Prelude.{◌≡◌, ◌++◌, ℕ, codes, false, List, Option, Some, None, Result, Ok, Err}
 use Rattle.ts_der.specs.Element.{Place, Tlv}
 use Rattle.ts_der.specs.Octets.{AreOctets}
@@ -35,23 +36,33 @@ abbrev pub kept_text : OwnedCrlFault → List ℕ
 kept_text Memory = codes "Memory"
 kept_text (Unreadable fault) = codes "Unreadable(" ++ (fault_text (fault_in fault) ++ codes ")")
 
--- what is found in entries of a list that breaks no rule: no more than where the first of their extensions are
+-- what is found in entries of a list that breaks no rule: no more than where the first of their
+-- extensions are
 abbrev pub only_place : Option CertFault → Findings
-only_place first = record { old_version = first; repeated = None; value = None; unprocessed = None; issuer = false }
+only_place first = record {
+  old_version = first;
+  repeated = None;
+  value = None;
+  unprocessed = None;
+  issuer = false;
+}
 
 abbrev pub HavePlace : Option CertFault → Option (List LocatedEntry) → Type 0
 HavePlace first None = Unit {0}
 HavePlace first (Some es) = findings_of es ≡ only_place first
 
--- the entries that may be next, the fields that are signed, and a list were read, and that is what was found
+-- the entries that may be next, the fields that are signed, and a list were read, and that is what
+-- was found
 abbrev pub EntriesRead : Option CertFault → Place → Type 0
-EntriesRead first here = (x : Option (List LocatedEntry) × Place) × (optional_of 0x30 revoked_of here ≡ Ok x) × HavePlace first x.0
+EntriesRead first here = (x : Option (List LocatedEntry) × Place)
+    × (optional_of 0x30 revoked_of here ≡ Ok x) × HavePlace first x.0
 
 abbrev pub TbsRead : Option CertFault → Tlv → Type 0
 TbsRead first e = (t : LocatedTbsList) × (tbs_of e ≡ Ok t) × HavePlace first t.revokedCertificates
 
 abbrev pub SignedRead : Option CertFault → Tlv → Type 0
-SignedRead first e = (l : LocatedList) × (signed_of e ≡ Ok l) × HavePlace first l.tbsCertList.revokedCertificates
+SignedRead first e = (l : LocatedList) × (signed_of e ≡ Ok l)
+    × HavePlace first l.tbsCertList.revokedCertificates
 
 -- octets are a list that breaks no rule, and that was found in its entries
 pub record WasRead (first : Option CertFault) (octets : List ℕ) : Type 0 where

@@ -1,4 +1,5 @@
--- A list of revoked certificates (RFC 5280 5.1): what its octets say, in the standard's field names.
+-- A list of revoked certificates (RFC 5280 5.1): what its octets say, in the standard's field
+-- names.
 use Rattle.std.specs.Prelude.{ℕ, List, Option, map, option_map}
 use Rattle.ts_name.specs.Canon.{Attr}
 use Rattle.ts_ext.specs.Extension.{Extension, Located, unlocated}
@@ -64,7 +65,11 @@ abbrev pub unlocated_extensions : LocatedExtensions → List Extension
 unlocated_extensions x = map unlocated x.extensions
 
 abbrev pub unlocated_entry : LocatedEntry → RevokedCertificate
-unlocated_entry e = record { userCertificate = e.userCertificate; revocationDate = e.revocationDate; crlEntryExtensions = option_map unlocated_extensions e.crlEntryExtensions }
+unlocated_entry e = record {
+  userCertificate = e.userCertificate;
+  revocationDate = e.revocationDate;
+  crlEntryExtensions = option_map unlocated_extensions e.crlEntryExtensions;
+}
 
 abbrev pub said_tbs : LocatedTbsList → TbsCertList
 said_tbs t =
@@ -79,4 +84,9 @@ said_tbs t =
     }
 
 abbrev pub unlocated_list : LocatedList → CertificateList
-unlocated_list l = record { tbs = l.tbs; tbsCertList = said_tbs l.tbsCertList; signatureAlgorithm = l.signatureAlgorithm; signatureValue = l.signatureValue }
+unlocated_list l = record {
+  tbs = l.tbs;
+  tbsCertList = said_tbs l.tbsCertList;
+  signatureAlgorithm = l.signatureAlgorithm;
+  signatureValue = l.signatureValue;
+}

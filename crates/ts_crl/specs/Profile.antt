@@ -1,17 +1,21 @@
--- Rules of this profile, which have no place: a list has a nextUpdate, is for certificates of its issuer, and has a number if
--- it is a delta (RFC 5280 5.1.2.5, 5.2, 5.3).
-use Rattle.std.specs.Prelude.{ℕ, ◌&&◌, ◌||◌, not, Bool, true, false, List, [], ◌∷◌, Option, Some, None, is_none, option_map, if◌then◌else◌}
+-- Rules of this profile, which have no place: a list has a nextUpdate, is for certificates of its
+-- issuer, and has a number if it is a delta (RFC 5280 5.1.2.5, 5.2, 5.3).
+use Rattle.std.specs.Prelude.{ℕ, ◌&&◌, ◌||◌, not, Bool, true, false, List, [], ◌∷◌, Option, Some}
+use Rattle.std.specs.Prelude.{None, is_none, option_map, if◌then◌else◌}
 use Rattle.std.specs.List.{find, list_any}
 use Rattle.ts_shape.specs.Shape.{◌or_else◌}
 use Rattle.ts_ext.specs.declared.known.Holder.{Holder}
 use Rattle.ts_ext.specs.declared.known.Holder.TheVariants.{List as ListHolder, Entry}
-use Rattle.ts_ext.specs.declared.known.Known.TheVariants.{CrlNumber, DeltaCrlIndicator, IssuingDistributionPoint, CertificateIssuer}
+use Rattle.ts_ext.specs.declared.known.Known.TheVariants.{CrlNumber, DeltaCrlIndicator}
+use Rattle.ts_ext.specs.declared.known.Known.TheVariants.{IssuingDistributionPoint}
+use Rattle.ts_ext.specs.declared.known.Known.TheVariants.{CertificateIssuer}
 use Rattle.ts_ext.specs.Ext.{ExtValue, issuingDistributionPoint}
 use Rattle.ts_ext.specs.Extension.{Extension}
 use Rattle.ts_ext.specs.Known.{known_at}
 use Rattle.ts_ext.specs.Points.{PointName, nameRelativeToCRLIssuer, ListScope}
 use Rattle.ts_crl.specs.Entries.{entries_of}
-use Rattle.ts_crl.specs.Fault.{ListFault, noNextUpdate, criticalCrlExtension, deltaCrl, indirect, relativeName}
+use Rattle.ts_crl.specs.Fault.{ListFault, noNextUpdate, criticalCrlExtension, deltaCrl, indirect}
+use Rattle.ts_crl.specs.Fault.{relativeName}
 use Rattle.ts_crl.specs.List.{RevokedCertificate, CertificateList}
 use Rattle.ts_crl.specs.Values.{is_known, extensions_of, entry_extensions_of, value_among}
 
@@ -27,11 +31,13 @@ unprocessed_in holder xs = option_map (λ x. x.extnID) (find (is_unprocessed hol
 
 abbrev pub unprocessed_of_entries : List RevokedCertificate → Option (List ℕ)
 unprocessed_of_entries [] = None
-unprocessed_of_entries (e ∷ es) = unprocessed_in Entry (entry_extensions_of e) or_else unprocessed_of_entries es
+unprocessed_of_entries (e ∷ es) =
+    unprocessed_in Entry (entry_extensions_of e) or_else unprocessed_of_entries es
 
 -- of the list first, then of its entries (5.2, 5.3)
 abbrev pub unprocessed : CertificateList → Option (List ℕ)
-unprocessed c = unprocessed_in ListHolder (extensions_of c) or_else unprocessed_of_entries (entries_of c)
+unprocessed c = unprocessed_in ListHolder (extensions_of c) or_else unprocessed_of_entries
+    (entries_of c)
 
 -- ---- the scope
 
@@ -60,7 +66,8 @@ names_issuer e = list_any (is_known CertificateIssuer) (entry_extensions_of e)
 
 -- the list, or an entry of it, is for certificates of other issuers
 abbrev pub is_indirect : CertificateList → Bool
-is_indirect c = scope_meets (λ p. p.indirectCRL) (scope_of c) || list_any names_issuer (entries_of c)
+is_indirect c = scope_meets (λ p. p.indirectCRL) (scope_of c)
+    || list_any names_issuer (entries_of c)
 
 abbrev pub is_relative : CertificateList → Bool
 is_relative c = scope_meets (λ p. is_relative_name p.distributionPoint) (scope_of c)

@@ -1,6 +1,7 @@
--- Reading a list of revoked certificates (RFC 5280 5.1) from front to back, up to the first rule that is broken. Each
--- function reads one SEQUENCE of the standard, field by field in its order.
-use Rattle.std.specs.Prelude.{ℕ, nat_lt, List, length, Option, Some, None, Result, Ok, Err, if◌then◌else◌}
+-- Reading a list of revoked certificates (RFC 5280 5.1) from front to back, up to the first rule
+-- that is broken. Each function reads one SEQUENCE of the standard, field by field in its order.
+use Rattle.std.specs.Prelude.{ℕ, nat_lt, List, length, Option, Some, None, Result, Ok, Err}
+use Rattle.std.specs.Prelude.{if◌then◌else◌}
 use Rattle.ts_der.specs.declared.fault.DerFault.TheVariants.{TooLarge}
 use Rattle.ts_der.specs.declared.fault.Fault.{Fault}
 use Rattle.ts_der.specs.Answer.{◌>>=◌}
@@ -25,16 +26,22 @@ extensions_of e = some_of located_in e >>= λ xs. Ok (record { at = e.at; extens
 
 -- [0] EXPLICIT Extensions
 unfoldable pub wrapped_extensions_of : Tlv → Result LocatedExtensions Fault
-wrapped_extensions_of e = alone (of_tag 0x30 (some_of located_in)) e >>= λ xs. Ok (record { at = e.at; extensions = xs })
+wrapped_extensions_of e = alone (of_tag 0x30 (some_of located_in)) e >>= λ xs. Ok
+    (record { at = e.at; extensions = xs })
 
--- a member of revokedCertificates ::= SEQUENCE { userCertificate, revocationDate, crlEntryExtensions }
+-- a member of revokedCertificates ::= SEQUENCE { userCertificate, revocationDate,
+-- crlEntryExtensions }
 unfoldable pub entry_of : Tlv → Result LocatedEntry Fault
 entry_of e = do
   serial ← integer_at (inside e)
   date ← time_at serial.1
   extensions ← optional_of 0x30 extensions_of date.1
   done ← end_at extensions.1
-  Ok (record { userCertificate = serial.0; revocationDate = date.0; crlEntryExtensions = extensions.0 })
+  Ok (record {
+    userCertificate = serial.0;
+    revocationDate = date.0;
+    crlEntryExtensions = extensions.0;
+  })
 
 abbrev pub entry_in : Tlv → Result LocatedEntry Fault
 entry_in = of_tag 0x30 entry_of
@@ -52,7 +59,8 @@ or_general (None, after) = optional_of 0x18 time_of after
 unfoldable pub next_update_at : Place → Result (Option Time × Place) Fault
 next_update_at here = optional_of 0x17 time_of here >>= λ utc. or_general utc
 
--- TBSCertList ::= SEQUENCE { version, signature, issuer, thisUpdate, nextUpdate, revokedCertificates, crlExtensions }
+-- TBSCertList ::= SEQUENCE { version, signature, issuer, thisUpdate, nextUpdate,
+-- revokedCertificates, crlExtensions }
 unfoldable pub tbs_of : Tlv → Result LocatedTbsList CertFault
 tbs_of e = do
   version ← version_at (inside e)
@@ -82,7 +90,13 @@ signed_of e = do
   algorithm ← der (algorithm_of identifier.0)
   signature ← der (bits_at identifier.1)
   done ← der (end_at signature.1)
-  Ok (record { tbs = tbs.0.whole; tbsCertList = fields; signatureAlgorithm = algorithm; identifier_at = identifier.0.at; signatureValue = signature.0 })
+  Ok (record {
+    tbs = tbs.0.whole;
+    tbsCertList = fields;
+    signatureAlgorithm = algorithm;
+    identifier_at = identifier.0.at;
+    signatureValue = signature.0;
+  })
 
 -- the list that octets are, and nothing after it
 unfoldable pub whole_of : List ℕ → Result LocatedList CertFault
@@ -94,4 +108,5 @@ whole_of octets = do
 
 -- octets that are at most 4,194,304, the limit of this profile
 unfoldable pub shape_of : List ℕ → Result LocatedList CertFault
-shape_of octets = if nat_lt 4194304 (length octets) then Err (breaks 0 (Der TooLarge)) else whole_of octets
+shape_of octets = if nat_lt 4194304 (length octets) then Err (breaks 0 (Der TooLarge))
+    else whole_of octets

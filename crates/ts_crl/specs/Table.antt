@@ -1,13 +1,16 @@
--- The table of a list of revoked certificates (RFC 5280 5.1, as restated in Appendix A.1), and the first rule that octets
--- break.
-use Rattle.std.specs.Prelude.{ℕ, ◌==◌, not, nat_lt, Bool, false, List, [], ◌∷◌, length, Option, Some, None, option_map, Result, Ok, Err, if◌then◌else◌}
+-- The table of a list of revoked certificates (RFC 5280 5.1, as restated in Appendix A.1), and the
+-- first rule that octets break.
+use Rattle.std.specs.Prelude.{ℕ, ◌==◌, not, nat_lt, Bool, false, List, [], ◌∷◌, length, Option}
+use Rattle.std.specs.Prelude.{Some, None, option_map, Result, Ok, Err, if◌then◌else◌}
 use Rattle.ts_der.specs.declared.fault.DerFault.TheVariants.{TooLarge}
 use Rattle.ts_der.specs.Answer.{◌>>=◌}
 use Rattle.ts_der.specs.Integer.{integer_rules}
 use Rattle.ts_shape.specs.declared.fault.CertRule.TheVariants.{Der, Version}
 use Rattle.ts_shape.specs.declared.fault.CertFault.{CertFault}
 use Rattle.ts_shape.specs.Fault.{breaks}
-use Rattle.ts_shape.specs.Shape.{ContentRules, Row, Shape, optional, tagged, no_other, items, nothing, ◌then◌, ◌or_else◌, judge, der_rules, no_rules, one_rule, primitive, sequence}
+use Rattle.ts_shape.specs.Shape.{ContentRules, Row, Shape, optional, tagged, no_other, items}
+use Rattle.ts_shape.specs.Shape.{nothing, ◌then◌, ◌or_else◌, judge, der_rules, no_rules, one_rule}
+use Rattle.ts_shape.specs.Shape.{primitive, sequence}
 use Rattle.ts_shape.specs.Rows.{integer, bit_string}
 use Rattle.ts_name.specs.NameRows.{name}
 use Rattle.ts_ext.specs.Extension.{extensions as extension_items}
@@ -28,7 +31,8 @@ is_version content = false
 
 -- an INTEGER, and then v2(1)
 abbrev pub version_rules : ContentRules
-version_rules content = der_rules integer_rules content or_else one_rule Version (λ c. not (is_version c)) content
+version_rules content = der_rules integer_rules content or_else one_rule Version
+    (λ c. not (is_version c)) content
 
 -- Version ::= INTEGER { v1(0), v2(1), v3(2) }, which is v2 in a list that has it (5.1.2.1)
 abbrev pub version : Row
@@ -38,8 +42,8 @@ version = primitive 0x02 version_rules
 abbrev pub extensions : Row
 extensions = tagged 0x30 extension_items list_rules no_other
 
--- a member of revokedCertificates ::= SEQUENCE { userCertificate CertificateSerialNumber, revocationDate Time,
--- crlEntryExtensions Extensions OPTIONAL } (5.1.2.6)
+-- a member of revokedCertificates ::= SEQUENCE { userCertificate CertificateSerialNumber,
+-- revocationDate Time, crlEntryExtensions Extensions OPTIONAL } (5.1.2.6)
 abbrev pub entry_fields : Shape
 entry_fields = integer then time then optional extensions then nothing
 
@@ -73,17 +77,21 @@ tbs_fields =
 abbrev pub tbs_cert_list : Row
 tbs_cert_list = sequence tbs_fields
 
--- CertificateList ::= SEQUENCE { tbsCertList TBSCertList, signatureAlgorithm AlgorithmIdentifier, signatureValue BIT STRING } (5.1.1)
+-- CertificateList ::= SEQUENCE { tbsCertList TBSCertList, signatureAlgorithm AlgorithmIdentifier,
+-- signatureValue BIT STRING } (5.1.1)
 abbrev pub certificate_list : Row
 certificate_list = sequence (tbs_cert_list then algorithm_identifier then bit_string then nothing)
 
--- the first rule of the shape that is broken: at most 4,194,304 octets, the limit of this profile; the table, and nothing after it
+-- the first rule of the shape that is broken: at most 4,194,304 octets, the limit of this profile;
+-- the table, and nothing after it
 abbrev pub shape_fault : List ℕ → Option CertFault
-shape_fault octets = if nat_lt 4194304 (length octets) then Some (breaks 0 (Der TooLarge)) else judge (certificate_list then nothing) (from_front octets)
+shape_fault octets = if nat_lt 4194304 (length octets) then Some (breaks 0 (Der TooLarge))
+    else judge (certificate_list then nothing) (from_front octets)
 
 -- ---- the whole
 
--- the first rule that a list of this shape breaks: those that have a place, then those of this profile
+-- the first rule that a list of this shape breaks: those that have a place, then those of this
+-- profile
 abbrev pub list_fault : LocatedList → Option ListFault
 list_fault l = option_map (λ f. broken f) (placed_fault l) or_else profile_fault (unlocated_list l)
 
@@ -93,7 +101,8 @@ list_fault_of (Err f) = None
 
 -- the first rule that is broken: of the shape, then of the list that it is
 abbrev pub crl_fault : List ℕ → Option ListFault
-crl_fault octets = option_map (λ f. broken f) (shape_fault octets) or_else list_fault_of (shape_of octets)
+crl_fault octets = option_map (λ f. broken f) (shape_fault octets) or_else list_fault_of
+    (shape_of octets)
 
 -- what a list says, or the first rule that it breaks
 abbrev pub unless_broken : LocatedList → Option ListFault → Result CertificateList ListFault

@@ -1,15 +1,21 @@
--- The values of the extensions of a list and of its entries, by their object identifiers (RFC 5280 5.2, 5.3).
-use Rattle.std.specs.Prelude.{ℕ, ℤ, Bool, List, [], Option, Some, None, unwrap_or, option_map, Result, Ok, Err}
+-- The values of the extensions of a list and of its entries, by their object identifiers (RFC 5280
+-- 5.2, 5.3).
+use Rattle.std.specs.Prelude.{ℕ, ℤ, Bool, List, [], Option, Some, None, unwrap_or, option_map}
+use Rattle.std.specs.Prelude.{Result, Ok, Err}
 use Rattle.std.specs.List.{find}
 use Rattle.std.specs.Str.{bytes_eq}
 use Rattle.ts_der.specs.Element.{encoded_at}
 use Rattle.ts_ext.specs.declared.known.Holder.{Holder}
 use Rattle.ts_ext.specs.declared.known.Holder.TheVariants.{List as ListHolder, Entry}
 use Rattle.ts_ext.specs.declared.known.Known.{Known}
-use Rattle.ts_ext.specs.declared.known.Known.TheVariants.{CrlNumber, DeltaCrlIndicator, AuthorityKeyIdentifier, ReasonCode as ReasonExtension, InvalidityDate}
+use Rattle.ts_ext.specs.declared.known.Known.TheVariants.{CrlNumber, DeltaCrlIndicator}
+use Rattle.ts_ext.specs.declared.known.Known.TheVariants.{AuthorityKeyIdentifier}
+use Rattle.ts_ext.specs.declared.known.Known.TheVariants.{ReasonCode as ReasonExtension}
+use Rattle.ts_ext.specs.declared.known.Known.TheVariants.{InvalidityDate}
 use Rattle.ts_ext.specs.declared.reason_code.ReasonCode.{ReasonCode}
 use Rattle.ts_ext.specs.AuthorityKey.{AuthorityKey}
-use Rattle.ts_ext.specs.Ext.{ExtValue, cRLNumber, authorityKeyIdentifier, reasonCode, invalidityDate, ext_of}
+use Rattle.ts_ext.specs.Ext.{ExtValue, cRLNumber, authorityKeyIdentifier, reasonCode}
+use Rattle.ts_ext.specs.Ext.{invalidityDate, ext_of}
 use Rattle.ts_ext.specs.Extension.{Extension, Located}
 use Rattle.ts_ext.specs.Known.{known_at, identifier_of}
 use Rattle.ts_crl.specs.List.{RevokedCertificate, CertificateList}
@@ -58,9 +64,11 @@ with_number x = record x { extnID = identifier_of CrlNumber }
 abbrev pub located_with_number : Located → Located
 located_with_number x = record x { extnID = identifier_of CrlNumber }
 
--- deltaCRLIndicator (5.2.4): BaseCRLNumber ::= CRLNumber, the number of the list that a delta states the changes of
+-- deltaCRLIndicator (5.2.4): BaseCRLNumber ::= CRLNumber, the number of the list that a delta
+-- states the changes of
 abbrev pub base_of : CertificateList → Option (List ℕ)
-base_of c = as_number (value_if_any ListHolder (option_map with_number (find (is_known DeltaCrlIndicator) (extensions_of c))))
+base_of c = as_number (value_if_any ListHolder
+    (option_map with_number (find (is_known DeltaCrlIndicator) (extensions_of c))))
 
 -- authorityKeyIdentifier (5.2.1)
 abbrev pub as_key : Option ExtValue → Option AuthorityKey

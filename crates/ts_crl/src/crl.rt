@@ -57,27 +57,32 @@ impl<'a> Crl<'a> {
     ///
     /// # Errors
     ///
-    /// The first rule that is broken, with its place: first more than 4,194,304 octets (`TooLarge` at 0); then the shape
-    /// from front to back, a version other than 2 (`Version`) in its place; then `AlgorithmMismatch`, at the algorithm
-    /// identifier beside the signature; then, of a list without a version, `ExtensionsInOldVersion` at the first element
-    /// that holds extensions; then `DuplicateExtension` at the first extension that repeats one of its own list; then the
-    /// first rule that a value breaks, extension after extension, whose place is 0 where it is not one of DER.
+    /// The first rule that is broken, with its place: first more than 4,194,304 octets (`TooLarge`
+    /// at 0); then the shape from front to back, a version other than 2 (`Version`) in its place;
+    /// then `AlgorithmMismatch`, at the algorithm identifier beside the signature; then, of a list
+    /// without a version, `ExtensionsInOldVersion` at the first element that holds extensions; then
+    /// `DuplicateExtension` at the first extension that repeats one of its own list; then the first
+    /// rule that a value breaks, extension after extension, whose place is 0 where it is not one of
+    /// DER.
     ///
-    /// Then the rules of this profile, which have no place: `NoNextUpdate`; `CriticalCrlExtension`, for the first
-    /// critical extension of the list, then of its entries, that is not read there; `Indirect`; `RelativeName`;
+    /// Then the rules of this profile, which have no place: `NoNextUpdate`; `CriticalCrlExtension`,
+    /// for the first critical extension of the list, then of its entries, that is not read there;
+    /// `Indirect`; `RelativeName`;
     /// `DeltaCrl`.
     pub fn read(octets: &'a [u8]) -> Result<Crl<'a>, CrlFault<'a>>
         // What is read is encoded so.
         ensures found { IfOk result (λ crl. IsCertificateList octets.now (crl_in crl)) }
         // What is encoded so is read.
-        ensures only { (c : CertificateList) → IsCertificateList octets.now c → IsOkAnd result (λ crl. crl_in crl ≡ c) }
+        ensures only { (c : CertificateList) → IsCertificateList octets.now c
+            → IsOkAnd result (λ crl. crl_in crl ≡ c) }
         ensures fault { option_map fault_in (refusal result) ≡ crl_fault octets.now }
         ensures exact { AnswersBy crl_in fault_in result (crl_of octets.now) }
     {
         read_crl(octets)
     }
 
-    /// The octets that are signed: all of tbsCertList, header included, as they were read (RFC 5280 5.1.1.3).
+    /// The octets that are signed: all of tbsCertList, header included, as they were read (RFC 5280
+    /// 5.1.1.3).
     pub fn tbs(self) -> &'a [u8]
         ensures { result.now ≡ (crl_in self.entry).tbs }
     {
@@ -115,18 +120,22 @@ impl<'a> Crl<'a> {
         }
     }
 
-    /// The certificates that are revoked; `None` where the list has no such field, which is not a field without entries
-    /// (RFC 5280 5.1.2.6).
+    /// The certificates that are revoked; `None` where the list has no such field, which is not a
+    /// field without entries (RFC 5280 5.1.2.6).
     pub fn revoked(self) -> Option<Revoked<'a>>
-        ensures { option_map entries_in result ≡ (crl_in self.entry).tbsCertList.revokedCertificates }
+        ensures { option_map entries_in result
+            ≡ (crl_in self.entry).tbsCertList.revokedCertificates }
     {
         self.revoked
     }
 
-    /// The first entry that has this serial number, by the octets of its INTEGER; `None` exactly where no entry has it.
+    /// The first entry that has this serial number, by the octets of its INTEGER; `None` exactly
+    /// where no entry has it.
     pub fn entry(self, serial: Integer<'_>) -> Option<Entry<'a>>
-        ensures first { option_map entry_in result ≡ first_entry serial.entry.octets.now (crl_in self.entry) }
-        ensures absent { (result ≡ None) ↔ (has_entry serial.entry.octets.now (crl_in self.entry) ≡ false) }
+        ensures first { option_map entry_in result
+            ≡ first_entry serial.entry.octets.now (crl_in self.entry) }
+        ensures absent { (result ≡ None)
+            ↔ (has_entry serial.entry.octets.now (crl_in self.entry) ≡ false) }
     {
         find_entry(self, serial)
     }
@@ -158,7 +167,8 @@ impl<'a> Crl<'a> {
         }
     }
 
-    /// The number of the list that this one states the changes of, where it is a delta (RFC 5280 5.2.4).
+    /// The number of the list that this one states the changes of, where it is a delta (RFC 5280
+    /// 5.2.4).
     pub fn base_crl_number(self) -> Option<CrlNumber<'a>>
         ensures { option_map (λ n. n.octets.now) result ≡ base_of (crl_in self.entry) }
     {
@@ -178,7 +188,8 @@ impl<'a> Crl<'a> {
         }
     }
 
-    /// The algorithm of the signature; it is the same within what is signed and beside the signature (RFC 5280 5.1.1.2).
+    /// The algorithm of the signature; it is the same within what is signed and beside the
+    /// signature (RFC 5280 5.1.1.2).
     pub fn signature_algorithm(self) -> AlgorithmIdentifier<'a>
         ensures { algorithm_in result ≡ (crl_in self.entry).signatureAlgorithm }
     {

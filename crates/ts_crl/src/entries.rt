@@ -37,7 +37,9 @@ impl<'a> Revoked<'a> {
 
     /// The first entry that has this serial number, by its mark.
     fn mark_of(self, serial: Integer<'_>) -> Option<Mark<'a>>
-        ensures { option_map mark_as result ≡ find (λ m. bytes_eq m.userCertificate serial.entry.octets.now) (items_at mark_of (inside (now self.entry.element))) }
+        ensures { option_map mark_as result
+            ≡ find (λ m. bytes_eq m.userCertificate serial.entry.octets.now)
+            (items_at mark_of (inside (now self.entry.element))) }
     {
         for mark in SequenceItems::<'a, Mark<'a>>::within(self.element) {
             if mark.serial_number == serial.octets {
@@ -49,7 +51,8 @@ impl<'a> Revoked<'a> {
 
     /// The first entry that has this serial number.
     pub(crate) fn first_of(self, serial: Integer<'_>) -> Option<Entry<'a>>
-        ensures { option_map said_in result ≡ find (has_serial serial.entry.octets.now) (entries_in self.entry) }
+        ensures { option_map said_in result
+            ≡ find (has_serial serial.entry.octets.now) (entries_in self.entry) }
     {
         match self.mark_of(serial) {
             Some(mark) => Entry::read(mark.entry).ok(),
@@ -81,7 +84,8 @@ fn read_revoked<'a>(element: Element<'a>) -> Result<Revoked<'a>, Fault>
 /// The entries, where they are next.
 #[tactic(auto, unfolding(ts_shape::specs::Fields::optional_of, ts_der::specs::Reading::optional_at))]
 pub(crate) fn next_revoked_if_any<'a>(fields: &mut Reader<'a>) -> Result<Option<Revoked<'a>>, Fault>
-    ensures { Takes (option_map revoked_in) fields.new result (optional_of 0x30 revoked_of fields.old) }
+    ensures { Takes (option_map revoked_in) fields.new result
+        (optional_of 0x30 revoked_of fields.old) }
 {
     match fields.optional(SEQUENCE)? {
         Some(element) => Ok(Some(read_revoked(element)?)),

@@ -12,8 +12,8 @@ use ts_der::{Element, Fault};
 use ts_ext::{Extension, Extensions};
 use ts_shape::SequenceOf;
 
-/// One extension or more. The language's borrow checker can't hand on a struct that holds `Extensions`, so that this
-/// keeps the SEQUENCE alone.
+/// One extension or more. The language's borrow checker can't hand on a struct that holds
+/// `Extensions`, so that this keeps the SEQUENCE alone.
 #[derive(Clone, Copy)]
 pub(crate) struct ExtensionList<'a> {
     pub element: Element<'a>,

@@ -14,9 +14,11 @@ pub enum CrlFault<'a> {
     Broken(CertFault),
     /// nextUpdate is absent (RFC 5280 5.1.2.5).
     NoNextUpdate,
-    /// A critical extension is not processed, by the content octets of its object identifier (RFC 5280 5.2, 5.3).
+    /// A critical extension is not processed, by the content octets of its object identifier (RFC
+    /// 5280 5.2, 5.3).
     CriticalCrlExtension(&'a [u8]),
-    /// The list states what has changed since another one, and has no number (RFC 5280 5.2.3, 5.2.4).
+    /// The list states what has changed since another one, and has no number (RFC 5280 5.2.3,
+    /// 5.2.4).
     DeltaCrl,
     /// The list, or an entry of it, is for certificates of other issuers (RFC 5280 5.2.5, 5.3.3).
     Indirect,
@@ -25,7 +27,8 @@ pub enum CrlFault<'a> {
 }
 
 impl<'a> CrlFault<'a> {
-    /// The number by which the fault is sent and stored: of one that has a place that of its rule, of the others 48 to 52.
+    /// The number by which the fault is sent and stored: of one that has a place that of its rule,
+    /// of the others 48 to 52.
     pub fn code(self) -> u8
         ensures { result ≡ fault_code (fault_in self.entry) }
     {

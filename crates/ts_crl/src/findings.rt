@@ -16,7 +16,8 @@ ghost use Rattle.ts_crl.specs.Values.{is_known};
 use ts_ext::{Extension, Holder, Known};
 use ts_shape::CertFault;
 
-/// What the rules of a list ask of the extensions of its entries (RFC 5280 4.2, 5.1.2.1, 5.3), found while these are read.
+/// What the rules of a list ask of the extensions of its entries (RFC 5280 4.2, 5.1.2.1, 5.3),
+/// found while these are read.
 #[derive(Clone, Copy)]
 pub(crate) struct Findings<'a> {
     /// The first element that holds extensions, of which a list of version 1 has none.
@@ -33,7 +34,8 @@ pub(crate) struct Findings<'a> {
 
 /// The object identifier of an extension of an entry, if it is critical and not processed.
 fn unprocessed<'a>(extension: Extension<'a>) -> Option<&'a [u8]>
-    ensures { option_copied result ≡ unprocessed_in EntryHolder (extension_as extension.entry ∷ []) }
+    ensures { option_copied result
+        ≡ unprocessed_in EntryHolder (extension_as extension.entry ∷ []) }
 {
     if extension.critical && Known::at(Holder::Entry, extension.id).is_none() {
         Some(extension.id.content)
@@ -67,9 +69,13 @@ impl<'a> Findings<'a> {
     pub(crate) fn note(&mut self, extension: Extension<'a>)
         ensures old_version { self.new.old_version ≡ self.old.old_version }
         ensures repeated { self.new.repeated ≡ self.old.repeated }
-        ensures value { self.new.value ≡ (self.old.value or_else value_fault_of EntryHolder (located_as extension.entry)) }
-        ensures unprocessed { option_copied self.new.unprocessed ≡ (option_copied self.old.unprocessed or_else unprocessed_in EntryHolder (extension_as extension.entry ∷ [])) }
-        ensures issuer { self.new.names_issuer ≡ (self.old.names_issuer || is_known CertificateIssuer (extension_as extension.entry)) }
+        ensures value { self.new.value
+            ≡ (self.old.value or_else value_fault_of EntryHolder (located_as extension.entry)) }
+        ensures unprocessed { option_copied self.new.unprocessed
+            ≡ (option_copied self.old.unprocessed or_else unprocessed_in EntryHolder
+            (extension_as extension.entry ∷ [])) }
+        ensures issuer { self.new.names_issuer
+            ≡ (self.old.names_issuer || is_known CertificateIssuer (extension_as extension.entry)) }
     {
         if self.value.is_none() {
             self.value = extension.first_fault(Holder::Entry);

@@ -12,7 +12,8 @@ ghost use Rattle.ts_ext.specs.Extension.{located_in};
 ghost use Rattle.ts_crl.specs.EntryView.{listed_in, placed_in, revoked_in};
 ghost use Rattle.ts_crl.specs.Kept.{EntriesRead, TbsRead, SignedRead, WasRead};
 ghost use Rattle.ts_crl.specs.ListView.{tbs_in, located_list_in};
-ghost use Rattle.ts_crl.specs.Reading.{wrapped_extensions_of, revoked_of, tbs_of, signed_of, whole_of};
+ghost use Rattle.ts_crl.specs.Reading.{wrapped_extensions_of, revoked_of, tbs_of, signed_of};
+ghost use Rattle.ts_crl.specs.Reading.{whole_of};
 
 use crate::crl::Crl;
 use crate::extension_list::ExtensionList;
@@ -49,7 +50,8 @@ fn next_revoked_if_any<'a>(
     first: Option<CertFault>,
 ) -> Result<Option<Revoked<'a>>, Fault>
     requires { EntriesRead first fields.now }
-    ensures { Takes (option_map revoked_in) fields.new result (optional_of 0x30 revoked_of fields.old) }
+    ensures { Takes (option_map revoked_in) fields.new result
+        (optional_of 0x30 revoked_of fields.old) }
 {
     match fields.optional(SEQUENCE)? {
         Some(element) => {
@@ -67,7 +69,8 @@ fn next_revoked_if_any<'a>(
 #[tactic(auto, unfolding(ts_shape::specs::Items::alone, ts_shape::specs::Items::each, ts_shape::specs::Items::of_tag))]
 fn alone_in<'a>(element: Element<'a>) -> Result<ExtensionList<'a>, Fault>
     requires { IsOk (alone (of_tag 0x30 (some_of located_in)) (now element)) }
-    ensures { Answers listed_in result (alone (of_tag 0x30 (some_of located_in)) (now element.entry)) }
+    ensures { Answers listed_in result
+        (alone (of_tag 0x30 (some_of located_in)) (now element.entry)) }
 {
     let mut fields = element.reader();
     let element = tagged_as(fields.next()?, SEQUENCE)?;
@@ -79,7 +82,8 @@ fn alone_in<'a>(element: Element<'a>) -> Result<ExtensionList<'a>, Fault>
 #[tactic(auto, unfolding(ts_shape::specs::Fields::optional_of, ts_der::specs::Reading::optional_at, crate::specs::Reading::wrapped_extensions_of))]
 fn next_extensions_if_any<'a>(fields: &mut Reader<'a>) -> Result<Option<Placed<'a>>, Fault>
     requires { IsOk (optional_of 0xA0 wrapped_extensions_of fields.now) }
-    ensures { Takes (option_map placed_in) fields.new result (optional_of 0xA0 wrapped_extensions_of fields.old) }
+    ensures { Takes (option_map placed_in) fields.new result
+        (optional_of 0xA0 wrapped_extensions_of fields.old) }
 {
     match fields.optional(CRL_EXTENSIONS)? {
         Some(explicit) => {

@@ -1,5 +1,5 @@
-//! Lists of revoked certificates (RFC 5280 5), read where they lie: no memory, no copy, and of octets that are none the
-//! first rule that is broken, with its place.
+//! Lists of revoked certificates (RFC 5280 5), read where they lie: no memory, no copy, and of
+//! octets that are none the first rule that is broken, with its place.
 #![tactic(auto)]
 
 mod crl;

@@ -1,4 +1,5 @@
-//! Entries that are read once for their shape and for what the rules of a list ask of their extensions.
+//! Entries that are read once for their shape and for what the rules of a list ask of their
+//! extensions.
 
 ghost use Rattle.std.specs.Prelude.{◌≡◌, [], ◌∷◌, length};
 ghost use Rattle.ts_der.specs.View.{now};
@@ -9,9 +10,11 @@ ghost use Rattle.ts_shape.specs.Steps.{Takes};
 ghost use Rattle.ts_ext.specs.declared.known.Holder.TheVariants.{Entry as EntryHolder};
 ghost use Rattle.ts_ext.specs.Extension.{located_in};
 ghost use Rattle.ts_ext.specs.ExtensionView.{located_as};
-ghost use Rattle.ts_crl.specs.declared.extension_rule.ExtensionRule.TheVariants.{OldVersion, Repeated};
+ghost use Rattle.ts_crl.specs.declared.extension_rule.ExtensionRule.TheVariants.{OldVersion};
+ghost use Rattle.ts_crl.specs.declared.extension_rule.ExtensionRule.TheVariants.{Repeated};
 ghost use Rattle.ts_crl.specs.EntryView.{listed_in, placed_in};
-ghost use Rattle.ts_crl.specs.Findings.{findings_of, found_in, found_if_any, Notes, NotesNext, NotesAmong};
+ghost use Rattle.ts_crl.specs.Findings.{findings_of, found_in, found_if_any, Notes, NotesNext};
+ghost use Rattle.ts_crl.specs.Findings.{NotesAmong};
 ghost use Rattle.ts_crl.specs.FindingsView.{findings_in};
 ghost use Rattle.ts_crl.specs.Reading.{extensions_of, entry_of, entry_in};
 ghost use Rattle.ts_crl.specs.Rules.{rule_fault as rule_fault_of};
@@ -36,9 +39,11 @@ fn next_extension<'a>(rest: &mut Reader<'a>) -> Result<Extension<'a>, Fault>
     Extension::read(rest.next()?)
 }
 
-/// Reads the extensions that a SEQUENCE's content is, one or more, adds what is found in each, and counts them.
+/// Reads the extensions that a SEQUENCE's content is, one or more, adds what is found in each, and
+/// counts them.
 fn note_extensions<'a>(element: Element<'a>, findings: &mut Findings<'a>) -> Result<usize, Fault>
-    ensures { NotesAmong (findings_in findings.old) (findings_in findings.new) result (some_of located_in (now element.entry)) }
+    ensures { NotesAmong (findings_in findings.old) (findings_in findings.new) result
+        (some_of located_in (now element.entry)) }
 {
     let mut rest = element.reader();
     let mut count = 0;
@@ -56,7 +61,8 @@ fn note_extensions<'a>(element: Element<'a>, findings: &mut Findings<'a>) -> Res
     Ok(count)
 }
 
-/// A fault that was found before, else the first place at which the extensions of an entry break a rule.
+/// A fault that was found before, else the first place at which the extensions of an entry break a
+/// rule.
 fn or_fault(found: Option<CertFault>, rule: ExtensionRule, placed: Placed<'_>) -> Option<CertFault>
     ensures { result ≡ (found or_else rule_fault_of rule EntryHolder (placed_in placed.entry)) }
 {
@@ -78,10 +84,12 @@ fn or_repeat(found: Option<CertFault>, placed: Placed<'_>, count: usize) -> Opti
     }
 }
 
-/// Reads the extensions of an entry, which are those that a SEQUENCE is, and adds what is found in them.
+/// Reads the extensions of an entry, which are those that a SEQUENCE is, and adds what is found in
+/// them.
 #[tactic(auto, unfolding(crate::specs::Reading::extensions_of))]
 fn note_placed<'a>(element: Element<'a>, findings: &mut Findings<'a>) -> Result<(), Fault>
-    ensures { Notes found_in (findings_in findings.old) (findings_in findings.new) result (extensions_of (now element.entry)) }
+    ensures { Notes found_in (findings_in findings.old) (findings_in findings.new) result
+        (extensions_of (now element.entry)) }
 {
     let count = note_extensions(element, findings)?;
     let placed = Placed {
@@ -99,7 +107,8 @@ fn note_extensions_if_any<'a>(
     fields: &mut Reader<'a>,
     findings: &mut Findings<'a>,
 ) -> Result<(), Fault>
-    ensures { NotesNext found_if_any fields.new (findings_in findings.old) (findings_in findings.new) result (optional_of 0x30 extensions_of fields.old) }
+    ensures { NotesNext found_if_any fields.new (findings_in findings.old)
+        (findings_in findings.new) result (optional_of 0x30 extensions_of fields.old) }
 {
     match fields.optional(SEQUENCE)? {
         Some(element) => note_placed(element, findings),
@@ -110,7 +119,8 @@ fn note_extensions_if_any<'a>(
 /// Reads the entry that a SEQUENCE is, and adds what is found in its extensions.
 #[tactic(auto, unfolding(crate::specs::Reading::entry_of))]
 fn note_entry<'a>(element: Element<'a>, findings: &mut Findings<'a>) -> Result<(), Fault>
-    ensures { Notes (λ x. findings_of (x ∷ [])) (findings_in findings.old) (findings_in findings.new) result (entry_of (now element.entry)) }
+    ensures { Notes (λ x. findings_of (x ∷ [])) (findings_in findings.old)
+        (findings_in findings.new) result (entry_of (now element.entry)) }
 {
     let mut fields = element.reader();
     next_integer(&mut fields)?;
@@ -120,10 +130,12 @@ fn note_entry<'a>(element: Element<'a>, findings: &mut Findings<'a>) -> Result<(
     Ok(())
 }
 
-/// Reads the next entry, which the reader has then passed, and adds what is found in it to what was found before.
+/// Reads the next entry, which the reader has then passed, and adds what is found in it to what was
+/// found before.
 #[tactic(auto, unfolding(ts_shape::specs::Items::each, ts_shape::specs::Items::of_tag))]
 pub(crate) fn note_next<'a>(rest: &mut Reader<'a>, findings: &mut Findings<'a>) -> Result<(), Fault>
-    ensures { NotesNext (λ x. findings_of (x ∷ [])) rest.new (findings_in findings.old) (findings_in findings.new) result (each entry_in rest.old) }
+    ensures { NotesNext (λ x. findings_of (x ∷ [])) rest.new (findings_in findings.old)
+        (findings_in findings.new) result (each entry_in rest.old) }
 {
     note_entry(tagged_as(rest.next()?, SEQUENCE)?, findings)
 }

@@ -1,8 +1,10 @@
 //! A list that is kept.
 
-ghost use Rattle.std.specs.Prelude.{◌≡◌, ◌⊎◌, ℕ, List, Some, None, Ok, Err, option_map, IfErr, IsErrAnd};
+ghost use Rattle.std.specs.Prelude.{◌≡◌, ◌⊎◌, ℕ, List, Some, None, Ok, Err, option_map, IfErr};
+ghost use Rattle.std.specs.Prelude.{IsErrAnd};
 ghost use Rattle.ts_crl.specs.Fault.{ListFault};
-ghost use Rattle.ts_crl.specs.Kept.{kept_text, unreadable_in, RefusedFor, first_place, WasRead, Checks};
+ghost use Rattle.ts_crl.specs.Kept.{kept_text, unreadable_in, RefusedFor, first_place, WasRead};
+ghost use Rattle.ts_crl.specs.Kept.{Checks};
 ghost use Rattle.ts_crl.specs.EntryView.{revoked_in};
 ghost use Rattle.ts_crl.specs.ListView.{crl_in};
 ghost use Rattle.ts_crl.specs.OwnedView.{list_of};
@@ -51,7 +53,8 @@ impl<'a> From<AllocError> for OwnedCrlFault<'a> {
     }
 }
 
-/// A list of revoked certificates with memory of its own. A contract sees it as its octets, which are a list.
+/// A list of revoked certificates with memory of its own. A contract sees it as its octets, which
+/// are a list.
 #[derive(Debug, Drop)]
 pub struct OwnedCrl {
     octets: Vec<u8>,
@@ -97,8 +100,10 @@ impl OwnedCrl {
     /// `Unreadable` with the first rule that the octets break, as [`Crl::read`] answers it; then `Memory`, where memory
     /// ran out. Nothing is kept then.
     pub fn read<'a>(alloc: Global, octets: &'a [u8]) -> Result<OwnedCrl, OwnedCrlFault<'a>>
-        ensures kept { crl_fault octets.now ≡ None → (result ≡ Ok octets.now) ⊎ (result ≡ Err Memory) }
-        ensures refused { (f : ListFault) → crl_fault octets.now ≡ Some f → IsErrAnd result (λ e. unreadable_in e ≡ Some f) }
+        ensures kept { crl_fault octets.now ≡ None
+            → (result ≡ Ok octets.now) ⊎ (result ≡ Err Memory) }
+        ensures refused { (f : ListFault) → crl_fault octets.now ≡ Some f
+            → IsErrAnd result (λ e. unreadable_in e ≡ Some f) }
         ensures exact { IfErr result (λ e. RefusedFor octets.now e) }
     {
         let first = match check(octets) {

@@ -22,7 +22,8 @@ const CRL_EXTENSIONS: u8 = 0xA0;
 /// The extensions of a list or of an entry (RFC 5280 5.1.2.7, 5.3).
 #[derive(Clone, Copy)]
 pub(crate) struct Placed<'a> {
-    /// The offset of the element that holds them: of a list the explicit tag, of an entry the SEQUENCE.
+    /// The offset of the element that holds them: of a list the explicit tag, of an entry the
+    /// SEQUENCE.
     pub at: usize,
     /// The extensions.
     pub list: ExtensionList<'a>,
@@ -42,7 +43,8 @@ fn read_extensions<'a>(element: Element<'a>) -> Result<Placed<'a>, Fault>
 /// The extensions that a SEQUENCE within an element is, and nothing after it.
 #[tactic(auto, unfolding(ts_shape::specs::Items::alone, ts_shape::specs::Items::each, ts_shape::specs::Items::of_tag))]
 fn read_alone<'a>(element: Element<'a>) -> Result<ExtensionList<'a>, Fault>
-    ensures { Answers listed_in result (alone (of_tag 0x30 (some_of located_in)) (now element.entry)) }
+    ensures { Answers listed_in result
+        (alone (of_tag 0x30 (some_of located_in)) (now element.entry)) }
 {
     let mut fields = element.reader();
     let extensions = ExtensionList::read(tagged_as(fields.next()?, SEQUENCE)?)?;
@@ -66,7 +68,8 @@ fn read_wrapped<'a>(element: Element<'a>) -> Result<Placed<'a>, Fault>
 pub(crate) fn next_extensions_if_any<'a>(
     fields: &mut Reader<'a>,
 ) -> Result<Option<Placed<'a>>, Fault>
-    ensures { Takes (option_map placed_in) fields.new result (optional_of 0x30 extensions_of fields.old) }
+    ensures { Takes (option_map placed_in) fields.new result
+        (optional_of 0x30 extensions_of fields.old) }
 {
     match fields.optional(SEQUENCE)? {
         Some(element) => Ok(Some(read_extensions(element)?)),
@@ -77,7 +80,8 @@ pub(crate) fn next_extensions_if_any<'a>(
 /// The extensions of a list, where they are next.
 #[tactic(auto, unfolding(ts_shape::specs::Fields::optional_of, ts_der::specs::Reading::optional_at))]
 pub(crate) fn next_wrapped_if_any<'a>(fields: &mut Reader<'a>) -> Result<Option<Placed<'a>>, Fault>
-    ensures { Takes (option_map placed_in) fields.new result (optional_of 0xA0 wrapped_extensions_of fields.old) }
+    ensures { Takes (option_map placed_in) fields.new result
+        (optional_of 0xA0 wrapped_extensions_of fields.old) }
 {
     match fields.optional(CRL_EXTENSIONS)? {
         Some(element) => Ok(Some(read_wrapped(element)?)),

@@ -9,7 +9,14 @@ ghost use Rattle.ts_crl.specs.EntryView.{listed_in, placed_in, revoked_in};
 ghost use Rattle.ts_crl.specs.Fault.{fault_in};
 ghost use Rattle.ts_crl.specs.List.{unlocated_extensions, unlocated_entry};
 ghost use Rattle.ts_crl.specs.ListView.{crl_in};
-ghost use Rattle.ts_crl.specs.Profile.{has_number as has_number_of_list, unprocessed_in as unprocessed_in_list, unprocessed_of_entries as unprocessed_of, unprocessed as unprocessed_of_list, names_issuer, as_scope, is_relative_name, scope_meets, scope_of, is_indirect as is_indirect_list, is_relative as is_relative_list, is_delta as is_delta_list, profile_fault as profile_fault_of};
+ghost use Rattle.ts_crl.specs.Profile.{has_number as has_number_of_list};
+ghost use Rattle.ts_crl.specs.Profile.{unprocessed_in as unprocessed_in_list};
+ghost use Rattle.ts_crl.specs.Profile.{unprocessed_of_entries as unprocessed_of};
+ghost use Rattle.ts_crl.specs.Profile.{unprocessed as unprocessed_of_list, names_issuer, as_scope};
+ghost use Rattle.ts_crl.specs.Profile.{is_relative_name, scope_meets, scope_of};
+ghost use Rattle.ts_crl.specs.Profile.{is_indirect as is_indirect_list};
+ghost use Rattle.ts_crl.specs.Profile.{is_relative as is_relative_list, is_delta as is_delta_list};
+ghost use Rattle.ts_crl.specs.Profile.{profile_fault as profile_fault_of};
 
 use crate::crl::Crl;
 use crate::extension_list::ExtensionList;
@@ -21,7 +28,8 @@ use ts_ext::{Ext, Holder, IssuingDistributionPoint, Known, PointName};
 
 /// The object identifier of the first critical extension that is not processed.
 fn unprocessed_in<'a>(holder: Holder, list: ExtensionList<'a>) -> Option<&'a [u8]>
-    ensures { option_copied result ≡ unprocessed_in_list holder (map unlocated (listed_in list.entry)) }
+    ensures { option_copied result
+        ≡ unprocessed_in_list holder (map unlocated (listed_in list.entry)) }
 {
     for extension in list.extensions().iter() {
         if extension.critical && Known::at(holder, extension.id).is_none() {
@@ -33,19 +41,24 @@ fn unprocessed_in<'a>(holder: Holder, list: ExtensionList<'a>) -> Option<&'a [u8
 
 /// The same where there may be no extensions.
 fn unprocessed_if_any<'a>(holder: Holder, placed: Option<Placed<'a>>) -> Option<&'a [u8]>
-    ensures { option_copied result ≡ unprocessed_in_list holder (unwrap_or (option_map unlocated_extensions (option_map placed_in placed.entry)) []) }
+    ensures { option_copied result
+        ≡ unprocessed_in_list holder (unwrap_or
+        (option_map unlocated_extensions (option_map placed_in placed.entry)) []) }
 {
     unprocessed_in(holder, placed?.list)
 }
 
 /// The same for entries, where there may be no list of them: it was found when they were read.
 fn unprocessed_of_entries_if_any<'a>(revoked: Option<Revoked<'a>>) -> Option<&'a [u8]>
-    ensures { option_copied result ≡ unprocessed_of (unwrap_or (option_map (map unlocated_entry) (option_map revoked_in revoked.entry)) []) }
+    ensures { option_copied result
+        ≡ unprocessed_of (unwrap_or (option_map (map unlocated_entry)
+        (option_map revoked_in revoked.entry)) []) }
 {
     revoked?.findings.unprocessed
 }
 
-/// The object identifier of the first critical extension of a list, then of its entries, that is not processed.
+/// The object identifier of the first critical extension of a list, then of its entries, that is
+/// not processed.
 fn unprocessed<'a>(crl: &Crl<'a>) -> Option<&'a [u8]>
     ensures { option_copied result ≡ unprocessed_of_list (crl_in crl.now) }
 {
@@ -55,9 +68,11 @@ fn unprocessed<'a>(crl: &Crl<'a>) -> Option<&'a [u8]>
     }
 }
 
-/// Whether an entry names another issuer, where there may be no list of them: it was found when they were read.
+/// Whether an entry names another issuer, where there may be no list of them: it was found when
+/// they were read.
 fn has_issuer_if_any(revoked: Option<Revoked<'_>>) -> bool
-    ensures { result ≡ list_any names_issuer (unwrap_or (option_map (map unlocated_entry) (option_map revoked_in revoked.entry)) []) }
+    ensures { result ≡ list_any names_issuer
+        (unwrap_or (option_map (map unlocated_entry) (option_map revoked_in revoked.entry)) []) }
 {
     match revoked {
         Some(revoked) => revoked.findings.names_issuer,

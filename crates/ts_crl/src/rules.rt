@@ -6,7 +6,13 @@ ghost use Rattle.ts_ext.specs.ExtensionView.{located_as};
 ghost use Rattle.ts_ext.specs.ValueRules.{values_fault as values_fault_of};
 ghost use Rattle.ts_crl.specs.EntryView.{listed_in, placed_in, revoked_in};
 ghost use Rattle.ts_crl.specs.ListView.{located_list_in};
-ghost use Rattle.ts_crl.specs.Rules.{located_as_ruled, all_located_as_ruled, rule_fault as rule_fault_of, fault_if_any as fault_if_any_of, entries_fault as entries_fault_of, fault_by_place as fault_by_place_of, version_fault as version_fault_of, algorithms_fault as algorithms_fault_of, placed_fault as placed_fault_of};
+ghost use Rattle.ts_crl.specs.Rules.{located_as_ruled, all_located_as_ruled};
+ghost use Rattle.ts_crl.specs.Rules.{rule_fault as rule_fault_of, fault_if_any as fault_if_any_of};
+ghost use Rattle.ts_crl.specs.Rules.{entries_fault as entries_fault_of};
+ghost use Rattle.ts_crl.specs.Rules.{fault_by_place as fault_by_place_of};
+ghost use Rattle.ts_crl.specs.Rules.{version_fault as version_fault_of};
+ghost use Rattle.ts_crl.specs.Rules.{algorithms_fault as algorithms_fault_of};
+ghost use Rattle.ts_crl.specs.Rules.{placed_fault as placed_fault_of};
 
 use crate::crl::Crl;
 use crate::extension_list::ExtensionList;
@@ -18,8 +24,8 @@ use crate::version::ListVersion;
 use ts_ext::{Extension, Holder, Known};
 use ts_shape::{CertFault, CertRule, first_repeated};
 
-/// An extension under the object identifier of the one whose rules its value keeps: a base number keeps those of the
-/// number of a list (RFC 5280 5.2.4).
+/// An extension under the object identifier of the one whose rules its value keeps: a base number
+/// keeps those of the number of a list (RFC 5280 5.2.4).
 fn as_ruled<'a>(extension: Extension<'a>) -> Extension<'a>
     ensures { located_as result ≡ located_as_ruled (located_as extension.entry) }
 {
@@ -87,7 +93,8 @@ fn fault_if_any(
     rule_fault(rule, holder, placed?)
 }
 
-/// The first place at which the extensions of entries break a rule, which was found when they were read.
+/// The first place at which the extensions of entries break a rule, which was found when they were
+/// read.
 fn entries_fault(rule: ExtensionRule, revoked: Revoked<'_>) -> Option<CertFault>
     ensures { result ≡ entries_fault_of rule (revoked_in revoked.entry) }
 {

@@ -8,7 +8,9 @@ ghost use Rattle.ts_ext.specs.ExtensionView.{extensions_in};
 ghost use Rattle.ts_crl.specs.EntryView.{extension_as};
 ghost use Rattle.ts_crl.specs.ListView.{crl_in};
 ghost use Rattle.ts_crl.specs.Profile.{is_delta as is_delta_list};
-ghost use Rattle.ts_crl.specs.Slots.{octets_of, is_same_value as are_same_value, have_same_values as have_same_values_of, is_same_slot as are_one_slot};
+ghost use Rattle.ts_crl.specs.Slots.{octets_of, is_same_value as are_same_value};
+ghost use Rattle.ts_crl.specs.Slots.{have_same_values as have_same_values_of};
+ghost use Rattle.ts_crl.specs.Slots.{is_same_slot as are_one_slot};
 ghost use Rattle.ts_crl.specs.Values.{is_known};
 
 use crate::crl::Crl;
@@ -24,12 +26,13 @@ fn is_same(name: Name<'_>, other: Name<'_>) -> bool
     name.same(other)
 }
 
-/// The octets of a name that are few enough to be compared as they lie: no relative distinguished name in them has more
-/// attributes than `Rdn::same` has room for.
+/// The octets of a name that are few enough to be compared as they lie: no relative distinguished
+/// name in them has more attributes than `Rdn::same` has room for.
 const FEW: usize = 65_536;
 
-/// Whether two names are the same. Two long ones are put in canonical form first, since the attributes of each may come in
-/// an order of its own, and would be looked up in those of the other one by one.
+/// Whether two names are the same. Two long ones are put in canonical form first, since the
+/// attributes of each may come in an order of its own, and would be looked up in those of the other
+/// one by one.
 fn is_same_in(alloc: Global, name: Name<'_>, other: Name<'_>) -> Result<bool, AllocError>
     ensures { IfOk result (λ same. same ≡ is_same_name (rdns_in name.entry) (rdns_in other.entry)) }
 {
@@ -43,14 +46,16 @@ fn is_same_in(alloc: Global, name: Name<'_>, other: Name<'_>) -> Result<bool, Al
 
 /// The first of the extensions that is this one.
 fn find_among<'a>(known: Known, extensions: Extensions<'a>) -> Option<Extension<'a>>
-    ensures { option_map extension_as result ≡ find (is_known known) (extensions_in extensions.entry) }
+    ensures { option_map extension_as result
+        ≡ find (is_known known) (extensions_in extensions.entry) }
 {
     extensions.find(known)
 }
 
 /// The octets of an extension's value, among others.
 fn octets_among<'a>(known: Known, extensions: Extensions<'a>) -> Option<&'a [u8]>
-    ensures { option_map (λ o. o.now) result ≡ option_map (λ x. x.extnValue) (find (is_known known) (extensions_in extensions.entry)) }
+    ensures { option_map (λ o. o.now) result
+        ≡ option_map (λ x. x.extnValue) (find (is_known known) (extensions_in extensions.entry)) }
 {
     match find_among(known, extensions) {
         Some(extension) => Some(extension.value.content),
@@ -70,7 +75,8 @@ fn value_octets<'a>(known: Known, crl: &Crl<'a>) -> Option<&'a [u8]>
 
 /// Whether two values are both absent, or equal.
 fn is_same_value(value: Option<&[u8]>, other: Option<&[u8]>) -> bool
-    ensures { result ≡ are_same_value (option_map (λ o. o.now) value.entry) (option_map (λ o. o.now) other.entry) }
+    ensures { result ≡ are_same_value (option_map (λ o. o.now) value.entry)
+        (option_map (λ o. o.now) other.entry) }
 {
     match (value, other) {
         (None, None) => true,
@@ -79,7 +85,8 @@ fn is_same_value(value: Option<&[u8]>, other: Option<&[u8]>) -> bool
     }
 }
 
-/// Whether two lists have the same issuing distribution point, and the same authority key identifier.
+/// Whether two lists have the same issuing distribution point, and the same authority key
+/// identifier.
 fn have_same_values(crl: &Crl<'_>, other: &Crl<'_>) -> bool
     ensures { result ≡ have_same_values_of (crl_in crl.now) (crl_in other.now) }
 {
@@ -108,21 +115,24 @@ fn are_of_one_slot_in(alloc: Global, crl: &Crl<'_>, other: &Crl<'_>) -> Result<b
 }
 
 impl<'a> Crl<'a> {
-    /// Whether two lists are of one slot: their issuers are the same, and so are the octets of their issuing
-    /// distribution points and of their authority key identifiers, or both have none (RFC 5280 6.3.3 (c)).
+    /// Whether two lists are of one slot: their issuers are the same, and so are the octets of
+    /// their issuing distribution points and of their authority key identifiers, or both have none
+    /// (RFC 5280 6.3.3 (c)).
     pub fn is_same_slot(self, other: Crl<'_>) -> bool
         ensures { result ≡ are_one_slot (crl_in self.entry) (crl_in other.entry) }
     {
         are_of_one_slot(&self, &other)
     }
 
-    /// The same, in time that grows with the lists' octets and not with the product of their numbers of attributes.
+    /// The same, in time that grows with the lists' octets and not with the product of their
+    /// numbers of attributes.
     ///
     /// # Errors
     ///
     /// Memory that is refused, where both issuers have more than 65,536 octets.
     pub fn is_same_slot_in(self, alloc: Global, other: Crl<'_>) -> Result<bool, AllocError>
-        ensures { IfOk result (λ same. same ≡ are_one_slot (crl_in self.entry) (crl_in other.entry)) }
+        ensures { IfOk result (λ same. same
+            ≡ are_one_slot (crl_in self.entry) (crl_in other.entry)) }
     {
         are_of_one_slot_in(alloc, &self, &other)
     }

@@ -10,7 +10,9 @@ ghost use Rattle.ts_ext.specs.ExtView.{ext_in};
 ghost use Rattle.ts_ext.specs.Known.{known_at};
 ghost use Rattle.ts_crl.specs.EntryView.{extension_as, listed_in, placed_in};
 ghost use Rattle.ts_crl.specs.List.{unlocated_extensions};
-ghost use Rattle.ts_crl.specs.Values.{is_known, value_in_octets, value_if_any as value_of_if_any, value_among, with_number as said_with_number, located_with_number};
+ghost use Rattle.ts_crl.specs.Values.{is_known, value_in_octets, value_if_any as value_of_if_any};
+ghost use Rattle.ts_crl.specs.Values.{value_among, with_number as said_with_number};
+ghost use Rattle.ts_crl.specs.Values.{located_with_number};
 
 use crate::extension_list::ExtensionList;
 use crate::placed::Placed;
@@ -22,7 +24,9 @@ const CRL_NUMBER: &[u8] = b"\x55\x1d\x14";
 
 /// The value of an extension.
 fn value_of<'a>(holder: Holder, extension: Extension<'a>) -> Option<Ext<'a>>
-    ensures { option_map ext_in result ≡ value_in_octets (known_at holder extension.entry.id.content.now) extension.entry.value.content.now }
+    ensures { option_map ext_in result
+        ≡ value_in_octets (known_at holder extension.entry.id.content.now)
+        extension.entry.value.content.now }
 {
     let Extension { id, value, .. } = extension;
     Ext::read(holder, id, value).ok()
@@ -30,14 +34,16 @@ fn value_of<'a>(holder: Holder, extension: Extension<'a>) -> Option<Ext<'a>>
 
 /// The first extension of a list that is this one.
 fn find_in<'a>(known: Known, list: ExtensionList<'a>) -> Option<Extension<'a>>
-    ensures { option_map extension_as result ≡ find (is_known known) (map unlocated (listed_in list.entry)) }
+    ensures { option_map extension_as result
+        ≡ find (is_known known) (map unlocated (listed_in list.entry)) }
 {
     list.extensions().find(known)
 }
 
 /// The value of the first extension of a list that is this one.
 fn value_in<'a>(holder: Holder, known: Known, list: ExtensionList<'a>) -> Option<Ext<'a>>
-    ensures { option_map ext_in result ≡ value_among holder known (map unlocated (listed_in list.entry)) }
+    ensures { option_map ext_in result
+        ≡ value_among holder known (map unlocated (listed_in list.entry)) }
 {
     value_of(holder, find_in(known, list)?)
 }
@@ -48,7 +54,9 @@ pub(crate) fn value_if_any<'a>(
     known: Known,
     placed: Option<Placed<'a>>,
 ) -> Option<Ext<'a>>
-    ensures { option_map ext_in result ≡ value_among holder known (unwrap_or (option_map unlocated_extensions (option_map placed_in placed.entry)) []) }
+    ensures { option_map ext_in result
+        ≡ value_among holder known (unwrap_or
+        (option_map unlocated_extensions (option_map placed_in placed.entry)) []) }
 {
     value_in(holder, known, placed?.list)
 }
@@ -68,7 +76,9 @@ pub(crate) fn with_number<'a>(extension: Extension<'a>) -> Extension<'a>
 
 /// The value of the first deltaCRLIndicator of a list, as that of cRLNumber.
 fn base_in<'a>(list: ExtensionList<'a>) -> Option<Ext<'a>>
-    ensures { option_map ext_in result ≡ value_of_if_any ListHolder (option_map said_with_number (find (is_known DeltaCrlIndicator) (map unlocated (listed_in list.entry)))) }
+    ensures { option_map ext_in result
+        ≡ value_of_if_any ListHolder (option_map said_with_number
+        (find (is_known DeltaCrlIndicator) (map unlocated (listed_in list.entry)))) }
 {
     value_of(
         Holder::List,
@@ -78,7 +88,10 @@ fn base_in<'a>(list: ExtensionList<'a>) -> Option<Ext<'a>>
 
 /// The same where there may be no extensions.
 pub(crate) fn base_if_any<'a>(placed: Option<Placed<'a>>) -> Option<Ext<'a>>
-    ensures { option_map ext_in result ≡ value_of_if_any ListHolder (option_map said_with_number (find (is_known DeltaCrlIndicator) (unwrap_or (option_map unlocated_extensions (option_map placed_in placed.entry)) []))) }
+    ensures { option_map ext_in result
+        ≡ value_of_if_any ListHolder (option_map said_with_number
+        (find (is_known DeltaCrlIndicator)
+        (unwrap_or (option_map unlocated_extensions (option_map placed_in placed.entry)) []))) }
 {
     base_in(placed?.list)
 }
@@ -92,7 +105,8 @@ fn is_in(known: Known, list: ExtensionList<'_>) -> bool
 
 /// The same where there may be no extensions.
 pub(crate) fn is_among(known: Known, placed: Option<Placed<'_>>) -> bool
-    ensures { result ≡ list_any (is_known known) (unwrap_or (option_map unlocated_extensions (option_map placed_in placed.entry)) []) }
+    ensures { result ≡ list_any (is_known known)
+        (unwrap_or (option_map unlocated_extensions (option_map placed_in placed.entry)) []) }
 {
     match placed {
         Some(placed) => is_in(known, placed.list),

@@ -1,4 +1,5 @@
-//! Rows by hand: elements that are read, their faults with their places, and elements that are written.
+//! Rows by hand: elements that are read, their faults with their places, and elements that are
+//! written.
 
 use std::alloc::{AllocError, Global};
 use ts_der::{Bits, DerFault, Element, Fault, OidRef, Reader, Writer};
@@ -66,7 +67,8 @@ fn header_faults(rt: HostRuntime) {
 /// SEQUENCE { BOOLEAN TRUE, SEQUENCE { INTEGER 5, OCTET STRING 07 } }, and one octet more.
 const NESTED: &[u8] = b"\x30\x0b\x01\x01\xff\x30\x06\x02\x01\x05\x04\x01\x07\x00";
 
-/// Whether an input is empty, the places of its first sequence, that one's length, and what refuses the end there.
+/// Whether an input is empty, the places of its first sequence, that one's length, and what refuses
+/// the end there.
 fn outer(octets: &[u8]) -> Result<(bool, usize, usize, usize, Option<Place>), Fault> {
     let mut input = Reader::new(octets);
     let is_empty = input.is_at_end();
@@ -79,8 +81,8 @@ fn outer(octets: &[u8]) -> Result<(bool, usize, usize, usize, Option<Place>), Fa
     Ok((is_empty, at, start, whole.len(), refusal(input.end())))
 }
 
-/// What refuses an INTEGER as the first field, whether it is absent, two flags, and the tag and places of the element
-/// after them, which is the last.
+/// What refuses an INTEGER as the first field, whether it is absent, two flags, and the tag and
+/// places of the element after them, which is the last.
 fn fields(octets: &[u8]) -> Result<(Option<Place>, bool, (bool, bool), (u8, usize, usize)), Fault> {
     let mut fields = Reader::new(octets).element(SEQUENCE)?.reader();
     let refused = refusal(fields.element(INTEGER));
@@ -91,8 +93,8 @@ fn fields(octets: &[u8]) -> Result<(Option<Place>, bool, (bool, bool), (u8, usiz
     Ok((refused, is_absent, flags, (tag, at, start)))
 }
 
-/// The places and value of an optional INTEGER in the inner sequence, what refuses the end after it, the octets of
-/// the string there, and whether that is the end.
+/// The places and value of an optional INTEGER in the inner sequence, what refuses the end after
+/// it, the octets of the string there, and whether that is the end.
 fn inner<'a>(octets: &'a [u8]) -> Option<((usize, usize, u32), Option<Place>, &'a [u8], bool)> {
     let mut fields = Reader::new(octets).element(SEQUENCE).ok()?.reader();
     fields.expect(BOOLEAN).ok()?;
@@ -166,7 +168,8 @@ fn booleans(rt: HostRuntime) {
     }
 }
 
-/// Whether an INTEGER is negative, or the fault and its place, and its octets, none where there is a fault.
+/// Whether an INTEGER is negative, or the fault and its place, and its octets, none where there is
+/// a fault.
 fn integer<'a>(octets: &'a [u8]) -> (Result<bool, Place>, &'a [u8]) {
     match first(octets).and_then(|element| element.integer()) {
         Ok(integer) => (Ok(integer.is_negative()), integer.octets),
@@ -231,7 +234,8 @@ fn small_integers(rt: HostRuntime) {
     }
 }
 
-/// The unused bits of a BIT STRING, or the fault and its place, and its octets, none where there is a fault.
+/// The unused bits of a BIT STRING, or the fault and its place, and its octets, none where there is
+/// a fault.
 fn bits<'a>(octets: &'a [u8]) -> (Result<u8, Place>, &'a [u8]) {
     match first(octets).and_then(|element| element.bits()) {
         Ok(Bits { unused, octets, .. }) => (Ok(unused), octets),
@@ -247,8 +251,8 @@ fn whole_octets(octets: &[u8]) -> Result<&[u8], Fault> {
     first(octets)?.whole_octets()
 }
 
-/// Elements, with the unused bits of the BIT STRING or the fault, the octets, what refuses named bits, and what refuses
-/// whole octets.
+/// Elements, with the unused bits of the BIT STRING or the fault, the octets, what refuses named
+/// bits, and what refuses whole octets.
 const BIT_STRINGS: [(
     &[u8],
     Result<u8, Place>,

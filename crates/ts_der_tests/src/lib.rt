@@ -1,4 +1,5 @@
-//! Tests of octets and values, of times, of shapes and of signature checks, over the public calls of their crates.
+//! Tests of octets and values, of times, of shapes and of signature checks, over the public calls
+//! of their crates.
 //!
 //! In a crate of their own they are proved alone: a crate with tests is proved once more with them.
 #![tactic(auto)]

@@ -1,4 +1,5 @@
-//! Lists with repeated items by hand: object identifiers of which the first that repeats an earlier one is known.
+//! Lists with repeated items by hand: object identifiers of which the first that repeats an earlier
+//! one is known.
 
 use std::alloc::{AllocError, Global};
 use std::test::Fail;
@@ -71,8 +72,8 @@ fn the_first_by_place_is_found(rt: HostRuntime) -> Result<(), Fail> {
     Ok(())
 }
 
-/// All identifiers of one octet, 128 of them, and more after them. Of the keys 29 set a flag that an earlier one has
-/// set; a short list's table holds 16.
+/// All identifiers of one octet, 128 of them, and more after them. Of the keys 29 set a flag that
+/// an earlier one has set; a short list's table holds 16.
 fn short(alloc: Global, more: &[u8; 6]) -> Result<Vec<u8>, AllocError> {
     let mut list = Vec::from_slice(alloc, b"\x30\x82\x01\x86")?;
     for octet in 0u8..128 {

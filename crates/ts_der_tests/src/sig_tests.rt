@@ -1,4 +1,5 @@
-//! Values from outside: the digest of `abc` that the standard prints, and digests that Python's hashlib gives.
+//! Values from outside: the digest of `abc` that the standard prints, and digests that Python's
+//! hashlib gives.
 
 use hex::FromHex;
 use std::alloc::Global;
@@ -11,8 +12,8 @@ use ts_sig::{
 /// The SHA-256 of `abc` (FIPS 180-2, appendix B.1).
 const ABC: &str = "ba7816bf8f01cfea414140de5dae2223b00361a396177a9cb410ff61f20015ad";
 
-/// hashlib.sha256 of 00000008 3006060488370101 00000004 88370101 00000002 0500 00000001 61 00000002 6263
-/// 00000003 010203.
+/// hashlib.sha256 of 00000008 3006060488370101 00000004 88370101 00000002 0500 00000001 61 00000002
+/// 6263 00000003 010203.
 const LISTED: &str = "06241b6abba40c242305755491eadd5e52e355512d19f75abda7f4eff57fcb58\n";
 
 /// The same without parameters: their length is 00000000, and nothing follows it.

@@ -3,8 +3,8 @@
 use ts_der::DerFault;
 use ts_time::{Moment, begins_with_utc, print_general, print_utc, read_general, read_utc};
 
-/// What a text is in one of the forms: the seconds of a moment and whether that is printed as the same text, or why it
-/// is none.
+/// What a text is in one of the forms: the seconds of a moment and whether that is printed as the
+/// same text, or why it is none.
 type Read = Result<(i64, bool), DerFault>;
 
 const REFUSED: Read = Err(DerFault::TimeForm);

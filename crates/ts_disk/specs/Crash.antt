@@ -1,5 +1,5 @@
--- What a crash leaves of a disk in memory: of what was written since the last sync, what the disk held before, what was
--- written, or one octet everywhere.
+-- What a crash leaves of a disk in memory: of what was written since the last sync, what the disk
+-- held before, what was written, or one octet everywhere.
 use Rattle.std.specs.Prelude.{ℕ, List, [], ◌∷◌, length, replicate, cond, nat_le}
 use Rattle.ts_disk.specs.declared.call.DiskCall.{DiskCall}
 use Rattle.ts_disk.specs.declared.call.DiskCall.TheVariants.{Read, Write, Sync}
@@ -29,7 +29,9 @@ left_after torn read left Read = left
 left_after torn read left (Write at octets) = torn_by torn left at octets.items
 left_after torn read left Sync = read
 
--- what a crash leaves after calls, of a disk that a read gave the first image of, and a crash the second
+-- what a crash leaves after calls, of a disk that a read gave the first image of, and a crash the
+-- second
 abbrev pub left_of : Torn → List ℕ → List ℕ → List DiskCall → List ℕ
 left_of torn read left [] = left
-left_of torn read left (call ∷ calls) = left_of torn (read_after read call) (left_after torn read left call) calls
+left_of torn read left (call ∷ calls) =
+    left_of torn (read_after read call) (left_after torn read left call) calls

@@ -1,7 +1,10 @@
--- Which calls of a disk in memory fail because a test wants it so: each one after a fuse, and one alone.
-use Rattle.std.specs.Prelude.{ℕ, Bool, false, min, ◌+◌, ◌-◌, ◌^◌, ◌||◌, Option, Some, None, nat_lt, nat_eq}
+-- Which calls of a disk in memory fail because a test wants it so: each one after a fuse, and one
+-- alone.
+use Rattle.std.specs.Prelude.{ℕ, Bool, false, min, ◌+◌, ◌-◌, ◌^◌, ◌||◌, Option, Some, None, nat_lt}
+use Rattle.std.specs.Prelude.{nat_eq}
 
--- the calls made, how many pass, and the one that fails, all counted from the first call and up to 2^64 - 1
+-- the calls made, how many pass, and the one that fails, all counted from the first call and up to
+-- 2^64 - 1
 pub record Plan : Type 0 where
   pub made : ℕ
   pub passing : Option ℕ
@@ -21,8 +24,13 @@ is_at (Some k) call = nat_eq k call
 
 -- the next call fails
 abbrev pub is_refused : Plan → Bool
-is_refused plan = is_past plan.passing (up_to_last plan.made 1) || is_at plan.fails_at (up_to_last plan.made 1)
+is_refused plan = is_past plan.passing (up_to_last plan.made 1)
+    || is_at plan.fails_at (up_to_last plan.made 1)
 
 -- one call more is made
 abbrev pub called : Plan → Plan
-called plan = record { made = up_to_last plan.made 1; passing = plan.passing; fails_at = plan.fails_at }
+called plan = record {
+  made = up_to_last plan.made 1;
+  passing = plan.passing;
+  fails_at = plan.fails_at;
+}

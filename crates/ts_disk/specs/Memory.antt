@@ -13,7 +13,8 @@ abbrev pub state_of : MemDisk → State
 state_of disk = seen disk.octets.items disk.failures (history disk.first.items disk.calls.items)
 
 abbrev pub lawful_of : (disk : MemDisk) → IsDisk (state_of disk)
-lawful_of disk = seen_disk disk.first.items disk.calls.items disk.octets.items disk.failures disk.bounded disk.replayed
+lawful_of disk = seen_disk disk.first.items disk.calls.items disk.octets.items disk.failures
+    disk.bounded disk.replayed
 
 -- the calls that did not fail
 abbrev pub calls_of : MemDisk → List DiskCall

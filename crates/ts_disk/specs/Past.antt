@@ -6,7 +6,14 @@ use Rattle.ts_disk.specs.Disk.{State, Torn, written}
 
 -- a durable disk with this image
 abbrev pub start : List ℕ → State
-start image = record { read = image; may_leave = λ c. c ≡ image; moment = 0; left_since = λ t c. c ≡ image; failures = 0 }
+start image = record {
+  read = image;
+  may_leave = λ c. c ≡ image;
+  moment = 0;
+  left_since = λ t c. c
+      ≡ image;
+  failures = 0;
+}
 
 -- a crash now may leave these images, which joins those of the moments before
 abbrev pub next : State → List ℕ → (List ℕ → Type 0) → State
@@ -18,11 +25,13 @@ next old image may_leave = record {
   failures = old.failures;
 }
 
--- A write tears its range until a sync, after which there is one image. A write that begins past the end writes nothing.
+-- A write tears its range until a sync, after which there is one image. A write that begins past
+-- the end writes nothing.
 abbrev pub after : State → DiskCall → State
 after old Read = old
 after old (Write at octets) =
-    next old (cond (nat_le at (length old.read)) (written old.read at octets.items) old.read) (λ c. (d : List ℕ) × old.may_leave d × Torn at (length octets.items) d c)
+    next old (cond (nat_le at (length old.read)) (written old.read at octets.items) old.read)
+    (λ c. (d : List ℕ) × old.may_leave d × Torn at (length octets.items) d c)
 after old Sync = next old old.read (λ c. c ≡ old.read)
 
 abbrev pub after_all : State → List DiskCall → State

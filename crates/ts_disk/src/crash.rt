@@ -6,8 +6,8 @@ use crate::DiskCall;
 use crate::memory::overwrite;
 use std::alloc::{AllocError, Global};
 
-/// What a crash leaves of the octets that were written since the last sync: what the disk held before, and its length
-/// then; what was written; or one octet everywhere.
+/// What a crash leaves of the octets that were written since the last sync: what the disk held
+/// before, and its length then; what was written; or one octet everywhere.
 #[derive(Clone, Copy, Debug, PartialEq, Eq)]
 pub enum Torn {
     Old,
@@ -51,7 +51,8 @@ fn step(
     call: &DiskCall,
 ) -> Result<(), AllocError>
     ensures read { OnOk result (read.new.items ≡ read_after read.old.items call.now) }
-    ensures left { OnOk result (left.new.items ≡ left_after torn read.old.items left.old.items call.now) }
+    ensures left { OnOk result (left.new.items
+        ≡ left_after torn read.old.items left.old.items call.now) }
 {
     match call {
         DiskCall::Read => {}

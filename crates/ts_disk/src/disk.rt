@@ -21,11 +21,12 @@ pub trait Disk {
         ensures call { Call Same (state self.old) (state self.new) }
         ensures cause { HasCause (state self.old) (state self.new) result };
 
-    /// Writes octets at an offset, over what is there and past the end. Until a sync, a crash may leave any
-    /// octets in that range.
+    /// Writes octets at an offset, over what is there and past the end. Until a sync, a crash may
+    /// leave any octets in that range.
     fn write_at(&mut self, at: usize, octets: &[u8]) -> Result<(), DiskFault>
         requires { at ≤ length (state self.old).read }
-        ensures written { OnOk result ((state self.new).read ≡ written (state self.old).read at octets.now) }
+        ensures written { OnOk result ((state self.new).read
+            ≡ written (state self.old).read at octets.now) }
         ensures call { Call (Torn at (length octets.now)) (state self.old) (state self.new) }
         ensures fault { IfErr result (λ fault. fault ≡ Failed) }
         ensures cause { HasCause (state self.old) (state self.new) result };

@@ -5,14 +5,16 @@ ghost use Rattle.ts_disk.specs.Disk.{Torn, written, IsDurable, HasCause, EveryIm
 
 use crate::{Disk, DiskFault};
 
-/// Writes octets at an offset of a durable disk, and syncs. At every moment since the call began, each image
-/// that a crash may leave has the octets outside the range as they were.
+/// Writes octets at an offset of a durable disk, and syncs. At every moment since the call began,
+/// each image that a crash may leave has the octets outside the range as they were.
 pub fn put<D: Disk>(disk: &mut D, at: usize, octets: &[u8]) -> Result<(), DiskFault>
     requires durable { IsDurable (D.state disk.old) }
     requires within { at ≤ length (D.state disk.old).read }
     ensures durable { OnOk result (IsDurable (D.state disk.new)) }
-    ensures written { OnOk result ((D.state disk.new).read ≡ written (D.state disk.old).read at octets.now) }
-    ensures moments { EveryImage (Torn at (length octets.now) (D.state disk.old).read) (D.state disk.old) (D.state disk.new) }
+    ensures written { OnOk result ((D.state disk.new).read
+        ≡ written (D.state disk.old).read at octets.now) }
+    ensures moments { EveryImage (Torn at (length octets.now) (D.state disk.old).read)
+        (D.state disk.old) (D.state disk.new) }
     ensures fault { IfErr result (λ fault. fault ≡ Failed) }
     ensures cause { HasCause (D.state disk.old) (D.state disk.new) result }
 {

@@ -1,4 +1,5 @@
-//! Disks as crash-safe code sees them: a list of octets, of which a crash may lose what was not yet synced.
+//! Disks as crash-safe code sees them: a list of octets, of which a crash may lose what was not yet
+//! synced.
 //!
 //! ```text
 //! let mut disk = MemDisk::new(alloc, Vec::new(alloc))?;

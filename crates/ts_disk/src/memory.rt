@@ -1,5 +1,6 @@
 // A disk in memory, which keeps a record of its calls, and fails when a test wants it to.
-ghost use Rattle.std.specs.Prelude.{◌≡◌, IfOk, ◌⊎◌, ◌<◌, ◌≤◌, ◌^◌, ◌-◌, List, ℕ, [], ◌∷◌, ◌++◌, length, true, Some, None, Err, OnOk, OnErr, IfErr, IsErr};
+ghost use Rattle.std.specs.Prelude.{◌≡◌, IfOk, ◌⊎◌, ◌<◌, ◌≤◌, ◌^◌, ◌-◌, List, ℕ, [], ◌∷◌, ◌++◌};
+ghost use Rattle.std.specs.Prelude.{length, true, Some, None, Err, OnOk, OnErr, IfErr, IsErr};
 ghost use Rattle.ts_disk.specs.declared.call.DiskCall.TheVariants.{Read, Write, Sync};
 ghost use Rattle.ts_disk.specs.declared.fault.DiskFault.TheVariants.{Failed};
 ghost use Rattle.ts_disk.specs.declared.crash.Torn.TheVariants.{New};
@@ -36,7 +37,8 @@ impl MemDisk {
     pub fn new(alloc: Global, octets: Vec<u8>) -> Result<MemDisk, AllocError>
         ensures read { IfOk result (λ disk. (state_of disk).read ≡ octets.items) }
         ensures durable { IfOk result (λ disk. IsDurable (state_of disk)) }
-        ensures plan { IfOk result (λ disk. plan_of disk ≡ record { made = 0; passing = None; fails_at = None }) }
+        ensures plan { IfOk result (λ disk. plan_of disk
+            ≡ record { made = 0; passing = None; fails_at = None }) }
     {
         Ok(MemDisk {
             alloc,
@@ -68,8 +70,10 @@ impl MemDisk {
     pub fn set_fuse(&mut self, passing: u64)
         ensures octets { (state_of self.new).read ≡ (state_of self.old).read }
         ensures failures { (state_of self.new).failures ≡ (state_of self.old).failures }
-        ensures images { (image : List ℕ) → (state_of self.new).may_leave image → (state_of self.old).may_leave image }
-        ensures kept { (image : List ℕ) → (state_of self.old).may_leave image → (state_of self.new).may_leave image }
+        ensures images { (image : List ℕ) → (state_of self.new).may_leave image
+            → (state_of self.old).may_leave image }
+        ensures kept { (image : List ℕ) → (state_of self.old).may_leave image
+            → (state_of self.new).may_leave image }
         ensures calls { calls_of self.new ≡ calls_of self.old }
         ensures plan { plan_of self.new ≡ record {
           made = (plan_of self.old).made;
@@ -84,8 +88,10 @@ impl MemDisk {
     pub fn fail_at(&mut self, call: u64)
         ensures octets { (state_of self.new).read ≡ (state_of self.old).read }
         ensures failures { (state_of self.new).failures ≡ (state_of self.old).failures }
-        ensures images { (image : List ℕ) → (state_of self.new).may_leave image → (state_of self.old).may_leave image }
-        ensures kept { (image : List ℕ) → (state_of self.old).may_leave image → (state_of self.new).may_leave image }
+        ensures images { (image : List ℕ) → (state_of self.new).may_leave image
+            → (state_of self.old).may_leave image }
+        ensures kept { (image : List ℕ) → (state_of self.old).may_leave image
+            → (state_of self.new).may_leave image }
         ensures calls { calls_of self.new ≡ calls_of self.old }
         ensures plan { plan_of self.new ≡ record {
           made = (plan_of self.old).made;
@@ -100,7 +106,8 @@ impl MemDisk {
     pub fn crash(&self, torn: Torn) -> Result<MemDisk, AllocError>
         ensures left { IfOk result (λ disk. (state_of self.now).may_leave (state_of disk).read) }
         ensures image { IfOk result (λ disk. (state_of disk).read ≡ left_by torn self.now) }
-        ensures new { torn ≡ New → IfOk result (λ disk. (state_of disk).read ≡ (state_of self.now).read) }
+        ensures new { torn ≡ New → IfOk result
+            (λ disk. (state_of disk).read ≡ (state_of self.now).read) }
         ensures durable { IfOk result (λ disk. IsDurable (state_of disk)) }
     {
         let image = leave(self.alloc, torn, &self.first, &self.calls)?;
@@ -110,7 +117,8 @@ impl MemDisk {
 
 // Whether a disk's next call fails, which it counts as made.
 fn refuses(made: &mut u64, fuse: Option<u64>, fails_at: Option<u64>) -> bool
-    ensures refused { result ≡ is_refused (record { made = made.old; passing = fuse; fails_at = fails_at }) }
+    ensures refused { result ≡ is_refused
+        (record { made = made.old; passing = fuse; fails_at = fails_at }) }
     ensures made { made.new ≡ up_to_last made.old 1 }
 {
     *made = made.saturating_add(1);
@@ -158,7 +166,8 @@ fn write(
 ) -> Result<(), AllocError>
     requires { at ≤ length old.old.items }
     ensures written { OnOk result (old.new.items ≡ written old.old.items at octets.now) }
-    ensures kept { OnOk result ((v : _) × (v.items ≡ octets.now) × (calls.new.items ≡ calls.old.items ++ Write at v ∷ [])) }
+    ensures kept { OnOk result ((v : _) × (v.items ≡ octets.now)
+        × (calls.new.items ≡ calls.old.items ++ Write at v ∷ [])) }
     ensures unchanged { OnErr result (old.new.items ≡ old.old.items) }
     ensures same_calls { OnErr result (calls.new.items ≡ calls.old.items) }
 {
@@ -187,7 +196,8 @@ impl Disk for MemDisk {
         ensures call { Call Same (state_of self.old) (state_of self.new) }
         ensures cause { HasCause (state_of self.old) (state_of self.new) result }
         ensures refused { is_refused (plan_of self.old) ≡ true → IsErr result }
-        ensures plan { (plan_of self.new ≡ called (plan_of self.old)) ⊎ ((result ≡ Err Memory) × (plan_of self.new ≡ plan_of self.old)) }
+        ensures plan { (plan_of self.new ≡ called (plan_of self.old))
+            ⊎ ((result ≡ Err Memory) × (plan_of self.new ≡ plan_of self.old)) }
     {
         let octets = self.octets.to_vec(alloc)?;
         if refuses(&mut self.made, self.fuse, self.fails_at) {
@@ -201,8 +211,10 @@ impl Disk for MemDisk {
 
     fn write_at(&mut self, at: usize, octets: &[u8]) -> Result<(), DiskFault>
         requires { at ≤ length (state_of self.old).read }
-        ensures written { OnOk result ((state_of self.new).read ≡ written (state_of self.old).read at octets.now) }
-        ensures call { Call (TornWrite at (length octets.now)) (state_of self.old) (state_of self.new) }
+        ensures written { OnOk result ((state_of self.new).read
+            ≡ written (state_of self.old).read at octets.now) }
+        ensures call { Call (TornWrite at (length octets.now)) (state_of self.old)
+            (state_of self.new) }
         ensures fault { IfErr result (λ fault. fault ≡ Failed) }
         ensures cause { HasCause (state_of self.old) (state_of self.new) result }
         ensures refused { is_refused (plan_of self.old) ≡ true → result ≡ Err Failed }

@@ -26,8 +26,9 @@ octets_of e = Ok e.content
 abbrev pub serial_of : Tlv → Result (List ℕ) Fault
 serial_of = value_at integer_rules (λ c. c)
 
--- AuthorityKeyIdentifier ::= SEQUENCE { keyIdentifier [0] KeyIdentifier OPTIONAL, authorityCertIssuer [1] GeneralNames OPTIONAL,
--- authorityCertSerialNumber [2] CertificateSerialNumber OPTIONAL } (4.2.1.1)
+-- AuthorityKeyIdentifier ::= SEQUENCE { keyIdentifier [0] KeyIdentifier OPTIONAL,
+-- authorityCertIssuer [1] GeneralNames OPTIONAL, authorityCertSerialNumber [2]
+-- CertificateSerialNumber OPTIONAL } (4.2.1.1)
 pub record IsAuthorityKey (content : List ℕ) (a : AuthorityKey) : Type 0 where
   pub key : List ℕ
   pub issuer : List ℕ
@@ -43,7 +44,12 @@ authority_key_of e = do
   issuer ← optional_of 0xA1 general_names_of key.1
   serial ← optional_of 0x82 serial_of issuer.1
   done ← end_at serial.1
-  Ok (record { keyIdentifier = key.0; authorityCertIssuer = issuer.0; authorityCertSerialNumber = serial.0 })
+  Ok (record {
+    keyIdentifier = key.0;
+    authorityCertIssuer = issuer.0;
+    authorityCertSerialNumber = serial.0;
+  })
 
 abbrev pub authority_key_fields : Shape
-authority_key_fields = optional (primitive 0x80 no_rules) then optional (general_names 0xA1) then optional (primitive 0x82 (der_rules integer_rules)) then nothing
+authority_key_fields = optional (primitive 0x80 no_rules) then optional (general_names 0xA1)
+    then optional (primitive 0x82 (der_rules integer_rules)) then nothing

@@ -1,4 +1,5 @@
--- The one encoding of each value of an extension (RFC 5280 4.2, 5.2, 5.3), by the content of its element.
+-- The one encoding of each value of an extension (RFC 5280 4.2, 5.2, 5.3), by the content of its
+-- element.
 use Rattle.std.specs.Prelude.{◌≡◌, ℕ, ◌<◌, ◌^◌, Bool, true, false, List, [], ◌∷◌, ◌++◌, ℤ}
 use Rattle.ts_der.specs.Element.{number, encode}
 use Rattle.ts_der.specs.Boolean.{boolean_content}
@@ -7,7 +8,13 @@ use Rattle.ts_shape.specs.Fields.{Within, IfAny, IsAny, IsOid, IsInteger}
 use Rattle.ts_shape.specs.Items.{AreSome}
 use Rattle.ts_time.specs.Text.{IsGeneral}
 use Rattle.ts_ext.specs.declared.reason_code.ReasonCode.{ReasonCode}
-use Rattle.ts_ext.specs.declared.reason_code.ReasonCode.TheVariants.{Unspecified, KeyCompromise, CaCompromise, AffiliationChanged, Superseded, CessationOfOperation, CertificateHold, RemoveFromCrl, PrivilegeWithdrawn, AaCompromise}
+use Rattle.ts_ext.specs.declared.reason_code.ReasonCode.TheVariants.{Unspecified, KeyCompromise}
+use Rattle.ts_ext.specs.declared.reason_code.ReasonCode.TheVariants.{CaCompromise}
+use Rattle.ts_ext.specs.declared.reason_code.ReasonCode.TheVariants.{AffiliationChanged, Superseded}
+use Rattle.ts_ext.specs.declared.reason_code.ReasonCode.TheVariants.{CessationOfOperation}
+use Rattle.ts_ext.specs.declared.reason_code.ReasonCode.TheVariants.{CertificateHold, RemoveFromCrl}
+use Rattle.ts_ext.specs.declared.reason_code.ReasonCode.TheVariants.{PrivilegeWithdrawn}
+use Rattle.ts_ext.specs.declared.reason_code.ReasonCode.TheVariants.{AaCompromise}
 use Rattle.ts_ext.specs.declared.basic_constraints.BasicConstraints.{BasicConstraints}
 use Rattle.ts_ext.specs.declared.policy_constraints.PolicyConstraints.{PolicyConstraints}
 use Rattle.ts_ext.specs.NamedBits.{IsNamedBits}
@@ -80,7 +87,8 @@ abbrev pub IfTrue : ℕ → List ℕ → Bool → Type 0
 IfTrue tag octets false = octets ≡ []
 IfTrue tag octets true = octets ≡ encode tag (boolean_content true)
 
--- BasicConstraints ::= SEQUENCE { cA BOOLEAN DEFAULT FALSE, pathLenConstraint INTEGER (0..MAX) OPTIONAL } (4.2.1.9)
+-- BasicConstraints ::= SEQUENCE { cA BOOLEAN DEFAULT FALSE, pathLenConstraint INTEGER (0..MAX)
+-- OPTIONAL } (4.2.1.9)
 pub record IsBasicConstraints (content : List ℕ) (b : BasicConstraints) : Type 0 where
   pub authority : List ℕ
   pub length : List ℕ
@@ -88,7 +96,8 @@ pub record IsBasicConstraints (content : List ℕ) (b : BasicConstraints) : Type
   pub pathLenConstraint : IfAny 0x02 IsSmall length b.path_len_constraint
   pub fields : content ≡ authority ++ length
 
--- PolicyConstraints ::= SEQUENCE { requireExplicitPolicy [0] SkipCerts OPTIONAL, inhibitPolicyMapping [1] SkipCerts OPTIONAL } (4.2.1.11)
+-- PolicyConstraints ::= SEQUENCE { requireExplicitPolicy [0] SkipCerts OPTIONAL,
+-- inhibitPolicyMapping [1] SkipCerts OPTIONAL } (4.2.1.11)
 pub record IsPolicyConstraints (content : List ℕ) (p : PolicyConstraints) : Type 0 where
   pub explicit : List ℕ
   pub mapping : List ℕ
@@ -98,7 +107,8 @@ pub record IsPolicyConstraints (content : List ℕ) (p : PolicyConstraints) : Ty
 
 -- ---- lists
 
--- PolicyQualifierInfo ::= SEQUENCE { policyQualifierId OBJECT IDENTIFIER, qualifier ANY DEFINED BY policyQualifierId } (4.2.1.4)
+-- PolicyQualifierInfo ::= SEQUENCE { policyQualifierId OBJECT IDENTIFIER, qualifier ANY DEFINED BY
+-- policyQualifierId } (4.2.1.4)
 pub record IsPolicyQualifier (content : List ℕ) (q : Qualifier) : Type 0 where
   pub id : List ℕ
   pub policyQualifierId : Within 0x06 IsOid id q.policyQualifierId
@@ -109,7 +119,8 @@ pub record IsPolicyQualifier (content : List ℕ) (q : Qualifier) : Type 0 where
 abbrev pub ArePolicyQualifiers : List ℕ → List Qualifier → Type 0
 ArePolicyQualifiers = AreSome (Within 0x30 IsPolicyQualifier)
 
--- PolicyInformation ::= SEQUENCE { policyIdentifier OBJECT IDENTIFIER, policyQualifiers OPTIONAL } (4.2.1.4)
+-- PolicyInformation ::= SEQUENCE { policyIdentifier OBJECT IDENTIFIER, policyQualifiers OPTIONAL }
+-- (4.2.1.4)
 pub record IsPolicyInformation (content : List ℕ) (p : Information) : Type 0 where
   pub id : List ℕ
   pub qualifiers : List ℕ
@@ -121,7 +132,8 @@ pub record IsPolicyInformation (content : List ℕ) (p : Information) : Type 0 w
 abbrev pub AreCertificatePolicies : List ℕ → List Information → Type 0
 AreCertificatePolicies = AreSome (Within 0x30 IsPolicyInformation)
 
--- SEQUENCE { issuerDomainPolicy OBJECT IDENTIFIER, subjectDomainPolicy OBJECT IDENTIFIER } (4.2.1.5)
+-- SEQUENCE { issuerDomainPolicy OBJECT IDENTIFIER, subjectDomainPolicy OBJECT IDENTIFIER }
+-- (4.2.1.5)
 pub record IsPolicyMapping (content : List ℕ) (m : Mapping) : Type 0 where
   pub issuer : List ℕ
   pub subject : List ℕ
@@ -133,6 +145,7 @@ pub record IsPolicyMapping (content : List ℕ) (m : Mapping) : Type 0 where
 abbrev pub ArePolicyMappings : List ℕ → List Mapping → Type 0
 ArePolicyMappings = AreSome (Within 0x30 IsPolicyMapping)
 
--- ExtKeyUsageSyntax ::= SEQUENCE SIZE (1..MAX) OF KeyPurposeId, KeyPurposeId ::= OBJECT IDENTIFIER (4.2.1.12)
+-- ExtKeyUsageSyntax ::= SEQUENCE SIZE (1..MAX) OF KeyPurposeId, KeyPurposeId ::= OBJECT IDENTIFIER
+-- (4.2.1.12)
 abbrev pub AreKeyPurposes : List ℕ → List (List ℕ) → Type 0
 AreKeyPurposes = AreSome (Within 0x06 IsOid)

@@ -6,7 +6,8 @@ use Rattle.ts_der.specs.Element.{Tlv, inside}
 use Rattle.ts_shape.specs.declared.fault.CertFault.{CertFault}
 use Rattle.ts_shape.specs.Fields.{Within}
 use Rattle.ts_shape.specs.Items.{alone, of_tag}
-use Rattle.ts_shape.specs.Shape.{Row, Shape, ContentRules, tagged, no_other, plain, nothing, ◌then◌, no_rules, judge}
+use Rattle.ts_shape.specs.Shape.{Row, Shape, ContentRules, tagged, no_other, plain, nothing, ◌then◌}
+use Rattle.ts_shape.specs.Shape.{no_rules, judge}
 use Rattle.ts_ext.specs.declared.known.Known.{Known}
 use Rattle.ts_ext.specs.declared.known.Known.TheVariants as extension
 use Rattle.ts_ext.specs.declared.basic_constraints.BasicConstraints.{BasicConstraints}
@@ -14,13 +15,25 @@ use Rattle.ts_ext.specs.declared.policy_constraints.PolicyConstraints.{PolicyCon
 use Rattle.ts_ext.specs.declared.reason_code.ReasonCode.{ReasonCode}
 use Rattle.ts_name.specs.General.{GeneralName}
 use Rattle.ts_ext.specs.Policies.{Information, Mapping}
-use Rattle.ts_ext.specs.Encoding.{IsKeyUsage, IsBasicConstraints, IsCrlNumber, IsReasonCode, IsInvalidityDate, IsBaseCrlNumber, AreCertificatePolicies, ArePolicyMappings, IsPolicyConstraints, AreKeyPurposes, IsSkipCerts}
-use Rattle.ts_ext.specs.Reading.{key_usage_of, basic_constraints_of, crl_number_of, reason_code_of, invalidity_date_of, base_crl_number_of, certificate_policies_of, policy_mappings_of, policy_constraints_of, ext_key_usage_of, skip_certs_of}
-use Rattle.ts_ext.specs.Table.{key_usage_rules, basic_constraints_fields, crl_number_rules, reason_code_rules, invalidity_date_rules, base_crl_number_rules, certificate_policies, policy_mappings, policy_constraints_fields, ext_key_usage, skip_certs_rules, list_rules}
+use Rattle.ts_ext.specs.Encoding.{IsKeyUsage, IsBasicConstraints, IsCrlNumber, IsReasonCode}
+use Rattle.ts_ext.specs.Encoding.{IsInvalidityDate, IsBaseCrlNumber, AreCertificatePolicies}
+use Rattle.ts_ext.specs.Encoding.{ArePolicyMappings, IsPolicyConstraints, AreKeyPurposes}
+use Rattle.ts_ext.specs.Encoding.{IsSkipCerts}
+use Rattle.ts_ext.specs.Reading.{key_usage_of, basic_constraints_of, crl_number_of, reason_code_of}
+use Rattle.ts_ext.specs.Reading.{invalidity_date_of, base_crl_number_of, certificate_policies_of}
+use Rattle.ts_ext.specs.Reading.{policy_mappings_of, policy_constraints_of, ext_key_usage_of}
+use Rattle.ts_ext.specs.Reading.{skip_certs_of}
+use Rattle.ts_ext.specs.Table.{key_usage_rules, basic_constraints_fields, crl_number_rules}
+use Rattle.ts_ext.specs.Table.{reason_code_rules, invalidity_date_rules, base_crl_number_rules}
+use Rattle.ts_ext.specs.Table.{certificate_policies, policy_mappings, policy_constraints_fields}
+use Rattle.ts_ext.specs.Table.{ext_key_usage, skip_certs_rules, list_rules}
 use Rattle.ts_ext.specs.GeneralNames.{AreGeneralNames, general_names_of, general_names_items}
-use Rattle.ts_ext.specs.Points.{Point, ListScope, ArePoints, points_of, points_items, IsIssuingPoint, issuing_point_of, issuing_point_fields}
-use Rattle.ts_ext.specs.AuthorityKey.{AuthorityKey, AreOctetsOf, octets_of, IsAuthorityKey, authority_key_of, authority_key_fields}
-use Rattle.ts_ext.specs.NameConstraints.{Constraints, AreConstraints, name_constraints_of, name_constraints_fields}
+use Rattle.ts_ext.specs.Points.{Point, ListScope, ArePoints, points_of, points_items}
+use Rattle.ts_ext.specs.Points.{IsIssuingPoint, issuing_point_of, issuing_point_fields}
+use Rattle.ts_ext.specs.AuthorityKey.{AuthorityKey, AreOctetsOf, octets_of, IsAuthorityKey}
+use Rattle.ts_ext.specs.AuthorityKey.{authority_key_of, authority_key_fields}
+use Rattle.ts_ext.specs.NameConstraints.{Constraints, AreConstraints, name_constraints_of}
+use Rattle.ts_ext.specs.NameConstraints.{name_constraints_fields}
 
 -- the value of an extension; of one that is not read here its octets
 pub data ExtValue : Type 0 where
@@ -48,7 +61,8 @@ pub data ExtValue : Type 0 where
 
 -- ---- the table
 
--- the value of an extension: the tag of its element, what is within it, and the rules of its content as a whole
+-- the value of an extension: the tag of its element, what is within it, and the rules of its
+-- content as a whole
 pub record Layout : Type 0 where
   pub tag : ℕ
   pub shape : Shape
@@ -100,7 +114,8 @@ layout_of extension.FreshestCrl = layout 0x30 points_items list_rules
 layout_of extension.InhibitAnyPolicy = layout 0x02 plain skip_certs_rules
 
 abbrev pub value_row : Known → Row
-value_row known = tagged (layout_of known).tag (layout_of known).shape (layout_of known).rules no_other
+value_row known = tagged (layout_of known).tag (layout_of known).shape
+    (layout_of known).rules no_other
 
 -- ---- encoding
 
@@ -135,7 +150,8 @@ IsContent extension.InhibitAnyPolicy = As (λ x. inhibitAnyPolicy x) IsSkipCerts
 abbrev pub IsValue : Known → List ℕ → ExtValue → Type 0
 IsValue known = Within (layout_of known).tag (IsContent known)
 
--- the content of an OCTET STRING that holds the value of an extension, or of one that is not read here
+-- the content of an OCTET STRING that holds the value of an extension, or of one that is not read
+-- here
 abbrev pub IsExt : Option Known → List ℕ → ExtValue → Type 0
 IsExt (Some known) content value = IsValue known content value
 IsExt None content value = value ≡ unknown content
@@ -143,7 +159,8 @@ IsExt None content value = value ≡ unknown content
 -- ---- reading
 
 -- what an element is read as, in the form of one extension
-abbrev pub read_as : {A : Type 0} → (Tlv → Result A Fault) → (A → ExtValue) → Tlv → Result ExtValue Fault
+abbrev pub read_as : {A : Type 0} → (Tlv → Result A Fault) → (A → ExtValue) → Tlv
+    → Result ExtValue Fault
 read_as value form e = value e >>= λ x. Ok (form x)
 
 -- what an element is read as, as the value of an extension, whatever its tag is
@@ -157,13 +174,16 @@ content_of extension.CrlNumber = read_as crl_number_of (λ x. cRLNumber x)
 content_of extension.ReasonCode = read_as reason_code_of (λ x. reasonCode x)
 content_of extension.InvalidityDate = read_as invalidity_date_of (λ x. invalidityDate x)
 content_of extension.DeltaCrlIndicator = read_as base_crl_number_of (λ x. deltaCRLIndicator x)
-content_of extension.IssuingDistributionPoint = read_as issuing_point_of (λ x. issuingDistributionPoint x)
+content_of extension.IssuingDistributionPoint =
+    read_as issuing_point_of (λ x. issuingDistributionPoint x)
 content_of extension.CertificateIssuer = read_as general_names_of (λ x. certificateIssuer x)
 content_of extension.NameConstraints = read_as name_constraints_of (λ x. nameConstraints x)
 content_of extension.CrlDistributionPoints = read_as points_of (λ x. cRLDistributionPoints x)
-content_of extension.CertificatePolicies = read_as certificate_policies_of (λ x. certificatePolicies x)
+content_of extension.CertificatePolicies =
+    read_as certificate_policies_of (λ x. certificatePolicies x)
 content_of extension.PolicyMappings = read_as policy_mappings_of (λ x. policyMappings x)
-content_of extension.AuthorityKeyIdentifier = read_as authority_key_of (λ x. authorityKeyIdentifier x)
+content_of extension.AuthorityKeyIdentifier =
+    read_as authority_key_of (λ x. authorityKeyIdentifier x)
 content_of extension.PolicyConstraints = read_as policy_constraints_of (λ x. policyConstraints x)
 content_of extension.ExtendedKeyUsage = read_as ext_key_usage_of (λ x. extKeyUsage x)
 content_of extension.FreshestCrl = read_as points_of (λ x. freshestCRL x)
@@ -172,7 +192,8 @@ content_of extension.InhibitAnyPolicy = read_as skip_certs_of (λ x. inhibitAnyP
 abbrev pub value_of : Known → Tlv → Result ExtValue Fault
 value_of known = of_tag (layout_of known).tag (content_of known)
 
--- the value within an OCTET STRING, and nothing after it; of an extension that is not read here its octets
+-- the value within an OCTET STRING, and nothing after it; of an extension that is not read here its
+-- octets
 unfoldable pub ext_of : Option Known → Tlv → Result ExtValue Fault
 ext_of (Some known) e = alone (value_of known) e
 ext_of None e = Ok (unknown e.content)

@@ -3,8 +3,14 @@ use Rattle.ts_der.specs.BitsView.{bits_in}
 use Rattle.ts_ext.specs.declared.ext.Ext.{Ext}
 use Rattle.ts_ext.specs.declared.ext.Ext.TheVariants as lent
 use Rattle.ts_ext.specs.View.{policies_in, mappings_in, purposes_in}
-use Rattle.ts_ext.specs.NameViews.{alternatives_in, issuing_point_in, authority_key_in, name_constraints_in, points_in}
-use Rattle.ts_ext.specs.Ext.{ExtValue, subjectKeyIdentifier, keyUsage, subjectAltName, issuerAltName, basicConstraints, cRLNumber, reasonCode, invalidityDate, deltaCRLIndicator, issuingDistributionPoint, certificateIssuer, nameConstraints, cRLDistributionPoints, certificatePolicies, policyMappings, authorityKeyIdentifier, policyConstraints, extKeyUsage, freshestCRL, inhibitAnyPolicy, unknown}
+use Rattle.ts_ext.specs.NameViews.{alternatives_in, issuing_point_in, authority_key_in}
+use Rattle.ts_ext.specs.NameViews.{name_constraints_in, points_in}
+use Rattle.ts_ext.specs.Ext.{ExtValue, subjectKeyIdentifier, keyUsage, subjectAltName}
+use Rattle.ts_ext.specs.Ext.{issuerAltName, basicConstraints, cRLNumber, reasonCode, invalidityDate}
+use Rattle.ts_ext.specs.Ext.{deltaCRLIndicator, issuingDistributionPoint, certificateIssuer}
+use Rattle.ts_ext.specs.Ext.{nameConstraints, cRLDistributionPoints, certificatePolicies}
+use Rattle.ts_ext.specs.Ext.{policyMappings, authorityKeyIdentifier, policyConstraints, extKeyUsage}
+use Rattle.ts_ext.specs.Ext.{freshestCRL, inhibitAnyPolicy, unknown}
 
 abbrev pub ext_in : Ext → ExtValue
 ext_in (lent.SubjectKeyIdentifier x) = subjectKeyIdentifier x.now

@@ -8,12 +8,14 @@ use Rattle.ts_der.specs.Reading.{element_at, end_at}
 use Rattle.ts_shape.specs.Fields.{Within, IsOid, oid_at}
 use Rattle.ts_shape.specs.Items.{alone, of_tag, some_of, AreSome}
 use Rattle.ts_shape.specs.Rows.{object_identifier}
-use Rattle.ts_shape.specs.Shape.{Row, Shape, items, optional, tagged, no_other, nothing, ◌then◌, no_rules, primitive, sequence}
+use Rattle.ts_shape.specs.Shape.{Row, Shape, items, optional, tagged, no_other, nothing, ◌then◌}
+use Rattle.ts_shape.specs.Shape.{no_rules, primitive, sequence}
 use Rattle.ts_ext.specs.AuthorityKey.{AreOctetsOf}
 use Rattle.ts_ext.specs.Encoding.{IfTrue}
 use Rattle.ts_ext.specs.Table.{flag, list_rules}
 
--- what an extension says: the content of its object identifier, whether it is critical, the octets of its value
+-- what an extension says: the content of its object identifier, whether it is critical, the octets
+-- of its value
 pub record Extension : Type 0 where
   pub extnID : List ℕ
   pub critical : Bool
@@ -21,7 +23,8 @@ pub record Extension : Type 0 where
 
 -- ---- encoding
 
--- Extension ::= SEQUENCE { extnID OBJECT IDENTIFIER, critical BOOLEAN DEFAULT FALSE, extnValue OCTET STRING }
+-- Extension ::= SEQUENCE { extnID OBJECT IDENTIFIER, critical BOOLEAN DEFAULT FALSE, extnValue
+-- OCTET STRING }
 pub record IsExtension (content : List ℕ) (x : Extension) : Type 0 where
   pub id : List ℕ
   pub flag : List ℕ
@@ -42,7 +45,8 @@ AreExplicit = Within 0x30 AreExtensions
 -- ---- the table
 
 abbrev pub extension_fields : Shape
-extension_fields = object_identifier then optional (flag 0x01) then primitive 0x04 no_rules then nothing
+extension_fields = object_identifier then optional (flag 0x01) then primitive 0x04 no_rules
+    then nothing
 
 abbrev pub extension : Row
 extension = sequence extension_fields

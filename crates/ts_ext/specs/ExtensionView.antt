@@ -8,7 +8,12 @@ use Rattle.ts_ext.specs.declared.extensions.Extensions.{Extensions}
 use Rattle.ts_ext.specs.Extension.{Extension, Located, unlocated, located_in}
 
 abbrev pub located_as : Lent → Located
-located_as x = record { at = x.at; extnID = x.id.content.now; critical = x.critical; value = now x.value }
+located_as x = record {
+  at = x.at;
+  extnID = x.id.content.now;
+  critical = x.critical;
+  value = now x.value;
+}
 
 abbrev pub all_located_in : Extensions → List Located
 all_located_in x = items_at located_in (inside (now x.list.element))

@@ -1,10 +1,21 @@
--- The extensions that are read here (RFC 5280 4.2.1, 5.2, 5.3): their object identifiers, and where each may stand.
+-- The extensions that are read here (RFC 5280 4.2.1, 5.2, 5.3): their object identifiers, and where
+-- each may stand.
 use Rattle.std.specs.Prelude.{ℕ, ◌==◌, ◌&&◌, List, [], ◌∷◌, Option, None, if◌then◌else◌}
 use Rattle.std.specs.List.{find}
 use Rattle.ts_ext.specs.declared.known.Holder.{Holder}
 use Rattle.ts_ext.specs.declared.known.Holder.TheVariants.{Certificate, List as ListHolder, Entry}
 use Rattle.ts_ext.specs.declared.known.Known.{Known}
-use Rattle.ts_ext.specs.declared.known.Known.TheVariants.{SubjectKeyIdentifier, KeyUsage, SubjectAltName, IssuerAltName, BasicConstraints, CrlNumber, ReasonCode, InvalidityDate, DeltaCrlIndicator, IssuingDistributionPoint, CertificateIssuer, NameConstraints, CrlDistributionPoints, CertificatePolicies, PolicyMappings, AuthorityKeyIdentifier, PolicyConstraints, ExtendedKeyUsage, FreshestCrl, InhibitAnyPolicy}
+use Rattle.ts_ext.specs.declared.known.Known.TheVariants.{SubjectKeyIdentifier, KeyUsage}
+use Rattle.ts_ext.specs.declared.known.Known.TheVariants.{SubjectAltName, IssuerAltName}
+use Rattle.ts_ext.specs.declared.known.Known.TheVariants.{BasicConstraints, CrlNumber, ReasonCode}
+use Rattle.ts_ext.specs.declared.known.Known.TheVariants.{InvalidityDate, DeltaCrlIndicator}
+use Rattle.ts_ext.specs.declared.known.Known.TheVariants.{IssuingDistributionPoint}
+use Rattle.ts_ext.specs.declared.known.Known.TheVariants.{CertificateIssuer, NameConstraints}
+use Rattle.ts_ext.specs.declared.known.Known.TheVariants.{CrlDistributionPoints}
+use Rattle.ts_ext.specs.declared.known.Known.TheVariants.{CertificatePolicies, PolicyMappings}
+use Rattle.ts_ext.specs.declared.known.Known.TheVariants.{AuthorityKeyIdentifier, PolicyConstraints}
+use Rattle.ts_ext.specs.declared.known.Known.TheVariants.{ExtendedKeyUsage, FreshestCrl}
+use Rattle.ts_ext.specs.declared.known.Known.TheVariants.{InhibitAnyPolicy}
 
 -- the last arcs of their object identifiers
 abbrev pub arc_of : Known → ℕ
@@ -32,12 +43,15 @@ arc_of InhibitAnyPolicy = 54
 -- those of a certificate (4.2.1)
 abbrev pub of_certificates : List Known
 of_certificates =
-    SubjectKeyIdentifier ∷ KeyUsage ∷ SubjectAltName ∷ IssuerAltName ∷ BasicConstraints ∷ NameConstraints ∷ CrlDistributionPoints
-    ∷ CertificatePolicies ∷ PolicyMappings ∷ AuthorityKeyIdentifier ∷ PolicyConstraints ∷ ExtendedKeyUsage ∷ FreshestCrl ∷ InhibitAnyPolicy ∷ []
+    SubjectKeyIdentifier ∷ KeyUsage ∷ SubjectAltName ∷ IssuerAltName ∷ BasicConstraints
+    ∷ NameConstraints ∷ CrlDistributionPoints
+    ∷ CertificatePolicies ∷ PolicyMappings ∷ AuthorityKeyIdentifier ∷ PolicyConstraints
+    ∷ ExtendedKeyUsage ∷ FreshestCrl ∷ InhibitAnyPolicy ∷ []
 
 -- those of a list (5.2)
 abbrev pub of_lists : List Known
-of_lists = IssuerAltName ∷ CrlNumber ∷ DeltaCrlIndicator ∷ IssuingDistributionPoint ∷ AuthorityKeyIdentifier ∷ FreshestCrl ∷ []
+of_lists = IssuerAltName ∷ CrlNumber ∷ DeltaCrlIndicator ∷ IssuingDistributionPoint
+    ∷ AuthorityKeyIdentifier ∷ FreshestCrl ∷ []
 
 -- those of an entry of a list (5.3)
 abbrev pub of_entries : List Known
@@ -61,9 +75,11 @@ extension_of Certificate arc = certificate_extension arc
 extension_of ListHolder arc = list_extension arc
 extension_of Entry arc = entry_extension arc
 
--- the extension that an object identifier names in a holder: id-ce is 2.5.29, whose content octets are 55 1D
+-- the extension that an object identifier names in a holder: id-ce is 2.5.29, whose content octets
+-- are 55 1D
 unfoldable pub known_at : Holder → List ℕ → Option Known
-known_at holder (joint ∷ ce ∷ arc ∷ []) = if joint == 0x55 && ce == 0x1D then extension_of holder arc else None
+known_at holder (joint ∷ ce ∷ arc ∷ []) =
+    if joint == 0x55 && ce == 0x1D then extension_of holder arc else None
 known_at holder octets = None
 
 -- the content octets of its object identifier

@@ -8,7 +8,8 @@ use Rattle.ts_shape.specs.Items.{some_rules, of_tag, some_of, AreSome}
 use Rattle.ts_shape.specs.Fields.{Within, IfAny, optional_of}
 use Rattle.ts_name.specs.Subtree.{GeneralSubtree, IsSubtree, subtree_of}
 use Rattle.ts_name.specs.SubtreeTable.{general_subtree}
-use Rattle.ts_shape.specs.Shape.{Row, Shape, tagged, no_other, optional, items, nothing, ◌then◌, der_rules}
+use Rattle.ts_shape.specs.Shape.{Row, Shape, tagged, no_other, optional, items, nothing, ◌then◌}
+use Rattle.ts_shape.specs.Shape.{der_rules}
 
 pub record Constraints : Type 0 where
   pub permittedSubtrees : Option (List GeneralSubtree)
@@ -25,7 +26,8 @@ subtrees_of = some_of (of_tag 0x30 subtree_of)
 abbrev pub general_subtrees : ℕ → Row
 general_subtrees tag = tagged tag (items general_subtree) (der_rules some_rules) no_other
 
--- NameConstraints ::= SEQUENCE { permittedSubtrees [0] GeneralSubtrees OPTIONAL, excludedSubtrees [1] GeneralSubtrees OPTIONAL }
+-- NameConstraints ::= SEQUENCE { permittedSubtrees [0] GeneralSubtrees OPTIONAL, excludedSubtrees
+-- [1] GeneralSubtrees OPTIONAL }
 pub record AreConstraints (content : List ℕ) (n : Constraints) : Type 0 where
   pub permitted : List ℕ
   pub excluded : List ℕ
@@ -41,4 +43,5 @@ name_constraints_of e = do
   Ok (record { permittedSubtrees = permitted.0; excludedSubtrees = excluded.0 })
 
 abbrev pub name_constraints_fields : Shape
-name_constraints_fields = optional (general_subtrees 0xA0) then optional (general_subtrees 0xA1) then nothing
+name_constraints_fields = optional (general_subtrees 0xA0) then optional (general_subtrees 0xA1)
+    then nothing

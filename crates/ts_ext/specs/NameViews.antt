@@ -18,7 +18,8 @@ use Rattle.ts_ext.specs.declared.authority_key_identifier.AuthorityKeyIdentifier
 use Rattle.ts_ext.specs.declared.name_constraints.NameConstraints as lent_constraints
 use Rattle.ts_ext.specs.declared.alternative_names.AlternativeNames as lent_names
 use Rattle.ts_ext.specs.declared.distribution_points.DistributionPoints as lent_points
-use Rattle.ts_ext.specs.Points.{PointName, fullName, nameRelativeToCRLIssuer, Point, ListScope, point_item}
+use Rattle.ts_ext.specs.Points.{PointName, fullName, nameRelativeToCRLIssuer, Point, ListScope}
+use Rattle.ts_ext.specs.Points.{point_item}
 use Rattle.ts_ext.specs.AuthorityKey.{AuthorityKey}
 use Rattle.ts_ext.specs.NameConstraints.{Constraints}
 

@@ -1,8 +1,14 @@
--- Bits that have names (X.690 11.2.2; RFC 5280 4.2.1.3, 4.2.1.13), and the sets of flags that they are.
+-- Bits that have names (X.690 11.2.2; RFC 5280 4.2.1.3, 4.2.1.13), and the sets of flags that they
+-- are.
 use Rattle.std.specs.Prelude.{ℕ, Bool, false, List, slice_index_or}
 use Rattle.ts_der.specs.BitString.{bits_of, bit_parts, IsBitString, EndsInOne}
 use Rattle.ts_ext.specs.declared.reason_flag.ReasonFlag.{ReasonFlag}
-use Rattle.ts_ext.specs.declared.reason_flag.ReasonFlag.TheVariants.{KeyCompromise, CaCompromise, AffiliationChanged, Superseded, CessationOfOperation, CertificateHold, PrivilegeWithdrawn, AaCompromise}
+use Rattle.ts_ext.specs.declared.reason_flag.ReasonFlag.TheVariants.{KeyCompromise, CaCompromise}
+use Rattle.ts_ext.specs.declared.reason_flag.ReasonFlag.TheVariants.{AffiliationChanged, Superseded}
+use Rattle.ts_ext.specs.declared.reason_flag.ReasonFlag.TheVariants.{CessationOfOperation}
+use Rattle.ts_ext.specs.declared.reason_flag.ReasonFlag.TheVariants.{CertificateHold}
+use Rattle.ts_ext.specs.declared.reason_flag.ReasonFlag.TheVariants.{PrivilegeWithdrawn}
+use Rattle.ts_ext.specs.declared.reason_flag.ReasonFlag.TheVariants.{AaCompromise}
 use Rattle.ts_ext.specs.declared.reason_set.ReasonSet.{ReasonSet}
 
 -- bit n, the first being bit 0; one that is left out is 0

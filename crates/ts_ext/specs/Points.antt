@@ -1,5 +1,6 @@
 -- Distribution points (RFC 5280 4.2.1.13), and what a list covers (5.2.5).
-use Rattle.std.specs.Prelude.{◌≡◌, ℕ, ◌++◌, ◌==◌, Bool, List, [], ◌∷◌, Option, Some, None, Result, Ok, Err, if◌then◌else◌}
+use Rattle.std.specs.Prelude.{◌≡◌, ℕ, ◌++◌, ◌==◌, Bool, List, [], ◌∷◌, Option, Some, None, Result}
+use Rattle.std.specs.Prelude.{Ok, Err, if◌then◌else◌}
 use Rattle.ts_der.specs.declared.fault.DerFault.TheVariants.{WrongTag}
 use Rattle.ts_der.specs.declared.fault.Fault.{Fault}
 use Rattle.ts_der.specs.Answer.{◌>>=◌}
@@ -14,7 +15,8 @@ use Rattle.ts_shape.specs.Items.{alone, of_tag, some_of, AreSome, IsChoice}
 use Rattle.ts_name.specs.General.{GeneralName, uniformResourceIdentifier}
 use Rattle.ts_shape.specs.Rows.{set_rules}
 use Rattle.ts_name.specs.NameRows.{attribute_type_and_value}
-use Rattle.ts_shape.specs.Shape.{Row, Shape, tagged, no_other, optional, items, nothing, ◌then◌, ◌or◌, der_rules, no_rules, primitive, sequence}
+use Rattle.ts_shape.specs.Shape.{Row, Shape, tagged, no_other, optional, items, nothing, ◌then◌}
+use Rattle.ts_shape.specs.Shape.{◌or◌, der_rules, no_rules, primitive, sequence}
 use Rattle.ts_ext.specs.Encoding.{IfTrue, AreReasonFlags}
 use Rattle.ts_ext.specs.Reading.{reason_flags_of}
 use Rattle.ts_ext.specs.Table.{flag, reason_flags_rules}
@@ -27,7 +29,8 @@ pub data PointName : Type 0 where
   fullName : List GeneralName → PointName
   nameRelativeToCRLIssuer : List Attr → PointName
 
--- DistributionPointName ::= CHOICE { fullName [0] GeneralNames, nameRelativeToCRLIssuer [1] RelativeDistinguishedName }
+-- DistributionPointName ::= CHOICE { fullName [0] GeneralNames, nameRelativeToCRLIssuer [1]
+-- RelativeDistinguishedName }
 abbrev pub IsPointForm : ℕ → List ℕ → PointName → Type 0
 IsPointForm tag content (fullName names) = (tag ≡ 0xA0) × AreGeneralNames content names
 IsPointForm tag content (nameRelativeToCRLIssuer rdn) = (tag ≡ 0xA1) × IsRdnContent content rdn
@@ -64,8 +67,8 @@ pub record Point : Type 0 where
   pub reasons : Option (List Bool)
   pub cRLIssuer : Option (List GeneralName)
 
--- DistributionPoint ::= SEQUENCE { distributionPoint [0] DistributionPointName OPTIONAL, reasons [1] ReasonFlags OPTIONAL,
--- cRLIssuer [2] GeneralNames OPTIONAL } (4.2.1.13)
+-- DistributionPoint ::= SEQUENCE { distributionPoint [0] DistributionPointName OPTIONAL, reasons
+-- [1] ReasonFlags OPTIONAL, cRLIssuer [2] GeneralNames OPTIONAL } (4.2.1.13)
 pub record IsPoint (content : List ℕ) (p : Point) : Type 0 where
   pub named : List ℕ
   pub flags : List ℕ
@@ -77,7 +80,12 @@ pub record IsPoint (content : List ℕ) (p : Point) : Type 0 where
 
 -- a point that is known by one URI, and by nothing else
 abbrev pub point_of_uri : List ℕ → Point
-point_of_uri uri = record { distributionPoint = Some (fullName (uniformResourceIdentifier uri ∷ [])); reasons = None; cRLIssuer = None }
+point_of_uri uri = record {
+  distributionPoint = Some
+      (fullName (uniformResourceIdentifier uri ∷ []));
+  reasons = None;
+  cRLIssuer = None;
+}
 
 unfoldable pub point_of : Tlv → Result Point Fault
 point_of e = do
@@ -88,13 +96,15 @@ point_of e = do
   Ok (record { distributionPoint = name.0; reasons = reasons.0; cRLIssuer = issuer.0 })
 
 abbrev pub point_fields : Shape
-point_fields = optional wrapped_name then optional (primitive 0x81 reason_flags_rules) then optional (general_names 0xA2) then nothing
+point_fields = optional wrapped_name then optional (primitive 0x81 reason_flags_rules)
+    then optional (general_names 0xA2) then nothing
 
 -- DistributionPoint, in a SEQUENCE
 abbrev pub point_item : Tlv → Result Point Fault
 point_item = of_tag 0x30 point_of
 
--- CRLDistributionPoints ::= SEQUENCE SIZE (1..MAX) OF DistributionPoint (4.2.1.13); FreshestCRL is the same (4.2.1.15, 5.2.6)
+-- CRLDistributionPoints ::= SEQUENCE SIZE (1..MAX) OF DistributionPoint (4.2.1.13); FreshestCRL is
+-- the same (4.2.1.15, 5.2.6)
 abbrev pub ArePoints : List ℕ → List Point → Type 0
 ArePoints = AreSome (Within 0x30 IsPoint)
 
@@ -114,9 +124,10 @@ pub record ListScope : Type 0 where
   pub indirectCRL : Bool
   pub onlyContainsAttributeCerts : Bool
 
--- IssuingDistributionPoint ::= SEQUENCE { distributionPoint [0] DistributionPointName OPTIONAL, onlyContainsUserCerts [1]
--- BOOLEAN DEFAULT FALSE, onlyContainsCACerts [2] BOOLEAN DEFAULT FALSE, onlySomeReasons [3] ReasonFlags OPTIONAL, indirectCRL
--- [4] BOOLEAN DEFAULT FALSE, onlyContainsAttributeCerts [5] BOOLEAN DEFAULT FALSE } (5.2.5)
+-- IssuingDistributionPoint ::= SEQUENCE { distributionPoint [0] DistributionPointName OPTIONAL,
+-- onlyContainsUserCerts [1] BOOLEAN DEFAULT FALSE, onlyContainsCACerts [2] BOOLEAN DEFAULT FALSE,
+-- onlySomeReasons [3] ReasonFlags OPTIONAL, indirectCRL [4] BOOLEAN DEFAULT FALSE,
+-- onlyContainsAttributeCerts [5] BOOLEAN DEFAULT FALSE } (5.2.5)
 pub record IsIssuingPoint (content : List ℕ) (p : ListScope) : Type 0 where
   pub named : List ℕ
   pub user : List ℕ
@@ -152,5 +163,6 @@ issuing_point_of e = do
 
 abbrev pub issuing_point_fields : Shape
 issuing_point_fields =
-    optional wrapped_name then optional (flag 0x81) then optional (flag 0x82) then optional (primitive 0x83 reason_flags_rules)
+    optional wrapped_name then optional (flag 0x81) then optional (flag 0x82)
+    then optional (primitive 0x83 reason_flags_rules)
     then optional (flag 0x84) then optional (flag 0x85) then nothing

@@ -1,5 +1,5 @@
--- The parts of extensions about policies (RFC 5280 4.2.1.4, 4.2.1.5): what their octets say, in the standard's field names.
--- An object identifier is the content of its element.
+-- The parts of extensions about policies (RFC 5280 4.2.1.4, 4.2.1.5): what their octets say, in the
+-- standard's field names. An object identifier is the content of its element.
 use Rattle.std.specs.Prelude.{ℕ, List, Option}
 
 -- PolicyQualifierInfo (4.2.1.4): the qualifier is a whole element, of any type

@@ -1,5 +1,5 @@
--- Reading the value of an extension (RFC 5280 4.2, 5.2, 5.3) from its element, whatever the tag, up to the first rule
--- that is broken.
+-- Reading the value of an extension (RFC 5280 4.2, 5.2, 5.3) from its element, whatever the tag, up
+-- to the first rule that is broken.
 use Rattle.std.specs.Prelude.{ℕ, Bool, List, Result, Ok, ℤ, ok_or}
 use Rattle.ts_der.specs.declared.fault.DerFault.TheVariants.{IntegerForm}
 use Rattle.ts_der.specs.declared.fault.Fault.{Fault}

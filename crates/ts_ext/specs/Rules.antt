@@ -1,15 +1,19 @@
 -- The rules of the values of extensions beside those of DER, in the order in which they count.
-use Rattle.std.specs.Prelude.{Bool, true, not, ◌&&◌, List, [], Option, Some, None, is_none, if◌then◌else◌}
+use Rattle.std.specs.Prelude.{Bool, true, not, ◌&&◌, List, [], Option, Some, None, is_none}
+use Rattle.std.specs.Prelude.{if◌then◌else◌}
 use Rattle.std.specs.List.{list_all}
 use Rattle.ts_shape.specs.declared.fault.CertRule.{CertRule}
-use Rattle.ts_shape.specs.declared.fault.CertRule.TheVariants.{SubtreeBounds, AddressLength, DuplicatePolicy}
+use Rattle.ts_shape.specs.declared.fault.CertRule.TheVariants.{SubtreeBounds, AddressLength}
+use Rattle.ts_shape.specs.declared.fault.CertRule.TheVariants.{DuplicatePolicy}
 use Rattle.ts_name.specs.General.{has_address_length, has_range_length}
 use Rattle.ts_shape.specs.Repeats.{first_repeated}
 use Rattle.ts_name.specs.Subtree.{GeneralSubtree, is_unbounded}
 use Rattle.ts_ext.specs.Policies.{Information}
 use Rattle.ts_ext.specs.Points.{PointName, fullName, Point}
 use Rattle.ts_ext.specs.NameConstraints.{Constraints}
-use Rattle.ts_ext.specs.Ext.{ExtValue, subjectAltName, issuerAltName, certificateIssuer, issuingDistributionPoint, nameConstraints, cRLDistributionPoints, certificatePolicies, authorityKeyIdentifier, freshestCRL}
+use Rattle.ts_ext.specs.Ext.{ExtValue, subjectAltName, issuerAltName, certificateIssuer}
+use Rattle.ts_ext.specs.Ext.{issuingDistributionPoint, nameConstraints, cRLDistributionPoints}
+use Rattle.ts_ext.specs.Ext.{certificatePolicies, authorityKeyIdentifier, freshestCRL}
 
 -- each item of a list meets a test, if the list is there
 abbrev pub all_of : {A : Type 0} → (A → Bool) → Option (List A) → Bool

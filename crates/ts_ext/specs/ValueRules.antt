@@ -1,5 +1,5 @@
--- The first rule that a list of extensions breaks: none occurs twice, and then those of the values, one extension after another
--- (RFC 5280 4.2, 5.2, 5.3).
+-- The first rule that a list of extensions breaks: none occurs twice, and then those of the values,
+-- one extension after another (RFC 5280 4.2, 5.2, 5.3).
 use Rattle.std.specs.Prelude.{◌≡◌, ℕ, List, [], ◌∷◌, Option, None, Result, Ok, Err, option_map}
 use Rattle.ts_der.specs.declared.fault.Fault.{Fault}
 use Rattle.ts_der.specs.Answer.{◌>>=◌}
@@ -19,7 +19,8 @@ use Rattle.ts_ext.specs.Rules.{broken_rule}
 
 -- the first extension that is one of those before it once more (4.2)
 abbrev pub repeated_fault : List Located → Option CertFault
-repeated_fault xs = option_map (λ x. breaks x.at DuplicateExtension) (first_repeated (λ x. x.extnID) [] xs)
+repeated_fault xs = option_map (λ x. breaks x.at DuplicateExtension)
+    (first_repeated (λ x. x.extnID) [] xs)
 
 -- the place of a rule that is not one of DER: the extension of a certificate, none elsewhere
 abbrev pub rule_place : Holder → ℕ → ℕ
@@ -37,7 +38,8 @@ content_fault at (Err fault) = None
 
 -- the first rule that the value of one extension breaks: of DER, then the others
 abbrev pub value_fault : Holder → Located → Option CertFault
-value_fault holder x = ext_fault (known_at holder x.extnID) x.value or_else content_fault (rule_place holder x.at) (ext_of (known_at holder x.extnID) x.value)
+value_fault holder x = ext_fault (known_at holder x.extnID) x.value or_else content_fault
+    (rule_place holder x.at) (ext_of (known_at holder x.extnID) x.value)
 
 -- the first that any of them breaks
 abbrev pub values_fault : Holder → List Located → Option CertFault
@@ -52,7 +54,8 @@ list_fault holder xs = repeated_fault xs or_else values_fault holder xs
 
 -- octets are a value as that extension asks, which breaks none of the other rules
 abbrev pub IsValidValue : Option Known → List ℕ → Type 0
-IsValidValue known octets = (value : ExtValue) × IsExt known octets value × (broken_rule value ≡ None)
+IsValidValue known octets = (value : ExtValue) × IsExt known octets value
+    × (broken_rule value ≡ None)
 
 abbrev pub IsValid : Holder → Extension → Type 0
 IsValid holder x = IsValidValue (known_at holder x.extnID) x.extnValue

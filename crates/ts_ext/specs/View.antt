@@ -1,4 +1,5 @@
--- What contracts see of the parts of extensions that readers lend: octets, without where they lie in memory.
+-- What contracts see of the parts of extensions that readers lend: octets, without where they lie
+-- in memory.
 use Rattle.std.specs.Prelude.{ℕ, List, option_map}
 use Rattle.ts_der.specs.Element.{inside}
 use Rattle.ts_der.specs.View.{now}
@@ -10,7 +11,8 @@ use Rattle.ts_ext.specs.declared.certificate_policies.CertificatePolicies.{Certi
 use Rattle.ts_ext.specs.declared.policy_mappings.PolicyMappings.{PolicyMappings}
 use Rattle.ts_ext.specs.declared.extended_key_usage.ExtendedKeyUsage.{ExtendedKeyUsage}
 use Rattle.ts_ext.specs.Policies.{Qualifier, Information, Mapping}
-use Rattle.ts_ext.specs.Reading.{policy_qualifier_in, policy_information_in, policy_mapping_in, key_purpose_in}
+use Rattle.ts_ext.specs.Reading.{policy_qualifier_in, policy_information_in, policy_mapping_in}
+use Rattle.ts_ext.specs.Reading.{key_purpose_in}
 
 abbrev pub qualifier_in : PolicyQualifier → Qualifier
 qualifier_in q = record { policyQualifierId = q.id.content.now; qualifier = q.qualifier.now }
@@ -19,11 +21,15 @@ abbrev pub information_in : PolicyInformation → Information
 information_in p =
     record {
       policyIdentifier = p.policy_identifier.content.now;
-      policyQualifiers = option_map (λ q. items_at policy_qualifier_in (inside (now q.element))) p.policy_qualifiers;
+      policyQualifiers = option_map (λ q. items_at policy_qualifier_in (inside (now q.element)))
+          p.policy_qualifiers;
     }
 
 abbrev pub mapping_in : PolicyMapping → Mapping
-mapping_in m = record { issuerDomainPolicy = m.issuer_domain_policy.content.now; subjectDomainPolicy = m.subject_domain_policy.content.now }
+mapping_in m = record {
+  issuerDomainPolicy = m.issuer_domain_policy.content.now;
+  subjectDomainPolicy = m.subject_domain_policy.content.now;
+}
 
 -- ---- lists
 

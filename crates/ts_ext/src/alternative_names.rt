@@ -28,12 +28,16 @@ impl<'a> AlternativeNames<'a> {
     ///
     /// # Errors
     ///
-    /// The first rule that is broken, with its place: of each name in turn, its header and the rules of
+    /// The first rule that is broken, with its place: of each name in turn, its header and the
+    /// rules of
     /// `General::read`; then `Empty` where there is none.
     pub fn read(element: Element<'a>) -> Result<AlternativeNames<'a>, Fault>
-        ensures found { IfOk result (λ x. AreGeneralNames element.entry.content.now (alternatives_in x)) }
-        ensures only { (xs : List GeneralName) → AreGeneralNames element.entry.content.now xs → IsOkAnd result (λ x. alternatives_in x ≡ xs) }
-        ensures fault { option_map about (refusal result) ≡ inner_fault general_names_items list_rules (now element.entry) }
+        ensures found { IfOk result (λ x. AreGeneralNames element.entry.content.now
+            (alternatives_in x)) }
+        ensures only { (xs : List GeneralName) → AreGeneralNames element.entry.content.now xs
+            → IsOkAnd result (λ x. alternatives_in x ≡ xs) }
+        ensures fault { option_map about (refusal result)
+            ≡ inner_fault general_names_items list_rules (now element.entry) }
         ensures exact { Answers alternatives_in result (general_names_of (now element.entry)) }
     {
         read_alternative_names(element)

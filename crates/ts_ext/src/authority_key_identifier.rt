@@ -9,7 +9,8 @@ ghost use Rattle.ts_shape.specs.Shape.{no_rules};
 ghost use Rattle.ts_shape.specs.Steps.{Takes};
 ghost use Rattle.ts_ext.specs.Inner.{inner_fault};
 ghost use Rattle.ts_ext.specs.NameViews.{authority_key_in};
-ghost use Rattle.ts_ext.specs.AuthorityKey.{octets_of, serial_of, authority_key_of, authority_key_fields, IsAuthorityKey, AuthorityKey};
+ghost use Rattle.ts_ext.specs.AuthorityKey.{octets_of, serial_of, authority_key_of};
+ghost use Rattle.ts_ext.specs.AuthorityKey.{authority_key_fields, IsAuthorityKey, AuthorityKey};
 
 use crate::fields::next_names_if_any;
 use ts_der::{Element, Fault, Integer, Reader};
@@ -35,7 +36,8 @@ pub struct AuthorityKeyIdentifier<'a> {
 /// The octets of a key identifier, where one is next.
 #[tactic(auto, unfolding(ts_shape::specs::Fields::optional_of, ts_der::specs::Reading::optional_at))]
 fn next_key<'a>(fields: &mut Reader<'a>) -> Result<Option<&'a [u8]>, Fault>
-    ensures { Takes (option_map (λ k. k.now)) fields.new result (optional_of 0x80 octets_of fields.old) }
+    ensures { Takes (option_map (λ k. k.now)) fields.new result
+        (optional_of 0x80 octets_of fields.old) }
 {
     match fields.optional(KEY_IDENTIFIER)? {
         Some(element) => Ok(Some(element.content)),
@@ -46,7 +48,8 @@ fn next_key<'a>(fields: &mut Reader<'a>) -> Result<Option<&'a [u8]>, Fault>
 /// A serial number, where one is next.
 #[tactic(auto, unfolding(ts_shape::specs::Fields::optional_of, ts_der::specs::Reading::optional_at))]
 fn next_serial<'a>(fields: &mut Reader<'a>) -> Result<Option<Integer<'a>>, Fault>
-    ensures { Takes (option_map (λ s. s.octets.now)) fields.new result (optional_of 0x82 serial_of fields.old) }
+    ensures { Takes (option_map (λ s. s.octets.now)) fields.new result
+        (optional_of 0x82 serial_of fields.old) }
 {
     match fields.optional(AUTHORITY_CERT_SERIAL_NUMBER)? {
         Some(element) => Ok(Some(element.integer()?)),
@@ -59,12 +62,16 @@ impl<'a> AuthorityKeyIdentifier<'a> {
     ///
     /// # Errors
     ///
-    /// The first rule that is broken, with its place: of each field, where it is, its header; of the issuer those of
+    /// The first rule that is broken, with its place: of each field, where it is, its header; of
+    /// the issuer those of
     /// `General::read` and `Empty`; of the serial number `IntegerForm`; then `Trailing`.
     pub fn read(element: Element<'a>) -> Result<AuthorityKeyIdentifier<'a>, Fault>
-        ensures found { IfOk result (λ a. IsAuthorityKey element.entry.content.now (authority_key_in a)) }
-        ensures only { (a : AuthorityKey) → IsAuthorityKey element.entry.content.now a → IsOkAnd result (λ read. authority_key_in read ≡ a) }
-        ensures fault { option_map about (refusal result) ≡ inner_fault authority_key_fields no_rules (now element.entry) }
+        ensures found { IfOk result (λ a. IsAuthorityKey element.entry.content.now
+            (authority_key_in a)) }
+        ensures only { (a : AuthorityKey) → IsAuthorityKey element.entry.content.now a
+            → IsOkAnd result (λ read. authority_key_in read ≡ a) }
+        ensures fault { option_map about (refusal result)
+            ≡ inner_fault authority_key_fields no_rules (now element.entry) }
         ensures exact { Answers authority_key_in result (authority_key_of (now element.entry)) }
     {
         read_authority_key(element)

@@ -29,13 +29,16 @@ impl BasicConstraints {
     ///
     /// # Errors
     ///
-    /// The first rule that is broken, with its place: of cA, where a BOOLEAN stands, its header, `BooleanForm` and, of
-    /// FALSE, which is the default, `DefaultEncoded`; of pathLenConstraint, where an INTEGER stands, its header,
+    /// The first rule that is broken, with its place: of cA, where a BOOLEAN stands, its header,
+    /// `BooleanForm` and, of FALSE, which is the default, `DefaultEncoded`; of pathLenConstraint,
+    /// where an INTEGER stands, its header,
     /// `IntegerForm` and, above 4,294,967,295, `TooLarge`; then `Trailing`.
     pub fn read(element: Element<'_>) -> Result<BasicConstraints, Fault>
         ensures found { IfOk result (IsBasicConstraints element.entry.content.now) }
-        ensures only { (b : BasicConstraints) → IsBasicConstraints element.entry.content.now b → result ≡ Ok b }
-        ensures fault { option_map about (refusal result) ≡ inner_fault basic_constraints_fields no_rules (now element.entry) }
+        ensures only { (b : BasicConstraints) → IsBasicConstraints element.entry.content.now b
+            → result ≡ Ok b }
+        ensures fault { option_map about (refusal result)
+            ≡ inner_fault basic_constraints_fields no_rules (now element.entry) }
         ensures exact { Answers (λ b. b) result (basic_constraints_of (now element.entry)) }
     {
         BasicConstraints::of_element(element)

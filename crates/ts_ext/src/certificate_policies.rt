@@ -28,13 +28,18 @@ impl<'a> CertificatePolicies<'a> {
     ///
     /// # Errors
     ///
-    /// The first rule that is broken, with its place: of each policy in turn, its header (a SEQUENCE), its identifier
-    /// (`OidForm`), its qualifiers, where a SEQUENCE stands, one by one and then that there is one (`Empty`), and
+    /// The first rule that is broken, with its place: of each policy in turn, its header (a
+    /// SEQUENCE), its identifier (`OidForm`), its qualifiers, where a SEQUENCE stands, one by one
+    /// and then that there is one (`Empty`), and
     /// `Trailing`; then `Empty` where there is no policy.
     pub fn read(element: Element<'a>) -> Result<CertificatePolicies<'a>, Fault>
-        ensures found { IfOk result (λ x. AreCertificatePolicies element.entry.content.now (policies_in x)) }
-        ensures only { (xs : List Information) → AreCertificatePolicies element.entry.content.now xs → IsOkAnd result (λ x. policies_in x ≡ xs) }
-        ensures fault { option_map about (refusal result) ≡ inner_fault certificate_policies list_rules (now element.entry) }
+        ensures found { IfOk result (λ x. AreCertificatePolicies element.entry.content.now
+            (policies_in x)) }
+        ensures only { (xs : List Information)
+            → AreCertificatePolicies element.entry.content.now xs
+            → IsOkAnd result (λ x. policies_in x ≡ xs) }
+        ensures fault { option_map about (refusal result)
+            ≡ inner_fault certificate_policies list_rules (now element.entry) }
         ensures exact { Answers policies_in result (certificate_policies_of (now element.entry)) }
     {
         read_certificate_policies(element)

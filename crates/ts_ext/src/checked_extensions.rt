@@ -9,7 +9,8 @@ ghost use Rattle.ts_shape.specs.Items.{items_at};
 ghost use Rattle.ts_shape.specs.Repeats.{first_repeated as first_repeated_of};
 ghost use Rattle.ts_shape.specs.Shape.{no_rules};
 ghost use Rattle.ts_ext.specs.Inner.{inner_fault};
-ghost use Rattle.ts_ext.specs.Extension.{Extension as Stated, AreExplicit, explicit_extensions, located_in, all_located_of, explicit_all_located_of};
+ghost use Rattle.ts_ext.specs.Extension.{Extension as Stated, AreExplicit, explicit_extensions};
+ghost use Rattle.ts_ext.specs.Extension.{located_in, all_located_of, explicit_all_located_of};
 ghost use Rattle.ts_ext.specs.ExtensionView.{all_located_in, extensions_in};
 ghost use Rattle.ts_ext.specs.ValueRules.{values_fault, list_fault};
 
@@ -32,24 +33,30 @@ pub struct CheckedExtensions<'a> {
 }
 
 impl<'a> CheckedExtensions<'a> {
-    /// The list that the one SEQUENCE within an explicit tag is, and the first rule that it breaks in a holder. A list is
-    /// walked once, if its object identifiers end in octets of their own; else it is then searched for one that stands
-    /// twice.
+    /// The list that the one SEQUENCE within an explicit tag is, and the first rule that it breaks
+    /// in a holder. A list is walked once, if its object identifiers end in octets of their own;
+    /// else it is then searched for one that stands twice.
     ///
     /// # Errors
     ///
-    /// The first rule of the shape that is broken, with its place: the header and the tag of the SEQUENCE, the rules of
+    /// The first rule of the shape that is broken, with its place: the header and the tag of the
+    /// SEQUENCE, the rules of
     /// `Extensions::read`, and `Trailing`.
     pub fn read_explicit(
         element: Element<'a>,
         holder: Holder,
     ) -> Result<CheckedExtensions<'a>, Fault>
-        ensures found { IfOk result (λ j. AreExplicit element.entry.content.now (extensions_in j.extensions)) }
-        ensures only { (xs : List Stated) → AreExplicit element.entry.content.now xs → IsOkAnd result (λ j. extensions_in j.extensions ≡ xs) }
-        ensures fault { option_map about (refusal result) ≡ inner_fault explicit_extensions no_rules (now element.entry) }
+        ensures found { IfOk result (λ j. AreExplicit element.entry.content.now
+            (extensions_in j.extensions)) }
+        ensures only { (xs : List Stated) → AreExplicit element.entry.content.now xs
+            → IsOkAnd result (λ j. extensions_in j.extensions ≡ xs) }
+        ensures fault { option_map about (refusal result)
+            ≡ inner_fault explicit_extensions no_rules (now element.entry) }
         // The same with the place of each.
-        ensures placed { Answers (λ j. all_located_in j.extensions) result (explicit_all_located_of (now element.entry)) }
-        ensures judged { IfOk result (λ j. j.fault ≡ list_fault holder (all_located_in j.extensions)) }
+        ensures placed { Answers (λ j. all_located_in j.extensions) result
+            (explicit_all_located_of (now element.entry)) }
+        ensures judged { IfOk result (λ j. j.fault
+            ≡ list_fault holder (all_located_in j.extensions)) }
     {
         judge_explicit(element, holder)
     }
@@ -58,7 +65,8 @@ impl<'a> CheckedExtensions<'a> {
 #[tactic(auto, unfolding(ts_shape::specs::Items::alone, ts_shape::specs::Items::each, ts_shape::specs::Items::of_tag))]
 #[inline(always)]
 fn judge_explicit<'a>(element: Element<'a>, holder: Holder) -> Result<CheckedExtensions<'a>, Fault>
-    ensures placed { Answers (λ j. all_located_in j.extensions) result (explicit_all_located_of (now element.entry)) }
+    ensures placed { Answers (λ j. all_located_in j.extensions) result
+        (explicit_all_located_of (now element.entry)) }
     ensures judged { IfOk result (λ j. j.fault ≡ list_fault holder (all_located_in j.extensions)) }
 {
     let mut rest = element.reader();
@@ -67,11 +75,12 @@ fn judge_explicit<'a>(element: Element<'a>, holder: Holder) -> Result<CheckedExt
     Ok(judged)
 }
 
-/// The list that a SEQUENCE's content is, and the first rule that it breaks. Most lists of certificates break none, which the
-/// fast path sees.
+/// The list that a SEQUENCE's content is, and the first rule that it breaks. Most lists of
+/// certificates break none, which the fast path sees.
 #[inline(always)]
 fn judge<'a>(element: Element<'a>, holder: Holder) -> Result<CheckedExtensions<'a>, Fault>
-    ensures placed { Answers (λ j. all_located_in j.extensions) result (all_located_of (now element.entry)) }
+    ensures placed { Answers (λ j. all_located_in j.extensions) result
+        (all_located_of (now element.entry)) }
     ensures judged { IfOk result (λ j. j.fault ≡ list_fault holder (all_located_in j.extensions)) }
 {
     match holder {
@@ -89,7 +98,8 @@ pub(crate) fn judge_each<'a>(
     element: Element<'a>,
     holder: Holder,
 ) -> Result<CheckedExtensions<'a>, Fault>
-    ensures placed { Answers (λ j. all_located_in j.extensions) result (all_located_of (now element.entry)) }
+    ensures placed { Answers (λ j. all_located_in j.extensions) result
+        (all_located_of (now element.entry)) }
     ensures judged { IfOk result (λ j. j.fault ≡ list_fault holder (all_located_in j.extensions)) }
 {
     let fault = fault_of_list(element, holder)?;
@@ -99,11 +109,12 @@ pub(crate) fn judge_each<'a>(
     })
 }
 
-/// The first rule that the extensions of a list break, where they can be read. Only a list of which two object identifiers
-/// end alike is searched for one that occurs twice.
+/// The first rule that the extensions of a list break, where they can be read. Only a list of which
+/// two object identifiers end alike is searched for one that occurs twice.
 fn fault_of_list(element: Element<'_>, holder: Holder) -> Result<Option<CertFault>, Fault>
     ensures shape { refusal result ≡ refusal (all_located_of (now element.entry)) }
-    ensures fault { IfOk result (λ fault. fault ≡ list_fault holder (items_at located_in (inside (now element.entry)))) }
+    ensures fault { IfOk result (λ fault. fault
+        ≡ list_fault holder (items_at located_in (inside (now element.entry)))) }
 {
     let findings = walk(element, holder)?;
     if findings.have_ends_of_their_own {
@@ -130,8 +141,11 @@ struct Findings {
 /// Walks the extensions of a list.
 fn walk(list: Element<'_>, holder: Holder) -> Result<Findings, Fault>
     ensures shape { refusal result ≡ refusal (all_located_of (now list.entry)) }
-    ensures fault { IfOk result (λ found. found.fault ≡ values_fault holder (items_at located_in (inside (now list.entry)))) }
-    ensures ends { IfOk result (λ found. found.have_ends_of_their_own ≡ true → first_repeated_of (λ x. x.extnID) [] (items_at located_in (inside (now list.entry))) ≡ None) }
+    ensures fault { IfOk result (λ found. found.fault
+        ≡ values_fault holder (items_at located_in (inside (now list.entry)))) }
+    ensures ends { IfOk result (λ found. found.have_ends_of_their_own ≡ true
+        → first_repeated_of (λ x. x.extnID) [] (items_at located_in (inside (now list.entry)))
+        ≡ None) }
 {
     let mut rest = list.reader();
     let mut ends = LastOctets::new();
@@ -165,13 +179,16 @@ impl Findings {
     ghost use Rattle.ts_ext.specs.ExtensionView.{located_as};
     ghost use Rattle.ts_ext.specs.ValueRules.{value_fault};
 
-    /// What is found with one extension more, of this object identifier, whose value breaks no rule.
+    /// What is found with one extension more, of this object identifier, whose value breaks no
+    /// rule.
     #[inline(always)]
     fn with_key(self, ends: &mut LastOctets, key: &[u8]) -> Findings
         ensures fault { result.fault ≡ self.fault }
         ensures before { result.have_ends_of_their_own ≡ true → self.have_ends_of_their_own ≡ true }
-        ensures new { (keys : List (List ℕ)) → HaveEnds keys ends.old → result.have_ends_of_their_own ≡ true → is_among key.now keys ≡ false }
-        ensures met { (keys : List (List ℕ)) → HaveEnds keys ends.old → HaveEnds (key.now ∷ keys) ends.new }
+        ensures new { (keys : List (List ℕ)) → HaveEnds keys ends.old
+            → result.have_ends_of_their_own ≡ true → is_among key.now keys ≡ false }
+        ensures met { (keys : List (List ℕ)) → HaveEnds keys ends.old
+            → HaveEnds (key.now ∷ keys) ends.new }
     {
         let is_new = ends.is_new(key);
         Findings {
@@ -183,10 +200,14 @@ impl Findings {
     /// What is found with one extension more.
     #[inline(always)]
     fn with(self, ends: &mut LastOctets, holder: Holder, extension: Extension<'_>) -> Findings
-        ensures fault { result.fault ≡ (self.fault or_else value_fault holder (located_as extension.entry)) }
+        ensures fault { result.fault ≡
+            (self.fault or_else value_fault holder (located_as extension.entry)) }
         ensures before { result.have_ends_of_their_own ≡ true → self.have_ends_of_their_own ≡ true }
-        ensures new { (keys : List (List ℕ)) → HaveEnds keys ends.old → result.have_ends_of_their_own ≡ true → is_among (located_as extension.entry).extnID keys ≡ false }
-        ensures met { (keys : List (List ℕ)) → HaveEnds keys ends.old → HaveEnds ((located_as extension.entry).extnID ∷ keys) ends.new }
+        ensures new { (keys : List (List ℕ)) → HaveEnds keys ends.old
+            → result.have_ends_of_their_own ≡ true
+            → is_among (located_as extension.entry).extnID keys ≡ false }
+        ensures met { (keys : List (List ℕ)) → HaveEnds keys ends.old
+            → HaveEnds ((located_as extension.entry).extnID ∷ keys) ends.new }
     {
         let found = self.with_key(ends, extension.key());
         Findings {

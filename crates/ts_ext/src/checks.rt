@@ -17,8 +17,8 @@ use crate::reason_code::ReasonCode;
 use ts_der::{Element, Fault};
 use ts_shape::{CertFault, CertRule, tagged_as};
 
-/// The rule beside those of DER that the value breaks which an element's content is. The values that stand in most roots
-/// and entries can break none, so that no room is made for them.
+/// The rule beside those of DER that the value breaks which an element's content is. The values
+/// that stand in most roots and entries can break none, so that no room is made for them.
 #[inline(always)]
 fn check_content(known: Known, element: Element<'_>) -> Result<Option<CertRule>, Fault>
     ensures { Answers (λ rule. rule) result (rule_of (content_of known (now element.entry))) }
@@ -76,7 +76,8 @@ fn place_of(holder: Holder, at: usize) -> usize
 }
 
 impl<'a> Extension<'a> {
-    /// The first rule that the value breaks in a holder: the first that `Ext::read` refuses it for, else the one that
+    /// The first rule that the value breaks in a holder: the first that `Ext::read` refuses it for,
+    /// else the one that
     /// `Ext::broken_rule` finds. The place of the latter is that of the extension in a certificate, and 0 in a list.
     #[inline(always)]
     pub fn first_fault(self, holder: Holder) -> Option<CertFault>

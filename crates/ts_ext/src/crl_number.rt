@@ -38,8 +38,10 @@ impl<'a> CrlNumber<'a> {
     /// `IntegerForm` where the content is not in its shortest form, or negative.
     pub fn read(element: Element<'a>) -> Result<CrlNumber<'a>, Fault>
         ensures found { IfOk result (λ n. IsCrlNumber element.entry.content.now n.octets.now) }
-        ensures only { (octets : List ℕ) → IsCrlNumber element.entry.content.now octets → IsOkAnd result (λ n. n.octets.now ≡ octets) }
-        ensures fault { option_map about (refusal result) ≡ inner_fault plain crl_number_rules (now element.entry) }
+        ensures only { (octets : List ℕ) → IsCrlNumber element.entry.content.now octets
+            → IsOkAnd result (λ n. n.octets.now ≡ octets) }
+        ensures fault { option_map about (refusal result)
+            ≡ inner_fault plain crl_number_rules (now element.entry) }
         ensures exact { Answers (λ n. n.octets.now) result (crl_number_of (now element.entry)) }
     {
         read_crl_number(element)
@@ -54,9 +56,12 @@ impl<'a> BaseCrlNumber<'a> {
     /// `IntegerForm` where the content is not in its shortest form.
     pub fn read(element: Element<'a>) -> Result<BaseCrlNumber<'a>, Fault>
         ensures found { IfOk result (λ n. IsBaseCrlNumber element.entry.content.now n.octets.now) }
-        ensures only { (octets : List ℕ) → IsBaseCrlNumber element.entry.content.now octets → IsOkAnd result (λ n. n.octets.now ≡ octets) }
-        ensures fault { option_map about (refusal result) ≡ inner_fault plain base_crl_number_rules (now element.entry) }
-        ensures exact { Answers (λ n. n.octets.now) result (base_crl_number_of (now element.entry)) }
+        ensures only { (octets : List ℕ) → IsBaseCrlNumber element.entry.content.now octets
+            → IsOkAnd result (λ n. n.octets.now ≡ octets) }
+        ensures fault { option_map about (refusal result)
+            ≡ inner_fault plain base_crl_number_rules (now element.entry) }
+        ensures exact { Answers (λ n. n.octets.now) result
+            (base_crl_number_of (now element.entry)) }
     {
         read_base_crl_number(element)
     }

@@ -9,7 +9,8 @@ ghost use Rattle.ts_shape.specs.Shape.{no_rules};
 ghost use Rattle.ts_shape.specs.Steps.{Takes};
 ghost use Rattle.ts_ext.specs.Inner.{inner_fault};
 ghost use Rattle.ts_ext.specs.NameViews.{point_name_in, point_in};
-ghost use Rattle.ts_ext.specs.Points.{point_name_of, wrapped_name_of, point_of, point_fields, IsPoint, Point};
+ghost use Rattle.ts_ext.specs.Points.{point_name_of, wrapped_name_of, point_of, point_fields};
+ghost use Rattle.ts_ext.specs.Points.{IsPoint, Point};
 
 use crate::fields::{SEQUENCE, next_flags_if_any, next_names_if_any};
 use crate::reason_flags::ReasonFlags;
@@ -76,7 +77,8 @@ fn wrapped_name<'a>(element: Element<'a>) -> Result<PointName<'a>, Fault>
 /// The name of a distribution point, where one is next.
 #[tactic(auto, unfolding(ts_shape::specs::Fields::optional_of, ts_der::specs::Reading::optional_at))]
 pub(crate) fn next_point_name<'a>(fields: &mut Reader<'a>) -> Result<Option<PointName<'a>>, Fault>
-    ensures { Takes (option_map point_name_in) fields.new result (optional_of 0xA0 wrapped_name_of fields.old) }
+    ensures { Takes (option_map point_name_in) fields.new result
+        (optional_of 0xA0 wrapped_name_of fields.old) }
 {
     match fields.optional(POINT_NAME)? {
         Some(element) => Ok(Some(wrapped_name(element)?)),
@@ -89,13 +91,16 @@ impl<'a> DistributionPoint<'a> {
     ///
     /// # Errors
     ///
-    /// The first rule that is broken, with its place: of the name its header and that of the one form within it, with
-    /// those of `General::read` and `Rdn::read`, `Empty` and `Trailing`; of the reasons those of `ReasonFlags::read`;
-    /// of the issuer those of `General::read` and `Empty`; then `Trailing`.
+    /// The first rule that is broken, with its place: of the name its header and that of the one
+    /// form within it, with those of `General::read` and `Rdn::read`, `Empty` and `Trailing`; of
+    /// the reasons those of `ReasonFlags::read`; of the issuer those of `General::read` and
+    /// `Empty`; then `Trailing`.
     pub fn read(element: Element<'a>) -> Result<DistributionPoint<'a>, Fault>
         ensures found { IfOk result (λ p. IsPoint element.entry.content.now (point_in p)) }
-        ensures only { (p : Point) → IsPoint element.entry.content.now p → IsOkAnd result (λ read. point_in read ≡ p) }
-        ensures fault { option_map about (refusal result) ≡ inner_fault point_fields no_rules (now element.entry) }
+        ensures only { (p : Point) → IsPoint element.entry.content.now p
+            → IsOkAnd result (λ read. point_in read ≡ p) }
+        ensures fault { option_map about (refusal result)
+            ≡ inner_fault point_fields no_rules (now element.entry) }
         ensures exact { Answers point_in result (point_of (now element.entry)) }
     {
         read_point(element)

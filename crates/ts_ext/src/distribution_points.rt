@@ -14,8 +14,8 @@ use crate::distribution_point::DistributionPoint;
 use ts_der::{Element, Fault};
 use ts_shape::{SequenceItems, SequenceOf};
 
-/// Where the lists of a certificate, or the latest changes of a list, are found, one place or more (RFC 5280 4.2.1.13,
-/// 4.2.1.15, 5.2.6).
+/// Where the lists of a certificate, or the latest changes of a list, are found, one place or more
+/// (RFC 5280 4.2.1.13, 4.2.1.15, 5.2.6).
 #[derive(Clone, Copy)]
 pub struct DistributionPoints<'a> {
     /// The distribution points.
@@ -27,12 +27,15 @@ impl<'a> DistributionPoints<'a> {
     ///
     /// # Errors
     ///
-    /// The first rule that is broken, with its place: of each point in turn, its header (a SEQUENCE) and the rules of
+    /// The first rule that is broken, with its place: of each point in turn, its header (a
+    /// SEQUENCE) and the rules of
     /// `DistributionPoint::read`; then `Empty` where there is none.
     pub fn read(element: Element<'a>) -> Result<DistributionPoints<'a>, Fault>
         ensures found { IfOk result (λ x. ArePoints element.entry.content.now (points_in x)) }
-        ensures only { (xs : List Point) → ArePoints element.entry.content.now xs → IsOkAnd result (λ x. points_in x ≡ xs) }
-        ensures fault { option_map about (refusal result) ≡ inner_fault points_items list_rules (now element.entry) }
+        ensures only { (xs : List Point) → ArePoints element.entry.content.now xs
+            → IsOkAnd result (λ x. points_in x ≡ xs) }
+        ensures fault { option_map about (refusal result)
+            ≡ inner_fault points_items list_rules (now element.entry) }
         ensures exact { Answers points_in result (points_of (now element.entry)) }
     {
         read_distribution_points(element)

@@ -111,18 +111,25 @@ fn read_alone<'a>(known: Known, octets: Element<'a>) -> Result<Ext<'a>, Fault>
 }
 
 impl<'a> Ext<'a> {
-    /// The value of the extension that an object identifier names in a holder, from its OCTET STRING; of an extension
-    /// that is not read there the octets. The tag of the OCTET STRING is not looked at.
+    /// The value of the extension that an object identifier names in a holder, from its OCTET
+    /// STRING; of an extension that is not read there the octets. The tag of the OCTET STRING is
+    /// not looked at.
     ///
     /// # Errors
     ///
-    /// The first rule that the value breaks, with its place: its header and tag, the rules of its reader, and
+    /// The first rule that the value breaks, with its place: its header and tag, the rules of its
+    /// reader, and
     /// `Trailing`.
     pub fn read(holder: Holder, oid: OidRef<'a>, octets: Element<'a>) -> Result<Ext<'a>, Fault>
-        ensures found { IfOk result (λ x. IsExt (known_at holder oid.entry.content.now) octets.entry.content.now (ext_in x)) }
-        ensures only { (x : ExtValue) → IsExt (known_at holder oid.entry.content.now) octets.entry.content.now x → IsOkAnd result (λ y. ext_in y ≡ x) }
-        ensures fault { option_map about (refusal result) ≡ ext_fault (known_at holder oid.entry.content.now) (now octets.entry) }
-        ensures exact { Answers ext_in result (ext_of (known_at holder oid.entry.content.now) (now octets.entry)) }
+        ensures found { IfOk result (λ x. IsExt
+            (known_at holder oid.entry.content.now) octets.entry.content.now (ext_in x)) }
+        ensures only { (x : ExtValue) → IsExt
+            (known_at holder oid.entry.content.now) octets.entry.content.now x
+            → IsOkAnd result (λ y. ext_in y ≡ x) }
+        ensures fault { option_map about (refusal result)
+            ≡ ext_fault (known_at holder oid.entry.content.now) (now octets.entry) }
+        ensures exact { Answers ext_in result
+            (ext_of (known_at holder oid.entry.content.now) (now octets.entry)) }
     {
         read_ext(holder, oid, octets)
     }
@@ -131,7 +138,8 @@ impl<'a> Ext<'a> {
 #[tactic(auto, unfolding(crate::specs::Ext::ext_of))]
 #[inline(always)]
 fn read_ext<'a>(holder: Holder, oid: OidRef<'a>, octets: Element<'a>) -> Result<Ext<'a>, Fault>
-    ensures { Answers ext_in result (ext_of (known_at holder oid.entry.content.now) (now octets.entry)) }
+    ensures { Answers ext_in result
+        (ext_of (known_at holder oid.entry.content.now) (now octets.entry)) }
 {
     match Known::at(holder, oid) {
         Some(known) => read_alone(known, octets),

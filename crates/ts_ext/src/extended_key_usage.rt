@@ -26,12 +26,15 @@ impl<'a> ExtendedKeyUsage<'a> {
     ///
     /// # Errors
     ///
-    /// The first rule that is broken, with its place: of each purpose in turn, its header (an OBJECT IDENTIFIER) and
+    /// The first rule that is broken, with its place: of each purpose in turn, its header (an
+    /// OBJECT IDENTIFIER) and
     /// `OidForm`; then `Empty` where there is none.
     pub fn read(element: Element<'a>) -> Result<ExtendedKeyUsage<'a>, Fault>
         ensures found { IfOk result (λ x. AreKeyPurposes element.entry.content.now (purposes_in x)) }
-        ensures only { (xs : List (List ℕ)) → AreKeyPurposes element.entry.content.now xs → IsOkAnd result (λ x. purposes_in x ≡ xs) }
-        ensures fault { option_map about (refusal result) ≡ inner_fault ext_key_usage list_rules (now element.entry) }
+        ensures only { (xs : List (List ℕ)) → AreKeyPurposes element.entry.content.now xs
+            → IsOkAnd result (λ x. purposes_in x ≡ xs) }
+        ensures fault { option_map about (refusal result)
+            ≡ inner_fault ext_key_usage list_rules (now element.entry) }
         ensures exact { Answers purposes_in result (ext_key_usage_of (now element.entry)) }
     {
         read_extended_key_usage(element)

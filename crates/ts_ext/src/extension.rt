@@ -9,7 +9,8 @@ use crate::fields::{BOOLEAN, OCTET_STRING, SEQUENCE, next_oid};
 use ts_der::{Element, Fault, OidRef};
 use ts_shape::{FromElement, Keyed, tagged_as};
 
-/// An extension of a certificate, of a list or of an entry, as it lies in the source (RFC 5280 4.1, 4.2).
+/// An extension of a certificate, of a list or of an entry, as it lies in the source (RFC 5280 4.1,
+/// 4.2).
 #[derive(Clone, Copy)]
 pub struct Extension<'a> {
     /// The offset of its SEQUENCE.

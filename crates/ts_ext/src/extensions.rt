@@ -10,7 +10,8 @@ ghost use Rattle.ts_shape.specs.Fault.{about};
 ghost use Rattle.ts_shape.specs.Items.{items_at};
 ghost use Rattle.ts_shape.specs.Repeats.{first_repeated as first_repeated_of};
 ghost use Rattle.ts_ext.specs.Inner.{inner_fault};
-ghost use Rattle.ts_ext.specs.Extension.{Extension as Stated, AreExtensions, extensions, located_in, extensions_of, all_located_of};
+ghost use Rattle.ts_ext.specs.Extension.{Extension as Stated, AreExtensions, extensions};
+ghost use Rattle.ts_ext.specs.Extension.{located_in, extensions_of, all_located_of};
 ghost use Rattle.ts_ext.specs.ExtensionView.{located_as, all_located_in, extensions_in};
 ghost use Rattle.ts_ext.specs.Known.{identifier_of};
 ghost use Rattle.ts_ext.specs.Table.{list_rules};
@@ -33,14 +34,17 @@ impl<'a> Extensions<'a> {
     ///
     /// # Errors
     ///
-    /// The first rule that is broken, with its place: of each extension in turn, its header (a SEQUENCE), its object
-    /// identifier (`OidForm`), of critical, where a BOOLEAN stands, its header, `BooleanForm` and, of FALSE, which is the
-    /// default, `DefaultEncoded`, the header of its value (an OCTET STRING), and `Trailing`; then `Empty` where there is
-    /// no extension.
+    /// The first rule that is broken, with its place: of each extension in turn, its header (a
+    /// SEQUENCE), its object identifier (`OidForm`), of critical, where a BOOLEAN stands, its
+    /// header, `BooleanForm` and, of FALSE, which is the default, `DefaultEncoded`, the header of
+    /// its value (an OCTET STRING), and `Trailing`; then `Empty` where there is no extension.
     pub fn read(element: Element<'a>) -> Result<Extensions<'a>, Fault>
-        ensures found { IfOk result (λ x. AreExtensions element.entry.content.now (extensions_in x)) }
-        ensures only { (xs : List Stated) → AreExtensions element.entry.content.now xs → IsOkAnd result (λ x. extensions_in x ≡ xs) }
-        ensures fault { option_map about (refusal result) ≡ inner_fault extensions list_rules (now element.entry) }
+        ensures found { IfOk result (λ x. AreExtensions element.entry.content.now
+            (extensions_in x)) }
+        ensures only { (xs : List Stated) → AreExtensions element.entry.content.now xs
+            → IsOkAnd result (λ x. extensions_in x ≡ xs) }
+        ensures fault { option_map about (refusal result)
+            ≡ inner_fault extensions list_rules (now element.entry) }
         ensures exact { Answers extensions_in result (extensions_of (now element.entry)) }
         // The same with the place of each.
         ensures placed { Answers all_located_in result (all_located_of (now element.entry)) }
@@ -48,8 +52,8 @@ impl<'a> Extensions<'a> {
         read_extensions(element)
     }
 
-    /// The list within a SEQUENCE that `read` or `CheckedExtensions::read_explicit` has accepted before. Of another element it is what
-    /// precedes the first that is no extension.
+    /// The list within a SEQUENCE that `read` or `CheckedExtensions::read_explicit` has accepted
+    /// before. Of another element it is what precedes the first that is no extension.
     pub fn within(element: Element<'a>) -> Extensions<'a>
         ensures { all_located_in result ≡ items_at located_in (inside (now element.entry)) }
     {
@@ -67,7 +71,8 @@ impl<'a> Extensions<'a> {
 
     /// The first of the extensions that is known as this one, if there is one.
     pub fn find(self, known: Known) -> Option<Extension<'a>>
-        ensures { option_map located_as result ≡ find (λ x. bytes_eq x.extnID (identifier_of known)) (all_located_in self.entry) }
+        ensures { option_map located_as result
+            ≡ find (λ x. bytes_eq x.extnID (identifier_of known)) (all_located_in self.entry) }
     {
         let wanted = [0x55, 0x1D, known.arc()];
         for extension in self.iter() {
@@ -78,15 +83,17 @@ impl<'a> Extensions<'a> {
         None
     }
 
-    /// The first extension, by its place, that has the object identifier of an earlier one, where there is one
-    /// (RFC 5280 4.2).
+    /// The first extension, by its place, that has the object identifier of an earlier one, where
+    /// there is one (RFC 5280 4.2).
     pub fn first_repeated(self) -> Option<Extension<'a>>
-        ensures { option_map located_as result ≡ first_repeated_of (λ x. x.extnID) [] (all_located_in self.entry) }
+        ensures { option_map located_as result
+            ≡ first_repeated_of (λ x. x.extnID) [] (all_located_in self.entry) }
     {
         first_repeated(self.list.element)
     }
 
-    /// The first rule that the values break, one extension after another, as `Extension::first_fault` finds it in each.
+    /// The first rule that the values break, one extension after another, as
+    /// `Extension::first_fault` finds it in each.
     pub fn broken_rule(self, holder: Holder) -> Option<CertFault>
         ensures fault { result ≡ values_fault holder (all_located_in self.entry) }
         // None exactly where each value is one that its extension has and breaks no rule.

@@ -1,8 +1,10 @@
-//! Fast path. `false` or `None` means undecided; the caller then uses the full reader. Removing it changes speed alone.
+//! Fast path. `false` or `None` means undecided; the caller then uses the full reader. Removing it
+//! changes speed alone.
 //!
 //! The values of extensions in the forms that most certificates have, by their first octets.
 
-ghost use Rattle.std.specs.Prelude.{◌≡◌, ◌++◌, ◌∷◌, [], true, ℕ, List, Bool, Ok, Some, None, IfSome};
+ghost use Rattle.std.specs.Prelude.{◌≡◌, ◌++◌, ◌∷◌, [], true, ℕ, List, Bool, Ok, Some, None};
+ghost use Rattle.std.specs.Prelude.{IfSome};
 ghost use Rattle.ts_der.specs.Element.{Fits, encode};
 ghost use Rattle.ts_der.specs.View.{now};
 ghost use Rattle.ts_ext.specs.Extension.{Located, located_of, IsExtension};
@@ -16,11 +18,12 @@ use crate::fields::{BIT_STRING, BOOLEAN, INTEGER, OBJECT_IDENTIFIER, OCTET_STRIN
 use crate::known::{Holder, Known};
 use ts_der::{Element, bounds_at};
 
-/// The content of the one element that octets are, where it has this tag and the length has at most two octets after the
-/// first. `None` decides nothing.
+/// The content of the one element that octets are, where it has this tag and the length has at most
+/// two octets after the first. `None` decides nothing.
 #[inline(always)]
 fn content_of(tag: u8, octets: &[u8]) -> Option<&[u8]>
-    ensures { IfSome result (λ content. Fits tag content.now × (octets.now ≡ encode tag content.now)) }
+    ensures { IfSome result (λ content. Fits tag content.now
+        × (octets.now ≡ encode tag content.now)) }
 {
     let bounds = bounds_at(octets, 0, tag)?;
     if bounds.end != octets.len() {
@@ -29,10 +32,12 @@ fn content_of(tag: u8, octets: &[u8]) -> Option<&[u8]>
     Some(&octets[bounds.start..])
 }
 
-/// Whether basic constraints are those of an authority, with no bound or one below 128 (RFC 5280 4.2.1.9).
+/// Whether basic constraints are those of an authority, with no bound or one below 128 (RFC 5280
+/// 4.2.1.9).
 #[inline(always)]
 fn are_of_authority(content: &[u8]) -> bool
-    ensures { result ≡ true → (constraints : BasicConstraints) × IsBasicConstraints content.now constraints }
+    ensures { result ≡ true → (constraints : BasicConstraints)
+        × IsBasicConstraints content.now constraints }
 {
     let [tag, length, ca, bound @ ..] = content else {
         return false;
@@ -63,9 +68,10 @@ fn ends_with_crl_sign(content: &[u8]) -> bool
     true
 }
 
-/// Whether octets are a value of this extension as most certificates have it, which breaks no rule: the identifier of a
-/// key, alone where it is the authority's; the basic constraints of an authority; a key usage that ends with cRLSign;
-/// distribution points that are URIs. `false` decides nothing.
+/// Whether octets are a value of this extension as most certificates have it, which breaks no rule:
+/// the identifier of a key, alone where it is the authority's; the basic constraints of an
+/// authority; a key usage that ends with cRLSign; distribution points that are URIs. `false`
+/// decides nothing.
 #[inline(always)]
 fn is_fast(known: Known, octets: &[u8]) -> bool
     ensures { result ≡ true → IsValidValue (Some known) octets.now }
@@ -95,7 +101,8 @@ fn is_fast(known: Known, octets: &[u8]) -> bool
 /// What follows critical, where that is TRUE, and else all.
 #[inline(always)]
 fn behind_critical(fields: &[u8]) -> &[u8]
-    ensures { (flag : List ℕ) × (critical : Bool) × IfTrue 0x01 flag critical × (fields.now ≡ flag ++ result.now) }
+    ensures { (flag : List ℕ) × (critical : Bool) × IfTrue 0x01 flag critical
+        × (fields.now ≡ flag ++ result.now) }
 {
     let [tag, length, octet, value @ ..] = fields else {
         return fields;
@@ -106,11 +113,13 @@ fn behind_critical(fields: &[u8]) -> &[u8]
     value
 }
 
-/// The last arc of an extension under 2.5.29, and its value, where each of its lengths has one octet. `None`
-/// decides nothing.
+/// The last arc of an extension under 2.5.29, and its value, where each of its lengths has one
+/// octet. `None` decides nothing.
 #[inline(always)]
 fn short_parts(content: &[u8]) -> Option<(u8, &[u8])>
-    ensures { IfSome result (λ parts. (critical : Bool) × IsExtension content.now (record { extnID = 0x55 ∷ 0x1D ∷ parts.0 ∷ []; critical = critical; extnValue = parts.1.now })) }
+    ensures { IfSome result (λ parts. (critical : Bool)
+        × IsExtension content.now (record
+        { extnID = 0x55 ∷ 0x1D ∷ parts.0 ∷ []; critical = critical; extnValue = parts.1.now })) }
 {
     let [tag, length, joint, ce, arc, fields @ ..] = content else {
         return None;
@@ -122,11 +131,13 @@ fn short_parts(content: &[u8]) -> Option<(u8, &[u8])>
     Some((*arc, value))
 }
 
-/// The last arc, under 2.5.29, of the extension that a SEQUENCE is, where it is one of most certificates with such a value.
+/// The last arc, under 2.5.29, of the extension that a SEQUENCE is, where it is one of most
+/// certificates with such a value.
 /// `None` decides nothing.
 #[inline(always)]
 pub(crate) fn fast_arc(element: Element<'_>, holder: Holder) -> Option<u8>
-    ensures { IfSome result (λ arc. (x : Located) × (located_of (now element.entry) ≡ Ok x) × (x.extnID ≡ 0x55 ∷ 0x1D ∷ arc ∷ []) × (value_fault holder x ≡ None)) }
+    ensures { IfSome result (λ arc. (x : Located) × (located_of (now element.entry) ≡ Ok x)
+        × (x.extnID ≡ 0x55 ∷ 0x1D ∷ arc ∷ []) × (value_fault holder x ≡ None)) }
 {
     let (arc, value) = short_parts(element.content)?;
     let known = Known::with_arc(holder, arc)?;

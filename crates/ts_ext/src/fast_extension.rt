@@ -1,4 +1,5 @@
-//! Fast path. `false` or `None` means undecided; the caller then uses the full reader. Removing it changes speed alone.
+//! Fast path. `false` or `None` means undecided; the caller then uses the full reader. Removing it
+//! changes speed alone.
 //!
 //! Extensions in the forms that most certificates have, recognised by their first sixteen octets.
 
@@ -8,12 +9,14 @@ ghost use Rattle.ts_ext.specs.Valid.{IsValidUnder};
 use crate::known::Known;
 use ts_der::lie_between;
 
-/// Basic constraints that are critical and say that cA is TRUE, but for the last octet (RFC 5280 4.2.1.9).
+/// Basic constraints that are critical and say that cA is TRUE, but for the last octet (RFC 5280
+/// 4.2.1.9).
 const AUTHORITY: [u8; 16] = [
     0x30, 0x0F, 0x06, 0x03, 0x55, 0x1D, 0x13, 0x01, 0x01, 0xFF, 0x04, 0x05, 0x30, 0x03, 0x01, 0x01,
 ];
 
-/// A critical key usage in one octet, of which one bit is not used, and that octet is 0 (RFC 5280 4.2.1.3).
+/// A critical key usage in one octet, of which one bit is not used, and that octet is 0 (RFC 5280
+/// 4.2.1.3).
 const LEAST_USAGE: [u8; 16] = [
     0x30, 0x0E, 0x06, 0x03, 0x55, 0x1D, 0x0F, 0x01, 0x01, 0xFF, 0x04, 0x04, 0x03, 0x02, 0x01, 0x00,
 ];
@@ -33,7 +36,8 @@ const GREATEST_SUBJECT_KEY: [u8; 16] = [
     0x30, 0x1D, 0x06, 0x03, 0x55, 0x1D, 0x0E, 0x04, 0x16, 0x04, 0x14, 0xFF, 0xFF, 0xFF, 0xFF, 0xFF,
 ];
 
-/// An authority key identifier that is a key identifier of twenty octets, of which three are 0 (RFC 5280 4.2.1.1).
+/// An authority key identifier that is a key identifier of twenty octets, of which three are 0 (RFC
+/// 5280 4.2.1.1).
 const LEAST_AUTHORITY_KEY: [u8; 16] = [
     0x30, 0x1F, 0x06, 0x03, 0x55, 0x1D, 0x23, 0x04, 0x18, 0x30, 0x16, 0x80, 0x14, 0, 0, 0,
 ];
@@ -97,12 +101,13 @@ fn authority_key_size(octets: &[u8]) -> Option<usize>
     Some(33)
 }
 
-/// The size of the extension at the front of octets, where it is the identifier of a key, in twenty octets and alone, the
-/// basic constraints of an authority, or a key usage that ends with cRLSign, each with the lengths and the criticality that
-/// most have. `None` decides nothing.
+/// The size of the extension at the front of octets, where it is the identifier of a key, in twenty
+/// octets and alone, the basic constraints of an authority, or a key usage that ends with cRLSign,
+/// each with the lengths and the criticality that most have. `None` decides nothing.
 #[inline(always)]
 pub(crate) fn fast_size(octets: &[u8]) -> Option<usize>
-    ensures sound { IfSome result (λ size. IsValidUnder (slice_index_or octets.now 6 0) (take size octets.now)) }
+    ensures sound { IfSome result (λ size. IsValidUnder (slice_index_or octets.now 6 0)
+        (take size octets.now)) }
     ensures within { IfSome result (λ size. size ≤ length octets.now) }
     ensures seven { IfSome result (λ size. 7 ≤ length octets.now) }
 {

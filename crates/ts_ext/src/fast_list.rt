@@ -1,4 +1,5 @@
-//! Fast path. `false` or `None` means undecided; the caller then uses the full reader. Removing it changes speed alone.
+//! Fast path. `false` or `None` means undecided; the caller then uses the full reader. Removing it
+//! changes speed alone.
 //!
 //! The extensions of a certificate, where they are in the forms that most certificates have.
 
@@ -18,13 +19,16 @@ use crate::known::Holder;
 use ts_der::{Element, Reader};
 use ts_shape::{Keyed, LastOctets};
 
-/// A list of more octets is not looked at: one that breaks a rule is walked once more, and may be made to be slow.
+/// A list of more octets is not looked at: one that breaks a rule is walked once more, and may be
+/// made to be slow.
 const SHORT: usize = 4_096;
 
-/// Whether an extension's object identifier ends in an octet of its own, and its value breaks no rule.
+/// Whether an extension's object identifier ends in an octet of its own, and its value breaks no
+/// rule.
 #[inline(always)]
 fn is_sound_and_new(element: Element<'_>, ends: &mut LastOctets) -> bool
-    ensures { result ≡ true → (x : Located) × (located_of (now element.entry) ≡ Ok x) × (value_fault Certificate x ≡ None) × IsNewKey ends.old ends.new x.extnID }
+    ensures { result ≡ true → (x : Located) × (located_of (now element.entry) ≡ Ok x)
+        × (value_fault Certificate x ≡ None) × IsNewKey ends.old ends.new x.extnID }
 {
     if let Some(arc) = fast_arc(element, Holder::Certificate) {
         return ends.is_new(&[0x55, 0x1D, arc]);
@@ -38,8 +42,8 @@ fn is_sound_and_new(element: Element<'_>, ends: &mut LastOctets) -> bool
     ends.is_new(extension.key())
 }
 
-/// The size of the extension at the front of octets, where its object identifier ends in an octet of its own, and its value
-/// breaks no rule.
+/// The size of the extension at the front of octets, where its object identifier ends in an octet
+/// of its own, and its value breaks no rule.
 #[inline(never)]
 fn sound_size(octets: &[u8], ends: &mut LastOctets) -> Option<usize>
     ensures sound { IfSome result (λ size. IsValidAndNew ends.old ends.new (take size octets.now)) }
@@ -69,8 +73,8 @@ fn next_size(octets: &[u8], ends: &mut LastOctets) -> Option<usize>
     Some(size)
 }
 
-/// Whether octets are a short list of extensions of a certificate of which no two object identifiers end alike, and each value
-/// breaks no rule. `false` decides nothing.
+/// Whether octets are a short list of extensions of a certificate of which no two object
+/// identifiers end alike, and each value breaks no rule. `false` decides nothing.
 #[inline(always)]
 pub(crate) fn have_ends_of_their_own(content: &[u8]) -> bool
     ensures { result ≡ true → AreValidOnce content.now }
@@ -89,7 +93,8 @@ pub(crate) fn have_ends_of_their_own(content: &[u8]) -> bool
     !content.is_empty()
 }
 
-/// Whether octets are extensions of a certificate of which none occurs twice, and each value breaks no rule.
+/// Whether octets are extensions of a certificate of which none occurs twice, and each value breaks
+/// no rule.
 #[cold]
 #[inline(never)]
 fn are_others(content: &[u8]) -> bool
@@ -108,8 +113,9 @@ fn are_others(content: &[u8]) -> bool
     }
 }
 
-/// Whether the content of a SEQUENCE is extensions of a certificate that break no rule: one or more, none of which stands
-/// twice, each with a value that its extension has and that keeps the rules of RFC 5280 (4.2), as `CheckedExtensions` finds them.
+/// Whether the content of a SEQUENCE is extensions of a certificate that break no rule: one or
+/// more, none of which stands twice, each with a value that its extension has and that keeps the
+/// rules of RFC 5280 (4.2), as `CheckedExtensions` finds them.
 #[inline(always)]
 pub fn are_sound_extensions(content: &[u8]) -> bool
     ensures { IsTrue result ↔ AreValidOnce content.now }

@@ -1,4 +1,5 @@
-//! Fast path. `false` or `None` means undecided; the caller then uses the full reader. Removing it changes speed alone.
+//! Fast path. `false` or `None` means undecided; the caller then uses the full reader. Removing it
+//! changes speed alone.
 //!
 //! Distribution points in the form that most certificates have.
 
@@ -13,11 +14,12 @@ use ts_der::are_ascii;
 /// The tag of a URI among general names (RFC 5280 4.2.1.6).
 const URI: u8 = 0x86;
 
-/// The distribution points after the first, where that is known by one URI alone, of fewer than 122 octets. `None`
-/// decides nothing.
+/// The distribution points after the first, where that is known by one URI alone, of fewer than 122
+/// octets. `None` decides nothing.
 #[inline(always)]
 fn behind_uri(points: &[u8]) -> Option<&[u8]>
-    ensures { IfSome result (λ more. (first : List ℕ) × (uri : List ℕ) × Within 0x30 IsPoint first (point_of_uri uri) × (points.now ≡ first ++ more.now)) }
+    ensures { IfSome result (λ more. (first : List ℕ) × (uri : List ℕ)
+        × Within 0x30 IsPoint first (point_of_uri uri) × (points.now ≡ first ++ more.now)) }
 {
     let [
         point,
@@ -54,10 +56,12 @@ fn behind_uri(points: &[u8]) -> Option<&[u8]>
     Some(more)
 }
 
-/// Whether distribution points are known by one such URI each, and there is one (RFC 5280 4.2.1.13).
+/// Whether distribution points are known by one such URI each, and there is one (RFC 5280
+/// 4.2.1.13).
 #[inline(always)]
 pub(crate) fn are_uris(points: &[u8]) -> bool
-    ensures { result ≡ true → (uris : List (List ℕ)) × ArePoints points.now (map point_of_uri uris) }
+    ensures { result ≡ true → (uris : List (List ℕ))
+        × ArePoints points.now (map point_of_uri uris) }
 {
     let mut rest = points;
     while !rest.is_empty() {

@@ -1,4 +1,5 @@
-//! Fields that more than one SEQUENCE has. Each reads the element that is next, which the reader has then passed.
+//! Fields that more than one SEQUENCE has. Each reads the element that is next, which the reader
+//! has then passed.
 
 ghost use Rattle.ts_shape.specs.Steps.{Takes};
 ghost use Rattle.std.specs.Prelude.{option_map};
@@ -51,7 +52,8 @@ pub(crate) fn next_flags_if_any<'a>(
     fields: &mut Reader<'a>,
     tag: u8,
 ) -> Result<Option<ReasonFlags<'a>>, Fault>
-    ensures { Takes (option_map (λ f. bits_in f.bits)) fields.new result (optional_of tag reason_flags_of fields.old) }
+    ensures { Takes (option_map (λ f. bits_in f.bits)) fields.new result
+        (optional_of tag reason_flags_of fields.old) }
 {
     match fields.optional(tag)? {
         Some(element) => Ok(Some(ReasonFlags::read(element)?)),
@@ -65,7 +67,8 @@ pub(crate) fn next_names_if_any<'a>(
     fields: &mut Reader<'a>,
     tag: u8,
 ) -> Result<Option<GeneralNames<'a>>, Fault>
-    ensures { Takes (option_map names_in) fields.new result (optional_of tag general_names_of fields.old) }
+    ensures { Takes (option_map names_in) fields.new result
+        (optional_of tag general_names_of fields.old) }
 {
     match fields.optional(tag)? {
         Some(element) => Ok(Some(SequenceOf::read(element)?)),

@@ -13,10 +13,12 @@ ghost use Rattle.ts_ext.specs.Reading.{invalidity_date_of};
 use ts_der::{Element, Fault};
 use ts_time::{Moment, read_general};
 
-/// Since when a key was known or believed to be compromised, or a certificate otherwise invalid (RFC 5280 5.3.2).
+/// Since when a key was known or believed to be compromised, or a certificate otherwise invalid
+/// (RFC 5280 5.3.2).
 #[derive(Clone, Copy, Debug, PartialEq, Eq)]
 pub struct InvalidityDate {
-    /// The seconds of the moment: a type that contracts see as a number can't be copied beside a reference.
+    /// The seconds of the moment: a type that contracts see as a number can't be copied beside a
+    /// reference.
     seconds: i64,
 }
 
@@ -28,8 +30,10 @@ impl InvalidityDate {
     /// `TimeForm` where the content has another form, or there is no such time.
     pub fn read(element: Element<'_>) -> Result<InvalidityDate, Fault>
         ensures found { IfOk result (λ d. IsInvalidityDate element.entry.content.now d.seconds) }
-        ensures only { (m : ℤ) → IsInvalidityDate element.entry.content.now m → result ≡ Ok (record { seconds = m }) }
-        ensures fault { option_map about (refusal result) ≡ inner_fault plain invalidity_date_rules (now element.entry) }
+        ensures only { (m : ℤ) → IsInvalidityDate element.entry.content.now m
+            → result ≡ Ok (record { seconds = m }) }
+        ensures fault { option_map about (refusal result)
+            ≡ inner_fault plain invalidity_date_rules (now element.entry) }
         ensures exact { Answers (λ d. d.seconds) result (invalidity_date_of (now element.entry)) }
     {
         read_invalidity_date(element)

@@ -7,7 +7,8 @@ ghost use Rattle.ts_shape.specs.Fault.{about};
 ghost use Rattle.ts_shape.specs.Shape.{no_rules};
 ghost use Rattle.ts_ext.specs.Inner.{inner_fault};
 ghost use Rattle.ts_ext.specs.NameViews.{issuing_point_in};
-ghost use Rattle.ts_ext.specs.Points.{issuing_point_of, issuing_point_fields, IsIssuingPoint, ListScope};
+ghost use Rattle.ts_ext.specs.Points.{issuing_point_of, issuing_point_fields, IsIssuingPoint};
+ghost use Rattle.ts_ext.specs.Points.{ListScope};
 
 use crate::distribution_point::{PointName, next_point_name};
 use crate::fields::next_flags_if_any;
@@ -24,7 +25,8 @@ const INDIRECT_CRL: u8 = 0x84;
 
 const ONLY_ATTRIBUTE_CERTS: u8 = 0x85;
 
-/// What a list covers (RFC 5280 5.2.5): where it is found, and of which certificates and for which reasons.
+/// What a list covers (RFC 5280 5.2.5): where it is found, and of which certificates and for which
+/// reasons.
 #[derive(Clone, Copy)]
 pub struct IssuingDistributionPoint<'a> {
     /// The names of the list.
@@ -46,13 +48,17 @@ impl<'a> IssuingDistributionPoint<'a> {
     ///
     /// # Errors
     ///
-    /// The first rule that is broken, with its place: of the name those of `DistributionPoint::read`; of a flag, where
-    /// one stands, its header, `BooleanForm` and, of FALSE, which is the default, `DefaultEncoded`; of the reasons those
-    /// of `ReasonFlags::read`; then `Trailing`.
+    /// The first rule that is broken, with its place: of the name those of
+    /// `DistributionPoint::read`; of a flag, where one stands, its header, `BooleanForm` and, of
+    /// FALSE, which is the default, `DefaultEncoded`; of the reasons those of `ReasonFlags::read`;
+    /// then `Trailing`.
     pub fn read(element: Element<'a>) -> Result<IssuingDistributionPoint<'a>, Fault>
-        ensures found { IfOk result (λ p. IsIssuingPoint element.entry.content.now (issuing_point_in p)) }
-        ensures only { (p : ListScope) → IsIssuingPoint element.entry.content.now p → IsOkAnd result (λ read. issuing_point_in read ≡ p) }
-        ensures fault { option_map about (refusal result) ≡ inner_fault issuing_point_fields no_rules (now element.entry) }
+        ensures found { IfOk result (λ p. IsIssuingPoint element.entry.content.now
+            (issuing_point_in p)) }
+        ensures only { (p : ListScope) → IsIssuingPoint element.entry.content.now p
+            → IsOkAnd result (λ read. issuing_point_in read ≡ p) }
+        ensures fault { option_map about (refusal result)
+            ≡ inner_fault issuing_point_fields no_rules (now element.entry) }
         ensures exact { Answers issuing_point_in result (issuing_point_of (now element.entry)) }
     {
         read_issuing_point(element)

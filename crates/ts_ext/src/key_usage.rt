@@ -30,8 +30,10 @@ impl<'a> KeyUsage<'a> {
     /// `BitsForm` where the content is no BIT STRING, then `NamedBits` where its last bit is 0.
     pub fn read(element: Element<'a>) -> Result<KeyUsage<'a>, Fault>
         ensures found { IfOk result (λ u. IsKeyUsage element.entry.content.now (bits_in u.bits)) }
-        ensures only { (bits : List Bool) → IsKeyUsage element.entry.content.now bits → IsOkAnd result (λ u. bits_in u.bits ≡ bits) }
-        ensures fault { option_map about (refusal result) ≡ inner_fault plain key_usage_rules (now element.entry) }
+        ensures only { (bits : List Bool) → IsKeyUsage element.entry.content.now bits
+            → IsOkAnd result (λ u. bits_in u.bits ≡ bits) }
+        ensures fault { option_map about (refusal result)
+            ≡ inner_fault plain key_usage_rules (now element.entry) }
         ensures exact { Answers (λ u. bits_in u.bits) result (key_usage_of (now element.entry)) }
     {
         read_key_usage(element)

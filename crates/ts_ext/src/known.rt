@@ -1,7 +1,8 @@
 //! Which extensions are read, and where each may stand.
 
 ghost use Rattle.std.specs.Prelude.{◌≡◌};
-ghost use Rattle.ts_ext.specs.Known.{arc_of, certificate_extension, list_extension, entry_extension, extension_of, known_at};
+ghost use Rattle.ts_ext.specs.Known.{arc_of, certificate_extension, list_extension};
+ghost use Rattle.ts_ext.specs.Known.{entry_extension, extension_of, known_at};
 ghost use Rattle.ts_ext.specs.Ext.{layout_of};
 
 use crate::fields::{BIT_STRING, INTEGER, OCTET_STRING, SEQUENCE};
@@ -22,7 +23,8 @@ pub enum Holder {
     Entry,
 }
 
-/// The extensions that are read here (RFC 5280 4.2.1, 5.2, 5.3). Each has its last arc, under 2.5.29, as its number.
+/// The extensions that are read here (RFC 5280 4.2.1, 5.2, 5.3). Each has its last arc, under
+/// 2.5.29, as its number.
 #[derive(Clone, Copy, Debug, PartialEq, Eq)]
 pub enum Known {
     SubjectKeyIdentifier = 14,

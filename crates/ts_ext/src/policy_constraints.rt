@@ -33,12 +33,15 @@ impl PolicyConstraints {
     ///
     /// # Errors
     ///
-    /// The first rule that is broken, with its place: of [0] and then of [1], where each is, its header,
+    /// The first rule that is broken, with its place: of [0] and then of [1], where each is, its
+    /// header,
     /// `IntegerForm` and, above 4,294,967,295, `TooLarge`; then `Trailing`.
     pub fn read(element: Element<'_>) -> Result<PolicyConstraints, Fault>
         ensures found { IfOk result (IsPolicyConstraints element.entry.content.now) }
-        ensures only { (p : PolicyConstraints) → IsPolicyConstraints element.entry.content.now p → result ≡ Ok p }
-        ensures fault { option_map about (refusal result) ≡ inner_fault policy_constraints_fields no_rules (now element.entry) }
+        ensures only { (p : PolicyConstraints) → IsPolicyConstraints element.entry.content.now p
+            → result ≡ Ok p }
+        ensures fault { option_map about (refusal result)
+            ≡ inner_fault policy_constraints_fields no_rules (now element.entry) }
         ensures exact { Answers (λ p. p) result (policy_constraints_of (now element.entry)) }
     {
         PolicyConstraints::of_element(element)

@@ -72,7 +72,8 @@ fn read_policy_information<'a>(element: Element<'a>) -> Result<PolicyInformation
 fn next_qualifiers_if_any<'a>(
     fields: &mut Reader<'a>,
 ) -> Result<Option<SequenceOf<'a, PolicyQualifier<'a>>>, Fault>
-    ensures { Takes (option_map (λ q. items_at policy_qualifier_in (inside (now q.element)))) fields.new result (optional_of 48 (some_of policy_qualifier_in) fields.old) }
+    ensures { Takes (option_map (λ q. items_at policy_qualifier_in (inside (now q.element))))
+        fields.new result (optional_of 48 (some_of policy_qualifier_in) fields.old) }
 {
     match fields.optional(SEQUENCE)? {
         Some(element) => Ok(Some(SequenceOf::read(element)?)),

@@ -28,12 +28,16 @@ impl<'a> PolicyMappings<'a> {
     ///
     /// # Errors
     ///
-    /// The first rule that is broken, with its place: of each mapping in turn, its header (a SEQUENCE), the issuer's
-    /// policy and the subject's (`OidForm`), and `Trailing`; then `Empty` where there is no mapping.
+    /// The first rule that is broken, with its place: of each mapping in turn, its header (a
+    /// SEQUENCE), the issuer's policy and the subject's (`OidForm`), and `Trailing`; then `Empty`
+    /// where there is no mapping.
     pub fn read(element: Element<'a>) -> Result<PolicyMappings<'a>, Fault>
-        ensures found { IfOk result (λ x. ArePolicyMappings element.entry.content.now (mappings_in x)) }
-        ensures only { (xs : List Mapping) → ArePolicyMappings element.entry.content.now xs → IsOkAnd result (λ x. mappings_in x ≡ xs) }
-        ensures fault { option_map about (refusal result) ≡ inner_fault policy_mappings list_rules (now element.entry) }
+        ensures found { IfOk result (λ x. ArePolicyMappings element.entry.content.now
+            (mappings_in x)) }
+        ensures only { (xs : List Mapping) → ArePolicyMappings element.entry.content.now xs
+            → IsOkAnd result (λ x. mappings_in x ≡ xs) }
+        ensures fault { option_map about (refusal result)
+            ≡ inner_fault policy_mappings list_rules (now element.entry) }
         ensures exact { Answers mappings_in result (policy_mappings_of (now element.entry)) }
     {
         read_policy_mappings(element)

@@ -37,8 +37,10 @@ impl ReasonCode {
     /// `IntegerForm` where the content is not one octet, or is the number of no reason, as 7 and 11 are.
     pub fn read(element: Element<'_>) -> Result<ReasonCode, Fault>
         ensures found { IfOk result (IsReasonCode element.entry.content.now) }
-        ensures only { (reason : ReasonCode) → IsReasonCode element.entry.content.now reason → result ≡ Ok reason }
-        ensures fault { option_map about (refusal result) ≡ inner_fault plain reason_code_rules (now element.entry) }
+        ensures only { (reason : ReasonCode) → IsReasonCode element.entry.content.now reason
+            → result ≡ Ok reason }
+        ensures fault { option_map about (refusal result)
+            ≡ inner_fault plain reason_code_rules (now element.entry) }
         ensures exact { Answers (λ r. r) result (reason_code_of (now element.entry)) }
     {
         ReasonCode::of_element(element)

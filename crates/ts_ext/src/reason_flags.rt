@@ -32,9 +32,12 @@ impl<'a> ReasonFlags<'a> {
     ///
     /// `BitsForm` where the content is no BIT STRING, then `NamedBits` where its last bit is 0.
     pub fn read(element: Element<'a>) -> Result<ReasonFlags<'a>, Fault>
-        ensures found { IfOk result (λ f. AreReasonFlags element.entry.content.now (bits_in f.bits)) }
-        ensures only { (bits : List Bool) → AreReasonFlags element.entry.content.now bits → IsOkAnd result (λ f. bits_in f.bits ≡ bits) }
-        ensures fault { option_map about (refusal result) ≡ inner_fault plain reason_flags_rules (now element.entry) }
+        ensures found { IfOk result (λ f. AreReasonFlags element.entry.content.now
+            (bits_in f.bits)) }
+        ensures only { (bits : List Bool) → AreReasonFlags element.entry.content.now bits
+            → IsOkAnd result (λ f. bits_in f.bits ≡ bits) }
+        ensures fault { option_map about (refusal result)
+            ≡ inner_fault plain reason_flags_rules (now element.entry) }
         ensures exact { Answers (λ f. bits_in f.bits) result (reason_flags_of (now element.entry)) }
     {
         read_reason_flags(element)
@@ -49,7 +52,8 @@ impl<'a> ReasonFlags<'a> {
 
     /// All that are among them. Bits that name no reason are left out.
     pub fn reasons(self) -> ReasonSet
-        ensures { (flag : ReasonFlag) → holds flag result ≡ bit (flag_number flag) (bits_in self.entry.bits) }
+        ensures { (flag : ReasonFlag) → holds flag result
+            ≡ bit (flag_number flag) (bits_in self.entry.bits) }
     {
         ReasonSet {
             key_compromise: self.contains(ReasonFlag::KeyCompromise),

@@ -5,8 +5,10 @@ ghost use Rattle.std.specs.List.{list_all};
 ghost use Rattle.ts_name.specs.General.{has_address_length, has_range_length};
 ghost use Rattle.ts_name.specs.Subtree.{is_unbounded};
 ghost use Rattle.ts_ext.specs.ExtView.{ext_in};
-ghost use Rattle.ts_ext.specs.NameViews.{names_in, subtrees_in, point_name_in, point_in, points_in, name_constraints_in};
-ghost use Rattle.ts_ext.specs.Rules.{all_of, has_point_addresses, has_addresses, are_distinct, broken_rule};
+ghost use Rattle.ts_ext.specs.NameViews.{names_in, subtrees_in, point_name_in, point_in, points_in};
+ghost use Rattle.ts_ext.specs.NameViews.{name_constraints_in};
+ghost use Rattle.ts_ext.specs.Rules.{all_of, has_point_addresses, has_addresses, are_distinct};
+ghost use Rattle.ts_ext.specs.Rules.{broken_rule};
 ghost use Rattle.ts_ext.specs.Ext.{nameConstraints};
 ghost use Rattle.ts_ext.specs.Reading.{policy_information_in};
 ghost use Rattle.ts_der.specs.Element.{inside};
@@ -83,8 +85,10 @@ struct Bounds {
 
 /// What the subtrees of a list, if there is one, keep to.
 fn bounds_of<'a>(subtrees: Option<SequenceOf<'a, Subtree<'a>>>) -> Bounds
-    ensures unbounded { result.are_unbounded ≡ all_of is_unbounded (option_map subtrees_in subtrees.entry) }
-    ensures range { result.have_range_length ≡ all_of (λ s. has_range_length s.base) (option_map subtrees_in subtrees.entry) }
+    ensures unbounded { result.are_unbounded
+        ≡ all_of is_unbounded (option_map subtrees_in subtrees.entry) }
+    ensures range { result.have_range_length
+        ≡ all_of (λ s. has_range_length s.base) (option_map subtrees_in subtrees.entry) }
 {
     let mut bounds = Bounds {
         are_unbounded: true,
@@ -130,9 +134,10 @@ fn constraints_rule(constraints: NameConstraints<'_>) -> Option<CertRule>
 }
 
 impl<'a> Ext<'a> {
-    /// The first of the rules beside those of DER that the value breaks: `SubtreeBounds` where a subtree of name
-    /// constraints has a minimum other than 0 or a maximum (RFC 5280 4.2.1.10); `AddressLength` where an IP address has
-    /// not 4 octets or 16 (4.2.1.6), in a constraint 8 or 32; `DuplicatePolicy` where a policy is stated twice (4.2.1.4).
+    /// The first of the rules beside those of DER that the value breaks: `SubtreeBounds` where a
+    /// subtree of name constraints has a minimum other than 0 or a maximum (RFC 5280 4.2.1.10);
+    /// `AddressLength` where an IP address has not 4 octets or 16 (4.2.1.6), in a constraint 8 or
+    /// 32; `DuplicatePolicy` where a policy is stated twice (4.2.1.4).
     pub fn broken_rule(self) -> Option<CertRule>
         ensures { result ≡ broken_rule (ext_in self.entry) }
     {

@@ -12,7 +12,8 @@ ghost use Rattle.ts_ext.specs.Reading.{skip_certs_of};
 
 use ts_der::{Element, Fault};
 
-/// A number of certificates that may follow in a path before something holds (RFC 5280 4.2.1.11, 4.2.1.14).
+/// A number of certificates that may follow in a path before something holds (RFC 5280 4.2.1.11,
+/// 4.2.1.14).
 #[derive(Clone, Copy, Debug, PartialEq, Eq)]
 pub struct SkipCerts(pub u32);
 
@@ -24,8 +25,10 @@ impl SkipCerts {
     /// `IntegerForm` where the content is not in its shortest form, or negative; `TooLarge` above 4,294,967,295.
     pub fn read(element: Element<'_>) -> Result<SkipCerts, Fault>
         ensures found { IfOk result (λ n. IsSkipCerts element.entry.content.now n.0) }
-        ensures only { (n : ℕ) → IsSkipCerts element.entry.content.now n → result ≡ Ok (record { 0 = n }) }
-        ensures fault { option_map about (refusal result) ≡ inner_fault plain skip_certs_rules (now element.entry) }
+        ensures only { (n : ℕ) → IsSkipCerts element.entry.content.now n
+            → result ≡ Ok (record { 0 = n }) }
+        ensures fault { option_map about (refusal result)
+            ≡ inner_fault plain skip_certs_rules (now element.entry) }
         ensures exact { Answers (λ n. n.0) result (skip_certs_of (now element.entry)) }
     {
         read_skip_certs(element)

@@ -119,7 +119,8 @@ const NAMES: [(&[u8], Option<(DerFault, usize)>); 20] = [
     // No object identifier.
     (b"\x88\x00", Some((DerFault::OidForm, 0))),
     (b"\x88\x01\x80", Some((DerFault::OidForm, 0))),
-    // A directory name without a name, with a set for it, with an empty set in it, with an element after it.
+    // A directory name without a name, with a set for it, with an empty set in it, with an element
+    // after it.
     (b"\xa4\x00", Some((DerFault::Truncated, 2))),
     (b"\xa4\x02\x31\x00", Some((DerFault::WrongTag, 2))),
     (b"\xa4\x04\x30\x02\x31\x00", Some((DerFault::Empty, 4))),

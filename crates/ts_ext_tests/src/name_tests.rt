@@ -1,4 +1,5 @@
-//! Rows by hand: names that are read, their faults with their places, and names that are one or not.
+//! Rows by hand: names that are read, their faults with their places, and names that are one or
+//! not.
 
 use crate::attribute_tests::place;
 use std::alloc::Global;
@@ -36,8 +37,8 @@ fn name(octets: &[u8]) -> Result<Name<'_>, Fault> {
     Name::read(Reader::new(octets).element(0x30)?)
 }
 
-/// Whether a name is one with another, in the comparison and in canonical form, whether it lies within the other, and
-/// whether its canonical form is the empty one.
+/// Whether a name is one with another, in the comparison and in canonical form, whether it lies
+/// within the other, and whether its canonical form is the empty one.
 fn compared(alloc: Global, a: &[u8], b: &[u8]) -> Option<(bool, bool, bool, bool)> {
     let (a, b) = (name(a).ok()?, name(b).ok()?);
     let (canon, other) = (a.canon(alloc).ok()?, b.canon(alloc).ok()?);
@@ -45,7 +46,8 @@ fn compared(alloc: Global, a: &[u8], b: &[u8]) -> Option<(bool, bool, bool, bool
     Some((a.same(b), canon.same(&other), a.within(b), is_empty))
 }
 
-/// Two names, whether they are one, whether the first lies within the second, and whether the first is empty.
+/// Two names, whether they are one, whether the first lies within the second, and whether the first
+/// is empty.
 const PAIRS: [(&[u8], &[u8], bool, bool, bool); 13] = [
     (FOO_BAR, FOLDED, true, true, false),
     (FOLDED, TELETEX, false, false, false),
@@ -72,8 +74,8 @@ fn names_that_are_one_or_within(rt: HostRuntime) {
     }
 }
 
-/// Whether these are the values of a name's attributes, with a bar after each relative distinguished name, which is
-/// itself.
+/// Whether these are the values of a name's attributes, with a bar after each relative
+/// distinguished name, which is itself.
 fn has_values(alloc: Global, octets: &[u8], wanted: &[u8]) -> Option<bool> {
     let mut values = Vec::new(alloc);
     for rdn in name(octets).ok()?.rdns() {

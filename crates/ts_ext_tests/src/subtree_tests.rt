@@ -39,7 +39,8 @@ fn base<'a>(subtree: Subtree<'a>) -> (u8, &'a [u8]) {
     form(subtree.base())
 }
 
-/// The same for a subtree that is read, whether it has no bounds, and whether its length is that of addresses.
+/// The same for a subtree that is read, whether it has no bounds, and whether its length is that of
+/// addresses.
 fn parts<'a>(octets: &'a [u8]) -> Result<((u8, &'a [u8]), bool, bool), Fault> {
     let subtree = element(octets)?;
     Ok((
@@ -59,8 +60,8 @@ fn two_bases<'a>(octets: &'a [u8]) -> Option<((u8, &'a [u8]), (u8, &'a [u8]))> {
     Some(bases)
 }
 
-/// Subtrees, with the form and octets of the base, whether there are no bounds, and whether the length is that of
-/// addresses.
+/// Subtrees, with the form and octets of the base, whether there are no bounds, and whether the
+/// length is that of addresses.
 const SUBTREES: [(&[u8], u8, &[u8], bool, bool); 6] = [
     (NETWORK, 7, b"\xc0\x00\x02\x00\xff\xff\xff\x00", true, true),
     (HOSTS, 2, b"a.b", true, true),

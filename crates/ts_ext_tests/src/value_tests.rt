@@ -1,5 +1,5 @@
-//! Values by hand, worked out from X.690 and RFC 5280. Each lies in an OCTET STRING, as in an extension, so that it
-//! is at 2.
+//! Values by hand, worked out from X.690 and RFC 5280. Each lies in an OCTET STRING, as in an
+//! extension, so that it is at 2.
 
 use ts_der::{DerFault, Element, Fault, Reader};
 use ts_ext::{BaseCrlNumber, CrlNumber, InvalidityDate};

@@ -1,12 +1,14 @@
 -- An algorithm identifier (RFC 5280 4.1.1.2): what it says, its one encoding, and how it is read.
-use Rattle.std.specs.Prelude.{◌≡◌, ℕ, List, [], ◌++◌, Option, Some, None, unwrap_or, Result, Ok, if◌then◌else◌}
+use Rattle.std.specs.Prelude.{◌≡◌, ℕ, List, [], ◌++◌, Option, Some, None, unwrap_or, Result, Ok}
+use Rattle.std.specs.Prelude.{if◌then◌else◌}
 use Rattle.ts_der.specs.declared.fault.Fault.{Fault}
 use Rattle.ts_der.specs.Answer.{◌>>=◌}
 use Rattle.ts_der.specs.Element.{Place, Tlv, inside, encode}
 use Rattle.ts_der.specs.Reading.{is_end, next_at, end_at}
 use Rattle.ts_shape.specs.Fields.{Within, IsAny, IsOid, within, oid_at}
 
--- AlgorithmIdentifier: the content of the algorithm's OBJECT IDENTIFIER, the parameters as a whole element, and all of it
+-- AlgorithmIdentifier: the content of the algorithm's OBJECT IDENTIFIER, the parameters as a whole
+-- element, and all of it
 pub record Algorithm : Type 0 where
   pub algorithm : List ℕ
   pub parameters : Option (List ℕ)
@@ -31,7 +33,8 @@ pub record IsAlgorithm (content : List ℕ) (a : Algorithm) : Type 0 where
 
 -- the element that is left, if any is
 unfoldable pub parameters_at : Place → Result (Option (List ℕ) × Place) Fault
-parameters_at here = if is_end here.rest then Ok (None, here) else (next_at here >>= λ e. Ok (Some e.0.whole, e.1))
+parameters_at here = if is_end here.rest then Ok (None, here)
+    else (next_at here >>= λ e. Ok (Some e.0.whole, e.1))
 
 -- AlgorithmIdentifier ::= SEQUENCE { algorithm OBJECT IDENTIFIER, parameters }
 unfoldable pub algorithm_of : Tlv → Result Algorithm Fault

@@ -1,10 +1,12 @@
--- The rows that the tables of certificates and of revocation lists share (RFC 5280 4.1.1.2, 4.1.2.5, as restated in Appendix A.1).
+-- The rows that the tables of certificates and of revocation lists share (RFC 5280 4.1.1.2,
+-- 4.1.2.5, as restated in Appendix A.1).
 use Rattle.std.specs.Prelude.{ℕ, not, List, is_some}
 use Rattle.ts_der.specs.declared.fault.DerFault.TheVariants.{TimeForm}
 use Rattle.ts_der.specs.Element.{Place}
 use Rattle.ts_time.specs.Reading.{utc_in, general_in}
 use Rattle.ts_shape.specs.declared.fault.CertRule.TheVariants.{Der}
-use Rattle.ts_shape.specs.Shape.{Row, any, optional, nothing, ◌then◌, one_rule, primitive, sequence, ◌or◌}
+use Rattle.ts_shape.specs.Shape.{Row, any, optional, nothing, ◌then◌, one_rule, primitive, sequence}
+use Rattle.ts_shape.specs.Shape.{◌or◌}
 use Rattle.ts_shape.specs.Rows.{object_identifier}
 
 -- UTCTime in its one form (4.1.2.5.1)
@@ -19,7 +21,8 @@ generalized_time = primitive 0x18 (one_rule (Der TimeForm) (λ c. not (is_some (
 abbrev pub time : Row
 time = utc_time or generalized_time
 
--- AlgorithmIdentifier ::= SEQUENCE { algorithm OBJECT IDENTIFIER, parameters ANY DEFINED BY algorithm OPTIONAL } (4.1.1.2)
+-- AlgorithmIdentifier ::= SEQUENCE { algorithm OBJECT IDENTIFIER, parameters ANY DEFINED BY
+-- algorithm OPTIONAL } (4.1.1.2)
 abbrev pub algorithm_identifier : Row
 algorithm_identifier = sequence (object_identifier then optional any then nothing)
 

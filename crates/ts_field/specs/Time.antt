@@ -27,8 +27,10 @@ IsTime octets t = IsTimeIn t.form octets t.moment
 -- Time ::= CHOICE { utcTime UTCTime, generalTime GeneralizedTime }
 unfoldable pub time_of : Tlv → Result Time Fault
 time_of e =
-    if e.tag == 0x17 then (located e.at (utc_value e.content) >>= λ m. Ok (record { form = Utc; moment = m }))
-    else (if e.tag == 0x18 then (located e.at (general_value e.content) >>= λ m. Ok (record { form = General; moment = m }))
+    if e.tag == 0x17 then (located e.at (utc_value e.content) >>= λ m. Ok
+    (record { form = Utc; moment = m }))
+    else (if e.tag == 0x18 then (located e.at (general_value e.content) >>= λ m. Ok
+    (record { form = General; moment = m }))
     else Err (fault_at e.at WrongTag))
 
 unfoldable pub time_at : Place → Result (Time × Place) Fault

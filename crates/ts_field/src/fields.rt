@@ -1,4 +1,5 @@
-//! Fields that more than one SEQUENCE has. Each reads the element that is next, which the reader has then passed.
+//! Fields that more than one SEQUENCE has. Each reads the element that is next, which the reader
+//! has then passed.
 
 ghost use Rattle.ts_shape.specs.Steps.{Takes};
 ghost use Rattle.ts_name.specs.NameView.{rdns_in};

@@ -1,6 +1,7 @@
-//! The fields that certificates and revocation lists share (RFC 5280 4.1, 5.1): times, algorithm identifiers, and the readers
-//! of an INTEGER, of whole octets in a BIT STRING and of a name as fields of a SEQUENCE. They are read where they lie: no
-//! memory, no copy, and of octets that are none the first rule that is broken, with its place.
+//! The fields that certificates and revocation lists share (RFC 5280 4.1, 5.1): times, algorithm
+//! identifiers, and the readers of an INTEGER, of whole octets in a BIT STRING and of a name as
+//! fields of a SEQUENCE. They are read where they lie: no memory, no copy, and of octets that are
+//! none the first rule that is broken, with its place.
 //!
 //! ```text
 //! let mut fields = element.reader();
@@ -16,8 +17,9 @@
 //! | `next_integer`, `next_bits`, `next_name` | the value that is next, as `integer_at`, `bits_at` or `name_at` gives it |
 //! | `Stamp::of`, `time` | the same time (`time_in`) |
 //!
-//! A call of the name `next_..` leaves the reader behind the field (`Takes`). What is encoded how is in `specs/Time.antt`
-//! (`IsTime`) and `specs/Algorithm.antt` (`IsAlgorithm`); which rule is the first one that is broken, in `specs/Table.antt`.
+//! A call of the name `next_..` leaves the reader behind the field (`Takes`). What is encoded how
+//! is in `specs/Time.antt` (`IsTime`) and `specs/Algorithm.antt` (`IsAlgorithm`); which rule is the
+//! first one that is broken, in `specs/Table.antt`.
 #![tactic(auto)]
 
 mod algorithm;

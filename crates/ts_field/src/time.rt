@@ -28,7 +28,8 @@ pub struct Time {
     pub moment: Moment,
 }
 
-/// A time as the readers of certificates and lists keep it. The language's borrow checker can't hand on a struct that holds a
+/// A time as the readers of certificates and lists keep it. The language's borrow checker can't
+/// hand on a struct that holds a
 /// `Moment`, which contracts see as a number, beside a name, which has a proved invariant.
 #[derive(Clone, Copy)]
 pub struct Stamp {

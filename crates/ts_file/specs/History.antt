@@ -4,7 +4,8 @@ use Rattle.ts_disk.specs.Crash.{written_within}
 use Rattle.ts_disk.specs.Disk.{State, Torn}
 use Rattle.ts_disk.specs.Past.{next}
 
--- The file was opened and held these octets; octets were written at an offset; a write at an offset failed; it was synced.
+-- The file was opened and held these octets; octets were written at an offset; a write at an offset
+-- failed; it was synced.
 pub data Event : Type 0 where
   opened : List ℕ → Event
   wrote : ℕ → List ℕ → Event
@@ -19,20 +20,30 @@ event_of numbers octets =
     else (if slice_index numbers 0 == 2 then failed (slice_index numbers 1) octets
     else synced))
 
--- A file that was opened and is not yet synced: a read gives these octets, and a crash may leave any image.
+-- A file that was opened and is not yet synced: a read gives these octets, and a crash may leave
+-- any image.
 abbrev pub unsynced : List ℕ → State
-unsynced octets = record { read = octets; may_leave = λ c. Unit {0}; moment = 0; left_since = λ t c. Unit {0}; failures = 0 }
+unsynced octets = record {
+  read = octets;
+  may_leave = λ c. Unit {0};
+  moment = 0;
+  left_since = λ t c. Unit {0};
+  failures = 0;
+}
 
 -- what a write of octets at an offset leaves of the images that a crash may leave
 abbrev pub torn_images : (List ℕ → Type 0) → ℕ → List ℕ → List ℕ → Type 0
 torn_images may_leave at octets c = (d : List ℕ) × may_leave d × Torn at (length octets) d c
 
--- The disk after these events, the last of which is first. A write tears its range until a sync, also one that failed;
--- only one that did not fail is read.
+-- The disk after these events, the last of which is first. A write tears its range until a sync,
+-- also one that failed; only one that did not fail is read.
 abbrev pub disk_after : List Event → State
 disk_after [] = unsynced []
 disk_after (opened octets ∷ older) = unsynced octets
 disk_after (wrote at octets ∷ older) =
-    next (disk_after older) (written_within (disk_after older).read at octets) (torn_images (disk_after older).may_leave at octets)
-disk_after (failed at octets ∷ older) = next (disk_after older) (disk_after older).read (torn_images (disk_after older).may_leave at octets)
-disk_after (synced ∷ older) = next (disk_after older) (disk_after older).read (λ c. c ≡ (disk_after older).read)
+    next (disk_after older) (written_within (disk_after older).read at octets)
+    (torn_images (disk_after older).may_leave at octets)
+disk_after (failed at octets ∷ older) = next (disk_after older) (disk_after older).read
+    (torn_images (disk_after older).may_leave at octets)
+disk_after (synced ∷ older) = next (disk_after older) (disk_after older).read
+    (λ c. c ≡ (disk_after older).read)

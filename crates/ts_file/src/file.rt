@@ -1,5 +1,6 @@
 // A file as a disk.
-ghost use Rattle.std.specs.Prelude.{◌≡◌, ◌<◌, ◌≤◌, ◌+◌, ◌-◌, ◌^◌, ◌⊎◌, ◌++◌, length, Err, IfErr, IfOk, OnOk, vec_len, vec_capacity};
+ghost use Rattle.std.specs.Prelude.{◌≡◌, ◌<◌, ◌≤◌, ◌+◌, ◌-◌, ◌^◌, ◌⊎◌, ◌++◌, length, Err, IfErr};
+ghost use Rattle.std.specs.Prelude.{IfOk, OnOk, vec_len, vec_capacity};
 ghost use Rattle.ts_disk.specs.Disk.{Call, Same, Torn, written, HasCause};
 ghost use Rattle.ts_disk.specs.declared.fault.DiskFault.TheVariants.{Failed};
 ghost use Rattle.ts_file.specs.History.{disk_after};
@@ -23,8 +24,8 @@ const SYNCED: u64 = 3;
 
 /// A file as a disk. Its octets are kept in memory beside it, so that a read asks the file nothing.
 ///
-/// Once a call has failed, the file may hold a part of what was written, and what was to be synced may be lost: each
-/// later call fails too, until the file is opened again.
+/// Once a call has failed, the file may hold a part of what was written, and what was to be synced
+/// may be lost: each later call fails too, until the file is opened again.
 #[derive(Drop)]
 pub struct FileDisk<F> {
     file: F,
@@ -55,7 +56,8 @@ fn counted(failures: &mut u64) -> DiskFault
 // Writes octets at an offset, over what is there and past the end, into the room that is there.
 fn overwrite(old: &mut Vec<u8>, at: usize, octets: &[u8])
     requires within { at ≤ length old.old.items }
-    requires room { vec_len old.old + (at + length octets.now - vec_len old.old) ≤ vec_capacity old.old }
+    requires room { vec_len old.old + (at + length octets.now - vec_len old.old)
+        ≤ vec_capacity old.old }
     ensures written { old.new.items ≡ written old.old.items at octets.now }
 {
     let kept = (old.len() - at).min(octets.len());
@@ -114,7 +116,8 @@ impl<F: Read + Write + Seek + OpenFile + Drop> Disk for FileDisk<F> {
 
     fn write_at(&mut self, at: usize, octets: &[u8]) -> Result<(), DiskFault>
         requires { at ≤ length (state_of self.old).read }
-        ensures written { OnOk result ((state_of self.new).read ≡ written (state_of self.old).read at octets.now) }
+        ensures written { OnOk result ((state_of self.new).read
+            ≡ written (state_of self.old).read at octets.now) }
         ensures call { Call (Torn at (length octets.now)) (state_of self.old) (state_of self.new) }
         ensures fault { IfErr result (λ fault. fault ≡ Failed) }
         ensures cause { HasCause (state_of self.old) (state_of self.new) result }

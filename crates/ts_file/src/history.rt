@@ -5,7 +5,8 @@ ghost use Rattle.ts_file.specs.History.{Event, event_of};
 
 use std::marker::{Model, PhantomData};
 
-/// What was done to a file since it was opened, the last first. It takes no memory: no code can read it.
+/// What was done to a file since it was opened, the last first. It takes no memory: no code can
+/// read it.
 #[derive(Drop)]
 pub struct History {
     marker: PhantomData<u8>,

@@ -11,15 +11,17 @@
 //! | `FileDisk::new`, `open`, `create` | `whole`: no failure is counted |
 //! | `FileDisk` as a `Disk` | those of a disk: `octets`, `written`, `durable`, `call`, `cause`; `stays`: a disk that has failed once fails each later call |
 //!
-//! The octets are read once, when the file is opened, and kept in memory; a read gives a copy of them. A failed write may have left a
-//! part of its octets in the file, and a failed sync may have lost what was written before it, though a later one answers `Ok`. So a
-//! disk that has failed once is of no more use: open the file again, which reads what it holds. A growth that is refused in
+//! The octets are read once, when the file is opened, and kept in memory; a read gives a copy of
+//! them. A failed write may have left a part of its octets in the file, and a failed sync may have
+//! lost what was written before it, though a later one answers `Ok`. So a disk that has failed once
+//! is of no more use: open the file again, which reads what it holds. A growth that is refused in
 //! `write_at` is a failure too, before the file is asked.
 //!
-//! What is trusted: no contract can say what a file gives or keeps, so the clauses on the images that a crash may leave are proved of
-//! a history of calls that takes no memory (`History`). That each call of this crate that notes a write or a sync has made it is read
-//! in `file.rt`. That a file keeps to that history is a premise: what was synced stays, a write that is not synced changes no octets outside
-//! its range, and nothing else writes the file.
+//! What is trusted: no contract can say what a file gives or keeps, so the clauses on the images
+//! that a crash may leave are proved of a history of calls that takes no memory (`History`). That
+//! each call of this crate that notes a write or a sync has made it is read in `file.rt`. That a
+//! file keeps to that history is a premise: what was synced stays, a write that is not synced
+//! changes no octets outside its range, and nothing else writes the file.
 #![tactic(auto)]
 
 mod file;

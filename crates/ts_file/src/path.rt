@@ -21,13 +21,13 @@ pub fn open<R: Files>(rt: &R, alloc: Global, path: &str) -> io::Result<FileDisk<
     FileDisk::new(alloc, file)
 }
 
-/// The disk of the file at a path, which is made where it is missing. Octets that the file holds stay. The name of the
-/// file is synced.
+/// The disk of the file at a path, which is made where it is missing. Octets that the file holds
+/// stay. The name of the file is synced.
 ///
 /// # Errors
 ///
-/// The file can't be made or opened to read and write, its folder can't be opened or synced, or the file can't be read or
-/// is too long for the memory.
+/// The file can't be made or opened to read and write, its folder can't be opened or synced, or the
+/// file can't be read or is too long for the memory.
 pub fn create<R: Files>(rt: &R, alloc: Global, path: &str) -> io::Result<FileDisk<R::File>>
     ensures whole { IfOk result (λ disk. (state_of disk).failures ≡ 0) }
 {

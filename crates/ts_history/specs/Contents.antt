@@ -1,4 +1,5 @@
--- What the tables of a store hold: its trust anchors, and the octets of its complete lists and of its deltas.
+-- What the tables of a store hold: its trust anchors, and the octets of its complete lists and of
+-- its deltas.
 use Rattle.std.specs.Prelude.{ℕ, List, [], map}
 use Rattle.ts_store.specs.Tables.{Tables}
 use Rattle.ts_store.specs.declared.anchor.TrustAnchor.{TrustAnchor}
@@ -14,7 +15,11 @@ no_contents = record { anchors = []; complete = []; deltas = [] }
 
 -- what these tables hold: the ids of lists are left out, since no verdict asks for them
 abbrev pub contents_of : Tables → Contents
-contents_of tables = record { anchors = tables.anchors; complete = map (λ c. c.crl) tables.complete; deltas = map (λ c. c.crl) tables.deltas }
+contents_of tables = record {
+  anchors = tables.anchors;
+  complete = map (λ c. c.crl) tables.complete;
+  deltas = map (λ c. c.crl) tables.deltas;
+}
 
 -- a trust anchor that is lent
 abbrev pub anchor_in : LentAnchor → TrustAnchor

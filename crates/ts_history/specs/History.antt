@@ -1,4 +1,5 @@
--- What private clauses see of a history: the contents that its changes give, and that they are those of the store after any number of its commands.
+-- What private clauses see of a history: the contents that its changes give, and that they are
+-- those of the store after any number of its commands.
 use Rattle.std.specs.Prelude.{◌≡◌, ◌≤◌, ℕ, List, [], ◌∷◌, length, map, take}
 use Rattle.ts_store.specs.Store.{State, store_after}
 use Rattle.ts_store.specs.declared.command.Command.{Command}
@@ -25,9 +26,12 @@ replayed c (t ∷ ts) = replayed (changed t.change t.kept c) ts
 abbrev pub commands_in : List TakenCommand → List Command
 commands_in taken = map (λ t. command_in t.kept) taken
 
--- the store is the one after the commands; and for each k the first k changes give what its tables hold after the first k commands
+-- the store is the one after the commands; and for each k the first k changes give what its tables
+-- hold after the first k commands
 pub record IsHistory (taken : List TakenCommand) (store : State) : Type 0 where
   pub now : store ≡ store_after (commands_in taken)
   pub counted : store.taken ≡ length taken
   pub few : length taken ≤ 1000000
-  pub past : (k : ℕ) → k ≤ length taken → replayed no_contents (take k taken) ≡ contents_of (store_after (commands_in (take k taken))).tables
+  pub past : (k : ℕ) → k ≤ length taken
+      → replayed no_contents (take k taken)
+      ≡ contents_of (store_after (commands_in (take k taken))).tables

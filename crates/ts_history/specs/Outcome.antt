@@ -6,4 +6,5 @@ use Rattle.ts_store.specs.declared.outcome.Outcome.{Outcome}
 
 -- the command takes the position after those before it
 unfoldable pub outcome_after : List Command → Command → Outcome
-outcome_after commands command = (step (suc (length commands)) command (store_after commands)).outcome
+outcome_after commands command =
+    (step (suc (length commands)) command (store_after commands)).outcome

@@ -7,7 +7,8 @@ use Rattle.ts_store.specs.Tables.{Tables}
 use Rattle.ts_history.specs.declared.taken.Kind.{Kind}
 use Rattle.ts_history.specs.declared.taken.Kind.TheVariants.{Complete, Delta}
 use Rattle.ts_history.specs.declared.taken.Change.{Change}
-use Rattle.ts_history.specs.declared.taken.Change.TheVariants.{Nothing, RemovesAnchor, SetsPurposes, AddsCrl, PutsCrl, RemovesCrl}
+use Rattle.ts_history.specs.declared.taken.Change.TheVariants.{Nothing, RemovesAnchor, SetsPurposes}
+use Rattle.ts_history.specs.declared.taken.Change.TheVariants.{AddsCrl, PutsCrl, RemovesCrl}
 
 -- the anchor at a place goes, if it is there
 abbrev pub removal_at : Option ℕ → Change
@@ -27,7 +28,8 @@ crl_removal_at None None = Nothing
 
 -- the list of an id goes
 abbrev pub crl_removal_in : List ℕ → Tables → Change
-crl_removal_in id tables = crl_removal_at (place_by (has_id id) tables.complete) (place_by (has_id id) tables.deltas)
+crl_removal_in id tables = crl_removal_at (place_by (has_id id) tables.complete)
+    (place_by (has_id id) tables.deltas)
 
 -- a list goes to the place of the one of its slot, else behind all of its kind
 abbrev pub crl_change_at : Kind → Option ℕ → Change

@@ -1,4 +1,5 @@
--- What private clauses see of a command that was taken: the command, and what it changes in the contents of tables.
+-- What private clauses see of a command that was taken: the command, and what it changes in the
+-- contents of tables.
 use Rattle.std.specs.Prelude.{ℕ, List, [], ◌∷◌, ◌++◌, slice_set}
 use Rattle.std.specs.List.{remove}
 use Rattle.ts_store.specs.Anchors.{with_purposes}
@@ -9,7 +10,9 @@ use Rattle.ts_history.specs.declared.taken.KeptCommand.{KeptCommand}
 use Rattle.ts_history.specs.declared.taken.KeptCommand.TheVariants.{Anchor, Crl, Other}
 use Rattle.ts_history.specs.declared.taken.Kind.TheVariants.{Complete, Delta}
 use Rattle.ts_history.specs.declared.taken.Change.{Change}
-use Rattle.ts_history.specs.declared.taken.Change.TheVariants.{Nothing, AddsAnchor, RemovesAnchor, SetsPurposes, AddsCrl, PutsCrl, RemovesCrl}
+use Rattle.ts_history.specs.declared.taken.Change.TheVariants.{Nothing, AddsAnchor, RemovesAnchor}
+use Rattle.ts_history.specs.declared.taken.Change.TheVariants.{SetsPurposes, AddsCrl, PutsCrl}
+use Rattle.ts_history.specs.declared.taken.Change.TheVariants.{RemovesCrl}
 use Rattle.ts_history.specs.Contents.{Contents}
 
 -- the command, as the store takes it

@@ -13,7 +13,8 @@ use std::alloc::{AllocError, Global};
 use std::marker::Model;
 use ts_store::{Command, First, Outcome, Store, Tables};
 
-/// The commands that a store took, what each changed, and the store after them. Contracts see the list of the commands.
+/// The commands that a store took, what each changed, and the store after them. Contracts see the
+/// list of the commands.
 #[derive(Drop)]
 pub struct History {
     alloc: Global,
@@ -62,7 +63,8 @@ impl History {
         self.store.taken()
     }
 
-    /// Takes the command of the next position, of which it keeps a copy, and answers what it came to.
+    /// Takes the command of the next position, of which it keeps a copy, and answers what it came
+    /// to.
     ///
     /// # Errors
     ///
@@ -98,15 +100,16 @@ impl History {
         self.store.tables()
     }
 
-    /// The tables after the first k commands, lent. Where these are not all, it takes k steps, of which each changes one place of a list of
-    /// references.
+    /// The tables after the first k commands, lent. Where these are not all, it takes k steps, of
+    /// which each changes one place of a list of references.
     ///
     /// # Errors
     ///
     /// Memory that is refused.
     pub fn at(&self, alloc: Global, k: u32) -> Result<Snapshot<'_>, AllocError>
         requires { k ≤ length self.now }
-        ensures { IfOk result (λ snapshot. snapshot ≡ contents_of (store_after (take k self.now)).tables) }
+        ensures { IfOk result (λ snapshot. snapshot
+            ≡ contents_of (store_after (take k self.now)).tables) }
     {
         if k == self.store.taken() {
             return Snapshot::of(alloc, self.store.tables());

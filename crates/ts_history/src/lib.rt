@@ -7,8 +7,9 @@
 //! let then = history.at(alloc, k)?;                  // the tables after the first k commands, lent
 //! ```
 //!
-//! A history keeps beside each command which place of which table the command changed. The tables after the first k commands are made by k
-//! such changes of lists of references: no certificate and no list is read again, hashed or copied, and no slot is searched.
+//! A history keeps beside each command which place of which table the command changed. The tables
+//! after the first k commands are made by k such changes of lists of references: no certificate and
+//! no list is read again, hashed or copied, and no slot is searched.
 //!
 //! | Call | Clauses |
 //! |---|---|

@@ -5,7 +5,8 @@ ghost use Rattle.ts_crl.specs.ListView.{crl_in};
 ghost use Rattle.ts_crl.specs.Profile.{is_delta};
 ghost use Rattle.ts_store.specs.Anchors.{place_of as place_in};
 ghost use Rattle.ts_store.specs.Lists.{has_slot as has_slot_of, place_by};
-ghost use Rattle.ts_history.specs.Places.{removal_at, setting_at, crl_change_at, crl_removal_at, crl_change_in, crl_removal_in};
+ghost use Rattle.ts_history.specs.Places.{removal_at, setting_at, crl_change_at, crl_removal_at};
+ghost use Rattle.ts_history.specs.Places.{crl_change_in, crl_removal_in};
 
 use crate::taken::{Change, Kind};
 use std::alloc::{AllocError, Global};
@@ -58,7 +59,8 @@ fn change_among(
     lists: &[StoredCrl],
     new: Crl<'_>,
 ) -> Result<Change, AllocError>
-    ensures { IfOk result (λ change. change ≡ crl_change_at kind (place_by (has_slot_of (crl_in new.entry)) lists.now)) }
+    ensures { IfOk result (λ change. change
+        ≡ crl_change_at kind (place_by (has_slot_of (crl_in new.entry)) lists.now)) }
 {
     match place_of_slot(alloc, lists, new)? {
         Some(at) => Ok(Change::PutsCrl { kind, at }),

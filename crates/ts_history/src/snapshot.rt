@@ -3,7 +3,8 @@
 ghost use Rattle.std.specs.Prelude.{◌≡◌, ◌++◌, ◌∷◌, [], List, ℕ, map, IfOk, OnOk};
 ghost use Rattle.std.specs.List.{remove};
 ghost use Rattle.ts_history.specs.Contents.{anchor_in, contents_of, no_contents};
-ghost use Rattle.ts_history.specs.Taken.{changed, with_anchor, with_crl_at, with_last, with_purposes_in, with_purposes_of};
+ghost use Rattle.ts_history.specs.Taken.{changed, with_anchor, with_crl_at, with_last};
+ghost use Rattle.ts_history.specs.Taken.{with_purposes_in, with_purposes_of};
 
 use crate::taken::{Change, KeptCommand, Kind, TakenCommand};
 use std::alloc::{AllocError, Global};
@@ -34,7 +35,11 @@ impl<'a> Model for Snapshot<'a> {
 
     ghost Value = { Contents };
 
-    ghost view = { λ s. record { anchors = map anchor_in s.anchors.items; complete = map (λ c. c.now) s.complete.items; deltas = map (λ c. c.now) s.deltas.items } };
+    ghost view = { λ s. record {
+      anchors = map anchor_in s.anchors.items;
+      complete = map (λ c. c.now) s.complete.items;
+      deltas = map (λ c. c.now) s.deltas.items;
+    } };
 }
 
 /// A trust anchor, lent.
@@ -75,7 +80,8 @@ fn add_anchor<'a>(
     anchors: &mut Vec<LentAnchor<'a>>,
     kept: &'a KeptCommand,
 ) -> Result<(), AllocError>
-    ensures { OnOk result (map anchor_in anchors.new.items ≡ with_anchor kept.now (map anchor_in anchors.old.items)) }
+    ensures { OnOk result (map anchor_in anchors.new.items
+        ≡ with_anchor kept.now (map anchor_in anchors.old.items)) }
 {
     if let KeptCommand::Anchor { anchor, .. } = kept {
         anchors.push(lent(anchor))?;
@@ -94,7 +100,8 @@ fn remove_anchor(anchors: &mut Vec<LentAnchor<'_>>, at: usize)
 
 /// Gives the anchor at a place the purposes that a command sets.
 fn set_purposes<'a>(anchors: &mut Vec<LentAnchor<'a>>, at: usize, command: &'a Command)
-    ensures { map anchor_in anchors.new.items ≡ with_purposes_of command.now at (map anchor_in anchors.old.items) }
+    ensures { map anchor_in anchors.new.items
+        ≡ with_purposes_of command.now at (map anchor_in anchors.old.items) }
 {
     if let Command::SetPurposes { purposes, .. } = command {
         if at < anchors.len() {
@@ -105,7 +112,8 @@ fn set_purposes<'a>(anchors: &mut Vec<LentAnchor<'a>>, at: usize, command: &'a C
 
 /// Gives the anchor at a place the purposes of a command.
 fn set_purposes_in<'a>(anchors: &mut Vec<LentAnchor<'a>>, at: usize, kept: &'a KeptCommand)
-    ensures { map anchor_in anchors.new.items ≡ with_purposes_in kept.now at (map anchor_in anchors.old.items) }
+    ensures { map anchor_in anchors.new.items
+        ≡ with_purposes_in kept.now at (map anchor_in anchors.old.items) }
 {
     if let KeptCommand::Other(command) = kept {
         set_purposes(anchors, at, command);
@@ -114,7 +122,8 @@ fn set_purposes_in<'a>(anchors: &mut Vec<LentAnchor<'a>>, at: usize, kept: &'a K
 
 /// Adds the list of a command as the last one.
 fn add_crl<'a>(lists: &mut Vec<&'a OwnedCrl>, kept: &'a KeptCommand) -> Result<(), AllocError>
-    ensures { OnOk result (map (λ c. c.now) lists.new.items ≡ with_last kept.now (map (λ c. c.now) lists.old.items)) }
+    ensures { OnOk result (map (λ c. c.now) lists.new.items
+        ≡ with_last kept.now (map (λ c. c.now) lists.old.items)) }
 {
     if let KeptCommand::Crl { crl, .. } = kept {
         lists.push(crl)?;
@@ -124,7 +133,8 @@ fn add_crl<'a>(lists: &mut Vec<&'a OwnedCrl>, kept: &'a KeptCommand) -> Result<(
 
 /// Puts the list of a command at a place.
 fn put_crl<'a>(lists: &mut Vec<&'a OwnedCrl>, at: usize, kept: &'a KeptCommand)
-    ensures { map (λ c. c.now) lists.new.items ≡ with_crl_at kept.now at (map (λ c. c.now) lists.old.items) }
+    ensures { map (λ c. c.now) lists.new.items
+        ≡ with_crl_at kept.now at (map (λ c. c.now) lists.old.items) }
 {
     if let KeptCommand::Crl { crl, .. } = kept {
         if at < lists.len() {

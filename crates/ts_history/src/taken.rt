@@ -13,7 +13,8 @@ use ts_cert::{OwnedCert, OwnedCertFault};
 use ts_crl::{OwnedCrl, OwnedCrlFault};
 use ts_store::{CertificateOctets, Command, CrlOctets, Purposes, Tables, TrustAnchor, digest};
 
-/// A command, kept so that what it loads can be lent: an anchor and a list in the form in which they were read.
+/// A command, kept so that what it loads can be lent: an anchor and a list in the form in which
+/// they were read.
 #[derive(Drop)]
 pub(crate) enum KeptCommand {
     /// Adds this trust anchor, for any purpose.
@@ -64,7 +65,9 @@ fn anchor_taken(
     certificate: &CertificateOctets,
 ) -> Result<TakenCommand, AllocError>
     ensures same { IfOk result (λ taken. command_in taken.kept ≡ AddAnchor id certificate.now) }
-    ensures done { IfOk result (λ taken. (old new : Stated) → change_by (AddAnchor id certificate.now) old ≡ Ok new → changed taken.change taken.kept (contents_of old) ≡ contents_of new) }
+    ensures done { IfOk result (λ taken. (old new : Stated)
+        → change_by (AddAnchor id certificate.now) old ≡ Ok new
+        → changed taken.change taken.kept (contents_of old) ≡ contents_of new) }
 {
     let octets = certificate.as_slice();
     match OwnedCert::read(alloc, octets) {
@@ -98,7 +101,9 @@ fn crl_taken(
     crl: &CrlOctets,
 ) -> Result<TakenCommand, AllocError>
     ensures same { IfOk result (λ taken. command_in taken.kept ≡ LoadCrl id crl.now) }
-    ensures done { IfOk result (λ taken. (new : Stated) → change_by (LoadCrl id crl.now) tables.now ≡ Ok new → changed taken.change taken.kept (contents_of tables.now) ≡ contents_of new) }
+    ensures done { IfOk result (λ taken. (new : Stated)
+        → change_by (LoadCrl id crl.now) tables.now ≡ Ok new
+        → changed taken.change taken.kept (contents_of tables.now) ≡ contents_of new) }
 {
     let octets = crl.as_slice();
     match OwnedCrl::read(alloc, octets) {
@@ -137,7 +142,8 @@ pub(crate) fn taken_of(
     command: &Command,
 ) -> Result<TakenCommand, AllocError>
     ensures same { IfOk result (λ taken. command_in taken.kept ≡ command.now) }
-    ensures done { IfOk result (λ taken. (new : Stated) → change_by command.now tables.now ≡ Ok new → changed taken.change taken.kept (contents_of tables.now) ≡ contents_of new) }
+    ensures done { IfOk result (λ taken. (new : Stated) → change_by command.now tables.now ≡ Ok new
+        → changed taken.change taken.kept (contents_of tables.now) ≡ contents_of new) }
 {
     match command {
         Command::AddAnchor { id, certificate } => anchor_taken(alloc, *id, certificate),

@@ -1,5 +1,7 @@
--- Which of two disks is in use: the one of the greatest generation among those whose live gate is open.
-use Rattle.std.specs.Prelude.{◌≡◌, ◌≢◌, ◌<◌, ◌≤◌, ℕ, List, ◌∷◌, ◌++◌, length, cond, nat_lt, Option, Some, None, true, false}
+-- Which of two disks is in use: the one of the greatest generation among those whose live gate is
+-- open.
+use Rattle.std.specs.Prelude.{◌≡◌, ◌≢◌, ◌<◌, ◌≤◌, ℕ, List, ◌∷◌, ◌++◌, length, cond, nat_lt, Option}
+use Rattle.std.specs.Prelude.{Some, None, true, false}
 use Rattle.ts_journal.specs.Images.{Header, IsRight, head, IsShut, IsEarlier, Behind}
 use Rattle.ts_journal.specs.declared.choice.Owner.{Owner}
 use Rattle.ts_journal.specs.declared.choice.Look.{Look}
@@ -9,7 +11,8 @@ use Rattle.ts_journal.specs.declared.journal.Stage.{Stage}
 use Rattle.ts_journal.specs.declared.journal.Stage.TheVariants.{Live, Closed, Begun, Copying}
 
 abbrev pub header_of_owner : Owner → Header
-header_of_owner owner = record { node = owner.node; nodes = owner.nodes; generation = owner.generation }
+header_of_owner owner = record
+    { node = owner.node; nodes = owner.nodes; generation = owner.generation }
 
 -- a right header, and an open live gate
 pub record IsLive (h : Header) (image : List ℕ) : Type 0 where
@@ -22,15 +25,18 @@ pub record IsLive (h : Header) (image : List ℕ) : Type 0 where
 abbrev pub LooksLike : List ℕ → Look → Type 0
 LooksLike image Short = length image < 25
 LooksLike image Shut = IsShut image
-LooksLike image Wrong = (25 ≤ length image) × ((h : Header) → IsLive h image → ⊥) × (IsShut image → ⊥)
+LooksLike image Wrong = (25 ≤ length image) × ((h : Header) → IsLive h image → ⊥)
+    × (IsShut image → ⊥)
 LooksLike image (Right owner) = IsLive (header_of_owner owner) image
 
 abbrev pub choice_of : Look → Look → Option Choice
 choice_of (Right first) Shut = Some (record { swapped = false; owner = first; stage = Closed })
 choice_of Shut (Right second) = Some (record { swapped = true; owner = second; stage = Closed })
 choice_of (Right first) (Right second) =
-    cond (nat_lt second.generation first.generation) (Some (record { swapped = false; owner = first; stage = Live }))
-    (cond (nat_lt first.generation second.generation) (Some (record { swapped = true; owner = second; stage = Live })) None)
+    cond (nat_lt second.generation first.generation)
+    (Some (record { swapped = false; owner = first; stage = Live }))
+    (cond (nat_lt first.generation second.generation)
+    (Some (record { swapped = true; owner = second; stage = Live })) None)
 choice_of a b = None
 
 -- what the disk that isn't in use holds, by its stage

@@ -1,5 +1,7 @@
--- What an image of one disk, and a pair of images, stand for: a header, a live gate, blocks, and a closed gate.
-use Rattle.std.specs.Prelude.{◌≡◌, ◌≢◌, ◌⊎◌, ◌<◌, ◌≤◌, ◌^◌, ℕ, Bool, true, false, List, [], ◌∷◌, ◌++◌, length, map}
+-- What an image of one disk, and a pair of images, stand for: a header, a live gate, blocks, and a
+-- closed gate.
+use Rattle.std.specs.Prelude.{◌≡◌, ◌≢◌, ◌⊎◌, ◌<◌, ◌≤◌, ◌^◌, ℕ, Bool, true, false, List, [], ◌∷◌}
+use Rattle.std.specs.Prelude.{◌++◌, length, map}
 use Rattle.std.specs.List.{flat_map, AllByRecursion}
 use Rattle.std.specs.Int.{to_be_bytes, w32, w64}
 use Rattle.ts_disk.specs.Disk.{State, IsDurable}
@@ -21,7 +23,8 @@ member_of h = record { node = h.node; nodes = h.nodes }
 
 -- the 24 octets before the live gate
 abbrev pub head : Header → List ℕ
-head h = 0x54 ∷ 0x53 ∷ 0x52 ∷ 0x45 ∷ 0x43 ∷ 0 ∷ 0 ∷ 2 ∷ h.node ∷ h.nodes ∷ 0 ∷ 0 ∷ 0 ∷ 0 ∷ 0 ∷ 0 ∷ to_be_bytes w64 h.generation
+head h = 0x54 ∷ 0x53 ∷ 0x52 ∷ 0x45 ∷ 0x43 ∷ 0 ∷ 0 ∷ 2 ∷ h.node ∷ h.nodes ∷ 0 ∷ 0 ∷ 0 ∷ 0 ∷ 0 ∷ 0
+    ∷ to_be_bytes w64 h.generation
 
 -- 1 to 9 nodes, and node among them
 pub record IsRight (h : Header) : Type 0 where
@@ -57,7 +60,8 @@ bodies_in blocks = map (λ b. b.body) blocks
 abbrev pub front : Header → ℕ → List Block → List ℕ
 front h live blocks = head h ++ (live ∷ flat_map block blocks)
 
--- Whole blocks of these bodies follow the live gate, and then a closed gate. What follows it has no meaning.
+-- Whole blocks of these bodies follow the live gate, and then a closed gate. What follows it has no
+-- meaning.
 pub record Stands (h : Header) (live : ℕ) (bodies : List (List ℕ)) (image : List ℕ) : Type 0 where
   pub blocks : List Block
   pub whole : AllByRecursion IsWhole blocks
@@ -70,7 +74,8 @@ IsShut image = (octets : List ℕ) × (length octets ≡ 24) × Closed octets im
 
 -- it is live, of an earlier generation
 abbrev pub IsEarlier : ℕ → List ℕ → Type 0
-IsEarlier generation image = (h : Header) × (live : ℕ) × (rest : List ℕ) × IsRight h × (live ≢ 0) × (h.generation < generation) × (image ≡ head h ++ (live ∷ rest))
+IsEarlier generation image = (h : Header) × (live : ℕ) × (rest : List ℕ) × IsRight h × (live ≢ 0)
+    × (h.generation < generation) × (image ≡ head h ++ (live ∷ rest))
 
 -- what a disk that isn't in use holds
 abbrev pub Behind : ℕ → List ℕ → Type 0
@@ -84,8 +89,8 @@ Begins octets text image = (rest : List ℕ) × (image ≡ octets ++ (0 ∷ text
 abbrev pub IsUnused : List ℕ → Type 0
 IsUnused image = (length image ≤ 25) ⊎ IsShut image
 
--- The first image is that of the disk in use: it is live, with the header of this member, and the other is shut or of an earlier
--- generation.
+-- The first image is that of the disk in use: it is live, with the header of this member, and the
+-- other is shut or of an earlier generation.
 pub record InUse (member : Member) (bodies : List (List ℕ)) (image other : List ℕ) : Type 0 where
   pub header : Header
   pub owner : member_of header ≡ member
@@ -99,14 +104,16 @@ pub record InUse (member : Member) (bodies : List (List ℕ)) (image other : Lis
 abbrev pub Opens : Member → List (List ℕ) → List ℕ → List ℕ → Type 0
 Opens member bodies a b = InUse member bodies a b ⊎ InUse member bodies b a
 
--- the pair opens to these bodies, from the disk that is in use: the second where the two are swapped
+-- the pair opens to these bodies, from the disk that is in use: the second where the two are
+-- swapped
 abbrev pub OpensFrom : Member → Bool → List (List ℕ) → List ℕ → List ℕ → Type 0
 OpensFrom member true bodies a b = InUse member bodies b a
 OpensFrom member false bodies a b = InUse member bodies a b
 
 -- the pair opens to the bodies before, or to those and the new one
 abbrev pub BeforeOrAfter : Member → Bool → List (List ℕ) → List ℕ → List ℕ → List ℕ → Type 0
-BeforeOrAfter member swapped bodies body a b = OpensFrom member swapped bodies a b ⊎ OpensFrom member swapped (bodies ++ body ∷ []) a b
+BeforeOrAfter member swapped bodies body a b =
+    OpensFrom member swapped bodies a b ⊎ OpensFrom member swapped (bodies ++ body ∷ []) a b
 
 -- the pair opens to the bodies of one list or of another
 abbrev pub OneOrOther : Member → List (List ℕ) → List (List ℕ) → List ℕ → List ℕ → Type 0
@@ -114,7 +121,8 @@ OneOrOther member bodies others a b = Opens member bodies a b ⊎ Opens member o
 
 -- At every moment since the disks were these, every pair of images is P.
 abbrev pub EveryPair : (List ℕ → List ℕ → Type 0) → State → State → State → State → Type 0
-EveryPair P a b new_a new_b = (ca cb : List ℕ) → new_a.left_since a.moment ca → new_b.left_since b.moment cb → P ca cb
+EveryPair P a b new_a new_b = (ca cb : List ℕ) → new_a.left_since a.moment ca
+    → new_b.left_since b.moment cb → P ca cb
 
 -- what follows the gate of a new block: its length, its body, and a closed gate
 abbrev pub entry : List ℕ → List ℕ
@@ -130,9 +138,11 @@ pub record IsText (blocks : List Block) (text : List ℕ) : Type 0 where
   pub whole : AllByRecursion IsWhole blocks
   pub is : text ≡ flat_map block blocks ++ 0 ∷ []
 
--- a pair of images that opens, as the journal of any member, opens to these bodies: there are all of them or none
+-- a pair of images that opens, as the journal of any member, opens to these bodies: there are all
+-- of them or none
 abbrev pub AllOrNone : List (List ℕ) → List ℕ → List ℕ → Type 0
-AllOrNone bodies a b = (member : Member) (others : List (List ℕ)) → Opens member others a b → others ≡ bodies
+AllOrNone bodies a b = (member : Member) (others : List (List ℕ)) → Opens member others a b
+    → others ≡ bodies
 
 -- each pair of images that a crash now may leave is P
 abbrev pub AnyPair : (List ℕ → List ℕ → Type 0) → State → State → Type 0

@@ -1,13 +1,15 @@
 -- What is true of a journal between two calls.
 use Rattle.std.specs.Prelude.{◌≡◌, ◌≢◌, ◌⊎◌, ◌+◌, ◌<◌, ◌^◌, ℕ, List, length, cond}
 use Rattle.ts_disk.specs.Disk.{State, IsDurable, DeviceFailed}
-use Rattle.ts_journal.specs.Images.{Header, Member, member_of, IsRight, Stands, front, IsShut, IsEarlier, EveryPair}
+use Rattle.ts_journal.specs.Images.{Header, Member, member_of, IsRight, Stands, front, IsShut}
+use Rattle.ts_journal.specs.Images.{IsEarlier, EveryPair}
 use Rattle.ts_journal.specs.declared.journal.Journal.{Journal}
 use Rattle.ts_journal.specs.declared.journal.Stage.{Stage}
 use Rattle.ts_journal.specs.declared.journal.Stage.TheVariants.{Live, Closed, Begun, Copying}
 
 -- a durable disk on which these bodies stand, with the closed gate at end
-pub record IsJournal (h : Header) (live : ℕ) (bodies : List (List ℕ)) (end : ℕ) (disk : State) : Type 0 where
+pub record IsJournal (h : Header) (live : ℕ) (bodies : List (List ℕ)) (end : ℕ)
+    (disk : State) : Type 0 where
   pub durable : IsDurable disk
   pub stands : Stands h live bodies disk.read
   pub ends : length (front h live stands.blocks) ≡ end
@@ -16,12 +18,14 @@ pub record IsJournal (h : Header) (live : ℕ) (bodies : List (List ℕ)) (end :
 abbrev pub next : Header → Header
 next h = record { node = h.node; nodes = h.nodes; generation = h.generation + 1 }
 
--- The other disk: live and of an earlier generation, or shut, or shut while bodies are copied to it.
+-- The other disk: live and of an earlier generation, or shut, or shut while bodies are copied to
+-- it.
 abbrev pub IsSpare : Stage → Header → List (List ℕ) → ℕ → State → Type 0
 IsSpare Live h copied end disk = IsDurable disk × IsEarlier h.generation disk.read
 IsSpare Closed h copied end disk = IsDurable disk × IsShut disk.read
 IsSpare Begun h copied end disk = IsDurable disk × IsShut disk.read × (h.generation + 1 < 2 ^ 64)
-IsSpare Copying h copied end disk = IsJournal (next h) 0 copied end disk × (h.generation + 1 < 2 ^ 64)
+IsSpare Copying h copied end disk =
+    IsJournal (next h) 0 copied end disk × (h.generation + 1 < 2 ^ 64)
 
 abbrev pub header_of : {D : Type 0} → Journal D → Header
 header_of j = record { node = j.node; nodes = j.nodes; generation = j.generation }
@@ -31,7 +35,8 @@ abbrev pub member_in : {D : Type 0} → Journal D → Member
 member_in j = member_of (header_of j)
 
 -- These bodies are on the disk in use, and the other disk is as its stage says.
-pub record Holds {D : Type 0} (state : D → State) (bodies copied : List (List ℕ)) (j : Journal D) : Type 0 where
+pub record Holds {D : Type 0} (state : D → State) (bodies copied : List (List ℕ))
+    (j : Journal D) : Type 0 where
   pub right : IsRight (header_of j)
   pub live : ℕ
   pub is_live : live ≢ 0
@@ -50,9 +55,12 @@ abbrev pub disk_b : {D : Type 0} → Journal D → D
 disk_b j = cond j.swapped j.current j.spare
 
 -- At every moment since the journal was old, every pair of images is P.
-abbrev pub EveryMoment : {D : Type 0} → (D → State) → (List ℕ → List ℕ → Type 0) → Journal D → Journal D → Type 0
-EveryMoment state P old new = EveryPair P (state (disk_a old)) (state (disk_b old)) (state (disk_a new)) (state (disk_b new))
+abbrev pub EveryMoment : {D : Type 0} → (D → State) → (List ℕ → List ℕ → Type 0) → Journal D
+    → Journal D → Type 0
+EveryMoment state P old new = EveryPair P (state (disk_a old)) (state (disk_b old))
+    (state (disk_a new)) (state (disk_b new))
 
 -- one of the two devices failed since
 abbrev pub OneFailed : {D : Type 0} → (D → State) → Journal D → Journal D → Type 0
-OneFailed state old new = DeviceFailed (state (disk_a old)) (state (disk_a new)) ⊎ DeviceFailed (state (disk_b old)) (state (disk_b new))
+OneFailed state old new = DeviceFailed (state (disk_a old)) (state (disk_a new))
+    ⊎ DeviceFailed (state (disk_b old)) (state (disk_b new))

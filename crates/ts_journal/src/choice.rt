@@ -1,7 +1,9 @@
 // Which of two disks is in use.
-ghost use Rattle.std.specs.Prelude.{◌≡◌, ◌≢◌, true, false, ◌≤◌, ◌<◌, ◌^◌, ◌++◌, ◌∷◌, ℕ, List, length, IfSome, IfNone};
+ghost use Rattle.std.specs.Prelude.{◌≡◌, ◌≢◌, true, false, ◌≤◌, ◌<◌, ◌^◌, ◌++◌, ◌∷◌, ℕ, List};
+ghost use Rattle.std.specs.Prelude.{length, IfSome, IfNone};
 ghost use Rattle.ts_journal.specs.Images.{Header, head};
-ghost use Rattle.ts_journal.specs.Choice.{header_of_owner, LooksLike, choice_of, IsChosen, Unchosen};
+ghost use Rattle.ts_journal.specs.Choice.{header_of_owner, LooksLike, choice_of, IsChosen};
+ghost use Rattle.ts_journal.specs.Choice.{Unchosen};
 
 use crate::Stage;
 use crate::header::head_octets;
@@ -14,7 +16,8 @@ pub struct Owner {
     pub generation: u64,
 }
 
-/// What an image looks like: below 25 octets; with a closed live gate; live with a wrong header; or live.
+/// What an image looks like: below 25 octets; with a closed live gate; live with a wrong header; or
+/// live.
 #[derive(Clone, Copy, Debug, PartialEq, Eq)]
 pub enum Look {
     Short,
@@ -23,7 +26,8 @@ pub enum Look {
     Right(Owner),
 }
 
-/// The disk in use: the second where the two are swapped, its header, and what the other disk holds.
+/// The disk in use: the second where the two are swapped, its header, and what the other disk
+/// holds.
 #[derive(Clone, Copy, Debug, PartialEq, Eq)]
 pub struct Choice {
     pub swapped: bool,
@@ -61,7 +65,8 @@ fn is_same(a: &[u8], b: &[u8]) -> bool
 
 fn owner_at(octets: &[u8]) -> Owner
     requires { 25 ≤ length octets.now }
-    ensures { (h : Header) (live : ℕ) (rest : List ℕ) → h.generation < 2 ^ 64 → octets.now ≡ head h ++ (live ∷ rest) → h ≡ header_of_owner result }
+    ensures { (h : Header) (live : ℕ) (rest : List ℕ) → h.generation < 2 ^ 64
+        → octets.now ≡ head h ++ (live ∷ rest) → h ≡ header_of_owner result }
 {
     let generation = u64::from_be_bytes([
         octets[16], octets[17], octets[18], octets[19], octets[20], octets[21], octets[22],
@@ -109,8 +114,9 @@ fn pick(a: Look, b: Look) -> Option<Choice>
     }
 }
 
-/// The disk in use of two images: the one of the greater generation of those that are live. None where an image
-/// has fewer than 25 octets, where none is live, where one is live with a wrong header, and at two of one generation.
+/// The disk in use of two images: the one of the greater generation of those that are live. None
+/// where an image has fewer than 25 octets, where none is live, where one is live with a wrong
+/// header, and at two of one generation.
 pub fn choose(a: &[u8], b: &[u8]) -> Option<Choice>
     ensures chosen { IfSome result (λ choice. IsChosen choice a.now b.now) }
     ensures none { IfNone result (Unchosen a.now b.now) }

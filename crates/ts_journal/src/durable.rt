@@ -6,15 +6,17 @@ ghost use Rattle.ts_journal.specs.Gate.{Closed, Opened};
 
 use ts_disk::{Disk, DiskFault, put};
 
-// Writes text after the closed gate at end, which it then opens. At every moment the gate is closed, or it is
-// open and the whole text follows it.
+// Writes text after the closed gate at end, which it then opens. At every moment the gate is
+// closed, or it is open and the whole text follows it.
 pub(crate) fn extend<D: Disk>(disk: &mut D, end: usize, text: &[u8]) -> Result<(), DiskFault>
     requires durable { IsDurable (D.state disk.old) }
     requires closed { Closed (take end (D.state disk.old).read) (D.state disk.old).read }
     ensures durable { OnOk result (IsDurable (D.state disk.new)) }
-    ensures opened { OnOk result (Opened (take end (D.state disk.old).read) text.now (D.state disk.new).read) }
+    ensures opened { OnOk result (Opened (take end (D.state disk.old).read) text.now
+        (D.state disk.new).read) }
     ensures moments { EveryImage
-        (λ image. Closed (take end (D.state disk.old).read) image ⊎ Opened (take end (D.state disk.old).read) text.now image)
+        (λ image. Closed (take end (D.state disk.old).read) image
+        ⊎ Opened (take end (D.state disk.old).read) text.now image)
         (D.state disk.old) (D.state disk.new) }
     ensures fault { IfErr result (λ fault. fault ≡ Failed) }
     ensures cause { HasCause (D.state disk.old) (D.state disk.new) result }
@@ -28,7 +30,8 @@ pub(crate) fn flush<D: Disk>(disk: &mut D) -> Result<(), DiskFault>
     requires durable { IsDurable (D.state disk.old) }
     ensures durable { OnOk result (IsDurable (D.state disk.new)) }
     ensures same { (D.state disk.new).read ≡ (D.state disk.old).read }
-    ensures moments { EveryImage (λ image. image ≡ (D.state disk.old).read) (D.state disk.old) (D.state disk.new) }
+    ensures moments { EveryImage (λ image. image ≡ (D.state disk.old).read) (D.state disk.old)
+        (D.state disk.new) }
     ensures fault { IfErr result (λ fault. fault ≡ Failed) }
     ensures cause { HasCause (D.state disk.old) (D.state disk.new) result }
 {

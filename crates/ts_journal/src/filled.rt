@@ -1,20 +1,23 @@
 // The first images of a journal that has bodies from the start.
-ghost use Rattle.std.specs.Prelude.{◌≡◌, ◌≤◌, ◌⊎◌, ◌++◌, [], ◌∷◌, false, ℕ, List, length, OnOk, IfErr};
+ghost use Rattle.std.specs.Prelude.{◌≡◌, ◌≤◌, ◌⊎◌, ◌++◌, [], ◌∷◌, false, ℕ, List, length, OnOk};
+ghost use Rattle.std.specs.Prelude.{IfErr};
 ghost use Rattle.ts_disk.specs.declared.fault.DiskFault.TheVariants.{Failed};
 ghost use Rattle.ts_disk.specs.Disk.{IsDurable, HasCause, DeviceFailed, EveryImage};
-ghost use Rattle.ts_journal.specs.Images.{head, Block, bodies_in, IsFresh, IsText, Begins, IsUnused, OpensFrom, AllOrNone, AnyPair, EveryPair};
+ghost use Rattle.ts_journal.specs.Images.{head, Block, bodies_in, IsFresh, IsText, Begins};
+ghost use Rattle.ts_journal.specs.Images.{IsUnused, OpensFrom, AllOrNone, AnyPair, EveryPair};
 
 use crate::header::head_octets;
 use crate::rewrite::{LIVE_GATE, begin};
 use ts_disk::{Disk, DiskFault, put};
 
-// Writes the octets before a closed live gate, and a text after it, over what a disk holds, and syncs. A fresh disk
-// is not in use at any moment: its live gate is written first, and closed.
+// Writes the octets before a closed live gate, and a text after it, over what a disk holds, and
+// syncs. A fresh disk is not in use at any moment: its live gate is written first, and closed.
 fn lay<D: Disk>(disk: &mut D, octets: &[u8], text: &[u8]) -> Result<(), DiskFault>
     requires length { length octets.now ≡ 24 }
     ensures durable { OnOk result (IsDurable (D.state disk.new)) }
     ensures begun { OnOk result (Begins octets.now text.now (D.state disk.new).read) }
-    ensures moments { IsFresh (D.state disk.old) → EveryImage IsUnused (D.state disk.old) (D.state disk.new) }
+    ensures moments { IsFresh (D.state disk.old)
+        → EveryImage IsUnused (D.state disk.old) (D.state disk.new) }
     ensures fault { IfErr result (λ fault. fault ≡ Failed) }
     ensures cause { HasCause (D.state disk.old) (D.state disk.new) result }
 {
@@ -23,9 +26,10 @@ fn lay<D: Disk>(disk: &mut D, octets: &[u8], text: &[u8]) -> Result<(), DiskFaul
     begin(disk, octets, text)
 }
 
-/// Writes a journal that has bodies from the start on two disks, and syncs both. The text is their blocks and the closed gate after
-/// them. The first disk is live, of generation 1, and its live gate is opened last; the second is shut, of generation 0. What the
-/// disks held after is without meaning from then on.
+/// Writes a journal that has bodies from the start on two disks, and syncs both. The text is their
+/// blocks and the closed gate after them. The first disk is live, of generation 1, and its live
+/// gate is opened last; the second is shut, of generation 0. What the disks held after is without
+/// meaning from then on.
 pub fn format_with<D: Disk>(
     a: &mut D,
     b: &mut D,
@@ -42,12 +46,17 @@ pub fn format_with<D: Disk>(
         head (record { node = node; nodes = nodes; generation = 0 }) ++ (0 ∷ 0 ∷ rest))) }
     // Each pair of images that a crash may leave opens to the bodies.
     ensures opens { OnOk result ((blocks : List Block) → IsText blocks text.now
-        → AnyPair (OpensFrom (record { node = node; nodes = nodes }) false (bodies_in blocks)) (D.state a.new) (D.state b.new)) }
-    // On fresh disks each pair of images opens to all of the bodies or does not open, at every moment.
-    ensures moments { IsFresh (D.state a.old) → IsFresh (D.state b.old) → (blocks : List Block) → IsText blocks text.now
-        → EveryPair (AllOrNone (bodies_in blocks)) (D.state a.old) (D.state b.old) (D.state a.new) (D.state b.new) }
+        → AnyPair (OpensFrom (record { node = node; nodes = nodes }) false (bodies_in blocks))
+        (D.state a.new) (D.state b.new)) }
+    // On fresh disks each pair of images opens to all of the bodies or does not open, at every
+    // moment.
+    ensures moments { IsFresh (D.state a.old) → IsFresh (D.state b.old) → (blocks : List Block)
+        → IsText blocks text.now
+        → EveryPair (AllOrNone (bodies_in blocks)) (D.state a.old) (D.state b.old) (D.state a.new)
+        (D.state b.new) }
     ensures fault { IfErr result (λ fault. (fault ≡ Failed)
-        × (DeviceFailed (D.state a.old) (D.state a.new) ⊎ DeviceFailed (D.state b.old) (D.state b.new))) }
+        × (DeviceFailed (D.state a.old) (D.state a.new)
+        ⊎ DeviceFailed (D.state b.old) (D.state b.new))) }
 {
     lay(b, &head_octets(node, nodes, 0), &[0])?;
     lay(a, &head_octets(node, nodes, 1), text)?;

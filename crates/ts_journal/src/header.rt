@@ -27,7 +27,8 @@ fn write_head<D: Disk>(
 ) -> Result<(), DiskFault>
     ensures durable { OnOk result (IsDurable (D.state disk.new)) }
     ensures written { OnOk result ((D.state disk.new).read ≡
-        head (record { node = node; nodes = nodes; generation = generation }) ++ (live ∷ 0 ∷ drop 26 (D.state disk.old).read)) }
+        head (record { node = node; nodes = nodes; generation = generation })
+        ++ (live ∷ 0 ∷ drop 26 (D.state disk.old).read)) }
     ensures fault { IfErr result (λ fault. fault ≡ Failed) }
     ensures cause { HasCause (D.state disk.old) (D.state disk.new) result }
 {
@@ -40,20 +41,25 @@ fn write_head<D: Disk>(
     disk.sync()
 }
 
-/// Writes an empty journal of a node on two disks, and syncs both. The first is live, of generation 1; the
-/// second is shut, of generation 0. What the disks held after is without meaning from then on.
+/// Writes an empty journal of a node on two disks, and syncs both. The first is live, of generation
+/// 1; the second is shut, of generation 0. What the disks held after is without meaning from then
+/// on.
 pub fn format<D: Disk>(a: &mut D, b: &mut D, node: u8, nodes: u8) -> Result<(), DiskFault>
     requires node_from { 1 ≤ node }
     requires node_to { node ≤ nodes }
     requires nodes_to { nodes ≤ 9 }
     ensures first { OnOk result ((D.state a.new).read ≡
-        head (record { node = node; nodes = nodes; generation = 1 }) ++ (1 ∷ 0 ∷ drop 26 (D.state a.old).read)) }
+        head (record { node = node; nodes = nodes; generation = 1 })
+        ++ (1 ∷ 0 ∷ drop 26 (D.state a.old).read)) }
     ensures second { OnOk result ((D.state b.new).read ≡
-        head (record { node = node; nodes = nodes; generation = 0 }) ++ (0 ∷ 0 ∷ drop 26 (D.state b.old).read)) }
+        head (record { node = node; nodes = nodes; generation = 0 })
+        ++ (0 ∷ 0 ∷ drop 26 (D.state b.old).read)) }
     // Each pair of images that a crash may leave opens to no bodies.
-    ensures opens { OnOk result (AnyPair (Opens (record { node = node; nodes = nodes }) []) (D.state a.new) (D.state b.new)) }
+    ensures opens { OnOk result (AnyPair (Opens (record { node = node; nodes = nodes }) [])
+        (D.state a.new) (D.state b.new)) }
     ensures fault { IfErr result (λ fault. (fault ≡ Failed)
-        × (DeviceFailed (D.state a.old) (D.state a.new) ⊎ DeviceFailed (D.state b.old) (D.state b.new))) }
+        × (DeviceFailed (D.state a.old) (D.state a.new)
+        ⊎ DeviceFailed (D.state b.old) (D.state b.new))) }
 {
     write_head(a, node, nodes, 1, 1)?;
     write_head(b, node, nodes, 0, 0)

@@ -1,5 +1,6 @@
 // A journal of bodies on two disks, of which one is in use.
-ghost use Rattle.std.specs.Prelude.{◌≡◌, ◌⊎◌, ◌++◌, ◌<◌, ◌+◌, ◌^◌, [], ◌∷◌, ℕ, List, true, false, cond, OnOk, OnErr, IfErr};
+ghost use Rattle.std.specs.Prelude.{◌≡◌, ◌⊎◌, ◌++◌, ◌<◌, ◌+◌, ◌^◌, [], ◌∷◌, ℕ, List, true, false};
+ghost use Rattle.std.specs.Prelude.{cond, OnOk, OnErr, IfErr};
 ghost use Rattle.ts_disk.specs.declared.fault.DiskFault.TheVariants.{Failed};
 ghost use Rattle.ts_journal.specs.Images.{IsBody, entry, OpensFrom, BeforeOrAfter, OneOrOther};
 ghost use Rattle.ts_journal.specs.Settled.{Holds, IsSettled, member_in, EveryMoment, OneFailed};
@@ -10,8 +11,8 @@ use crate::header::head_octets;
 use crate::rewrite::{begin, shut};
 use ts_disk::{Disk, DiskFault, put};
 
-/// What the disk that is not in use holds: it is live, of an earlier generation; its live gate is closed; a rewrite
-/// has begun; or bodies are copied to it.
+/// What the disk that is not in use holds: it is live, of an earlier generation; its live gate is
+/// closed; a rewrite has begun; or bodies are copied to it.
 #[derive(Clone, Copy, Debug, PartialEq, Eq)]
 pub enum Stage {
     Live,
@@ -20,7 +21,8 @@ pub enum Stage {
     Copying,
 }
 
-/// A journal on two disks. `end` and `copy_end` are the offsets of the closed gates after the last bodies.
+/// A journal on two disks. `end` and `copy_end` are the offsets of the closed gates after the last
+/// bodies.
 #[derive(Drop)]
 pub struct Journal<D: Disk> {
     pub current: D,
@@ -35,40 +37,50 @@ pub struct Journal<D: Disk> {
 }
 
 impl<D: Disk> Journal<D> {
-    /// Appends a body, given as what follows its gate, by four calls of the disk in use. At every moment each pair
-    /// of images opens to the bodies before, or to those and the new one, and from the disk in use.
+    /// Appends a body, given as what follows its gate, by four calls of the disk in use. At every
+    /// moment each pair of images opens to the bodies before, or to those and the new one, and from
+    /// the disk in use.
     pub fn append(&mut self, octets: &[u8]) -> Result<(), DiskFault>
         requires settled { IsSettled D.state self.old }
-        ensures holds { OnOk result ((bodies copied : List (List ℕ)) (body : List ℕ) → IsBody body → octets.now ≡ entry body
-            → Holds D.state bodies copied self.old → Holds D.state (bodies ++ body ∷ []) copied self.new) }
-        ensures moments { (bodies copied : List (List ℕ)) (body : List ℕ) → IsBody body → octets.now ≡ entry body
-            → Holds D.state bodies copied self.old → EveryMoment D.state (BeforeOrAfter (member_in self.old) self.old.swapped bodies body) self.old self.new }
+        ensures holds { OnOk result ((bodies copied : List (List ℕ)) (body : List ℕ) → IsBody body
+            → octets.now ≡ entry body
+            → Holds D.state bodies copied self.old
+            → Holds D.state (bodies ++ body ∷ []) copied self.new) }
+        ensures moments { (bodies copied : List (List ℕ)) (body : List ℕ) → IsBody body
+            → octets.now ≡ entry body
+            → Holds D.state bodies copied self.old
+            → EveryMoment D.state (BeforeOrAfter
+            (member_in self.old) self.old.swapped bodies body) self.old self.new }
         ensures owner { member_in self.new ≡ member_in self.old }
         ensures swapped { self.new.swapped ≡ self.old.swapped }
         ensures generation { self.new.generation ≡ self.old.generation }
         ensures stage { self.new.stage ≡ self.old.stage }
-        ensures failed { IfErr result (λ fault. (fault ≡ Failed) × OneFailed D.state self.old self.new) }
+        ensures failed { IfErr result (λ fault. (fault ≡ Failed)
+            × OneFailed D.state self.old self.new) }
     {
         extend(&mut self.current, self.end, octets)?;
         self.end += octets.len();
         Ok(())
     }
 
-    /// The first step of a rewrite: closes the other disk's live gate where it is open, and syncs. At every moment
-    /// each pair of images opens to the bodies, from the disk in use.
+    /// The first step of a rewrite: closes the other disk's live gate where it is open, and syncs.
+    /// At every moment each pair of images opens to the bodies, from the disk in use.
     pub fn shut(&mut self) -> Result<(), DiskFault>
         requires settled { IsSettled D.state self.old }
         requires stage { (self.old.stage ≡ Live) ⊎ (self.old.stage ≡ Closed) }
         requires not_last { self.old.generation + 1 < 2 ^ 64 }
-        ensures holds { OnOk result ((bodies copied : List (List ℕ)) → Holds D.state bodies copied self.old → Holds D.state bodies copied self.new) }
+        ensures holds { OnOk result ((bodies copied : List (List ℕ))
+            → Holds D.state bodies copied self.old → Holds D.state bodies copied self.new) }
         ensures moments { (bodies copied : List (List ℕ)) → Holds D.state bodies copied self.old
-            → EveryMoment D.state (OpensFrom (member_in self.old) self.old.swapped bodies) self.old self.new }
+            → EveryMoment D.state (OpensFrom (member_in self.old) self.old.swapped bodies) self.old
+            self.new }
         ensures owner { member_in self.new ≡ member_in self.old }
         ensures swapped { self.new.swapped ≡ self.old.swapped }
         ensures generation { self.new.generation ≡ self.old.generation }
         ensures stage { OnOk result (self.new.stage ≡ Begun) }
         ensures stays { OnErr result (self.new.stage ≡ self.old.stage) }
-        ensures failed { IfErr result (λ fault. (fault ≡ Failed) × OneFailed D.state self.old self.new) }
+        ensures failed { IfErr result (λ fault. (fault ≡ Failed)
+            × OneFailed D.state self.old self.new) }
     {
         shut(&mut self.spare, self.stage == Stage::Live, self.generation)?;
         self.stage = Stage::Begun;
@@ -79,15 +91,18 @@ impl<D: Disk> Journal<D> {
     pub fn begin(&mut self) -> Result<(), DiskFault>
         requires settled { IsSettled D.state self.old }
         requires stage { self.old.stage ≡ Begun }
-        ensures holds { OnOk result ((bodies copied : List (List ℕ)) → Holds D.state bodies copied self.old → Holds D.state bodies [] self.new) }
+        ensures holds { OnOk result ((bodies copied : List (List ℕ))
+            → Holds D.state bodies copied self.old → Holds D.state bodies [] self.new) }
         ensures moments { (bodies copied : List (List ℕ)) → Holds D.state bodies copied self.old
-            → EveryMoment D.state (OpensFrom (member_in self.old) self.old.swapped bodies) self.old self.new }
+            → EveryMoment D.state (OpensFrom (member_in self.old) self.old.swapped bodies) self.old
+            self.new }
         ensures owner { member_in self.new ≡ member_in self.old }
         ensures swapped { self.new.swapped ≡ self.old.swapped }
         ensures generation { self.new.generation ≡ self.old.generation }
         ensures stage { OnOk result (self.new.stage ≡ Copying) }
         ensures stays { OnErr result (self.new.stage ≡ self.old.stage) }
-        ensures failed { IfErr result (λ fault. (fault ≡ Failed) × OneFailed D.state self.old self.new) }
+        ensures failed { IfErr result (λ fault. (fault ≡ Failed)
+            × OneFailed D.state self.old self.new) }
     {
         let octets = head_octets(self.node, self.nodes, self.generation + 1);
         begin(&mut self.spare, &octets, &[0])?;
@@ -101,35 +116,42 @@ impl<D: Disk> Journal<D> {
         requires settled { IsSettled D.state self.old }
         requires stage { self.old.stage ≡ Copying }
         requires body { (body : List ℕ) × IsBody body × (octets.now ≡ entry body) }
-        ensures holds { OnOk result ((bodies copied : List (List ℕ)) (body : List ℕ) → IsBody body → octets.now ≡ entry body
-            → Holds D.state bodies copied self.old → Holds D.state bodies (copied ++ body ∷ []) self.new) }
+        ensures holds { OnOk result ((bodies copied : List (List ℕ)) (body : List ℕ) → IsBody body
+            → octets.now ≡ entry body
+            → Holds D.state bodies copied self.old
+            → Holds D.state bodies (copied ++ body ∷ []) self.new) }
         ensures moments { (bodies copied : List (List ℕ)) → Holds D.state bodies copied self.old
-            → EveryMoment D.state (OpensFrom (member_in self.old) self.old.swapped bodies) self.old self.new }
+            → EveryMoment D.state (OpensFrom (member_in self.old) self.old.swapped bodies) self.old
+            self.new }
         ensures owner { member_in self.new ≡ member_in self.old }
         ensures swapped { self.new.swapped ≡ self.old.swapped }
         ensures generation { self.new.generation ≡ self.old.generation }
         ensures stage { self.new.stage ≡ self.old.stage }
-        ensures failed { IfErr result (λ fault. (fault ≡ Failed) × OneFailed D.state self.old self.new) }
+        ensures failed { IfErr result (λ fault. (fault ≡ Failed)
+            × OneFailed D.state self.old self.new) }
     {
         extend(&mut self.spare, self.copy_end, octets)?;
         self.copy_end += octets.len();
         Ok(())
     }
 
-    /// The last step: opens the other disk's live gate, and uses that disk. At every moment each pair of images
-    /// opens to the bodies before, or to the copied ones.
+    /// The last step: opens the other disk's live gate, and uses that disk. At every moment each
+    /// pair of images opens to the bodies before, or to the copied ones.
     pub fn switch(&mut self) -> Result<(), DiskFault>
         requires settled { IsSettled D.state self.old }
         requires stage { self.old.stage ≡ Copying }
-        ensures holds { OnOk result ((bodies copied : List (List ℕ)) → Holds D.state bodies copied self.old → Holds D.state copied [] self.new) }
+        ensures holds { OnOk result ((bodies copied : List (List ℕ))
+            → Holds D.state bodies copied self.old → Holds D.state copied [] self.new) }
         ensures moments { (bodies copied : List (List ℕ)) → Holds D.state bodies copied self.old
             → EveryMoment D.state (OneOrOther (member_in self.old) bodies copied) self.old self.new }
         ensures stage { OnOk result (self.new.stage ≡ Live) }
         ensures owner { member_in self.new ≡ member_in self.old }
         ensures swapped { OnOk result (self.new.swapped ≡ cond self.old.swapped false true) }
         ensures generation { OnOk result (self.new.generation ≡ self.old.generation + 1) }
-        ensures stays { OnErr result ((self.new.stage ≡ self.old.stage) × (self.new.swapped ≡ self.old.swapped) × (self.new.generation ≡ self.old.generation)) }
-        ensures failed { IfErr result (λ fault. (fault ≡ Failed) × OneFailed D.state self.old self.new) }
+        ensures stays { OnErr result ((self.new.stage ≡ self.old.stage)
+            × (self.new.swapped ≡ self.old.swapped) × (self.new.generation ≡ self.old.generation)) }
+        ensures failed { IfErr result (λ fault. (fault ≡ Failed)
+            × OneFailed D.state self.old self.new) }
     {
         put(&mut self.spare, 24, &[1])?;
         std::mem::swap(&mut self.current, &mut self.spare);

@@ -1,7 +1,9 @@
-//! A journal of bodies on two disks, which survives a crash at any moment, also while it is rewritten.
+//! A journal of bodies on two disks, which survives a crash at any moment, also while it is
+//! rewritten.
 //!
-//! A disk holds a header of 24 octets, a live gate, blocks, and a closed gate. A block is an open gate, four octets of
-//! length, and a body. Of the disks whose live gate is open, the one of the greater generation is in use.
+//! A disk holds a header of 24 octets, a live gate, blocks, and a closed gate. A block is an open
+//! gate, four octets of length, and a body. Of the disks whose live gate is open, the one of the
+//! greater generation is in use.
 //!
 //! ```text
 //! format(&mut a, &mut b, 1, 3)?;             // node 1 of 3: the first disk is live, of generation 1

@@ -9,8 +9,8 @@ use ts_disk::{Disk, DiskFault, put};
 
 pub(crate) const LIVE_GATE: usize = 24;
 
-// Closes the live gate of a disk of an earlier generation, and syncs. A closed gate is never written, as a torn
-// write could open it.
+// Closes the live gate of a disk of an earlier generation, and syncs. A closed gate is never
+// written, as a torn write could open it.
 pub(crate) fn shut<D: Disk>(disk: &mut D, is_live: bool, generation: u64) -> Result<(), DiskFault>
     requires durable { IsDurable (D.state disk.old) }
     requires earlier { is_live ≡ true → IsEarlier generation (D.state disk.old).read }

@@ -1,10 +1,13 @@
--- What one line of a script says: the text that answers it and what it makes known, or why it is refused.
-use Rattle.std.specs.Prelude.{◌≡◌, ◌⊎◌, ℕ, Bool, ◌||◌, ◌==◌, if◌then◌else◌, List, [], ◌∷◌, Result, Ok, Err, codes, string_bytes}
+-- What one line of a script says: the text that answers it and what it makes known, or why it is
+-- refused.
+use Rattle.std.specs.Prelude.{◌≡◌, ◌⊎◌, ℕ, Bool, ◌||◌, ◌==◌, if◌then◌else◌, List, [], ◌∷◌, Result}
+use Rattle.std.specs.Prelude.{Ok, Err, codes, string_bytes}
 use Rattle.std.specs.Str.{bytes_eq}
 use Rattle.std.specs.declared.string.String.{String}
 use Rattle.std.specs.declared.alloc.Global.{Global}
 use Rattle.ts_script.specs.declared.script.LineFault.{LineFault}
-use Rattle.ts_script.specs.declared.script.LineFault.TheVariants.{Unknown, Form, Name, Limit, Message, Memory}
+use Rattle.ts_script.specs.declared.script.LineFault.TheVariants.{Unknown, Form, Name, Limit}
+use Rattle.ts_script.specs.declared.script.LineFault.TheVariants.{Message, Memory}
 use Rattle.ts_script.specs.declared.script.TheConstants.{COMMENT}
 use Rattle.ts_script.specs.Words.{words_of, first_of}
 use Rattle.ts_script.specs.Known.{Entry}
@@ -24,16 +27,19 @@ pub data Kind : Type 0 where
 -- the first words of the lines that begin nodes, and let messages and restarts reach them
 abbrev pub is_running_word : List ℕ → Bool
 is_running_word word =
-    bytes_eq word (codes "nodes") || bytes_eq word (codes "restart") || bytes_eq word (codes "deliver") || bytes_eq word (codes "settle")
+    bytes_eq word (codes "nodes") || bytes_eq word (codes "restart")
+    || bytes_eq word (codes "deliver") || bytes_eq word (codes "settle")
 
 -- those that have nodes do something
 abbrev pub is_sending_word : List ℕ → Bool
-is_sending_word word = bytes_eq word (codes "submit") || bytes_eq word (codes "catchup") || bytes_eq word (codes "compact")
+is_sending_word word = bytes_eq word (codes "submit") || bytes_eq word (codes "catchup")
+    || bytes_eq word (codes "compact")
 
 -- those that ask nodes
 abbrev pub is_asking_word : List ℕ → Bool
 is_asking_word word =
-    bytes_eq word (codes "outcome") || bytes_eq word (codes "ask") || bytes_eq word (codes "search") || bytes_eq word (codes "show")
+    bytes_eq word (codes "outcome") || bytes_eq word (codes "ask")
+    || bytes_eq word (codes "search") || bytes_eq word (codes "show")
 
 abbrev pub is_node_word : List ℕ → Bool
 is_node_word word = is_running_word word || is_sending_word word || is_asking_word word
@@ -69,7 +75,8 @@ SaysAs check_kind known line text after = IsVerdictText text × (after ≡ known
 SaysAs node_kind known line text after = after ≡ known
 SaysAs unknown_kind known line text after = ⊥
 
--- a line of a kind is refused with the fault: each for want of memory, and a skipped one for nothing else
+-- a line of a kind is refused with the fault: each for want of memory, and a skipped one for
+-- nothing else
 abbrev pub RefusesAs : Kind → List Entry → List ℕ → LineFault → Type 0
 RefusesAs skipped known line fault = fault ≡ Memory
 RefusesAs cert_kind known line fault = RefusesCert known line fault

@@ -2,7 +2,9 @@
 
 ghost use Rattle.std.specs.Prelude.{◌≡◌};
 ghost use Rattle.ts_script.specs.Known.{known_in};
-ghost use Rattle.ts_lab.specs.Says.{Answers, is_asking_word as asking_word, is_node_word as node_word, is_running_word as running_word, is_sending_word as sending_word};
+ghost use Rattle.ts_lab.specs.Says.{Answers, is_asking_word as asking_word};
+ghost use Rattle.ts_lab.specs.Says.{is_node_word as node_word, is_running_word as running_word};
+ghost use Rattle.ts_lab.specs.Says.{is_sending_word as sending_word};
 
 use crate::network::Network;
 use crate::node_answer::answer_nodes;

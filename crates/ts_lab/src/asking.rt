@@ -40,7 +40,8 @@ fn terms_of(alloc: Global, moment: Moment, options: Options) -> Terms {
     }
 }
 
-/// Puts copies of the certificates of these names after others. A name that has none is refused as `Name`.
+/// Puts copies of the certificates of these names after others. A name that has none is refused as
+/// `Name`.
 fn push_named(
     alloc: Global,
     known: &Symbols,

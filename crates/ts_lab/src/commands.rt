@@ -34,8 +34,8 @@ fn list<'a>(known: &'a Symbols, name: &[u8]) -> Result<&'a [u8], LineFault> {
     }
 }
 
-/// The command that a line wants. A name that has nothing of its kind is refused as `Name`, and more purposes than an anchor may
-/// have as `Limit`.
+/// The command that a line wants. A name that has nothing of its kind is refused as `Name`, and
+/// more purposes than an anchor may have as `Limit`.
 pub(crate) fn command_of(
     alloc: Global,
     known: &Symbols,

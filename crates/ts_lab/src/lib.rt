@@ -1,4 +1,5 @@
-//! The lab: scripts that make certificates and lists, judge chains, and run nodes that agree on a trust store.
+//! The lab: scripts that make certificates and lists, judge chains, and run nodes that agree on a
+//! trust store.
 //!
 //! ```text
 //! let status = lab(alloc, &mut reader, &mut writer);              // 0, or 2 after a wrong line, or 1 where a stream failed
@@ -10,10 +11,11 @@
 //! | [`laws::one_word`] | a line that makes something is answered, or refused with one word |
 //! | [`text`] | the words for outcomes, replies and faults |
 //!
-//! What the lines about nodes print, no clause says: examples show it (`node_tests.rt` of `ts_lab_tests`). That each run of them ends, is safe, changes nothing that
-//! is known by name, and is answered or refused with one of the script's words, is proved. A node of the lab is a `ts_node::Node` on two
-//! disks in memory, so that what it does is one event of the protocol's world; the lab is the network, which loses nothing and delivers what the
-//! script says.
+//! What the lines about nodes print, no clause says: examples show it (`node_tests.rt` of
+//! `ts_lab_tests`). That each run of them ends, is safe, changes nothing that is known by name, and
+//! is answered or refused with one of the script's words, is proved. A node of the lab is a
+//! `ts_node::Node` on two disks in memory, so that what it does is one event of the protocol's
+//! world; the lab is the network, which loses nothing and delivers what the script says.
 #![tactic(auto)]
 
 mod answer;

@@ -141,7 +141,8 @@ impl Network {
         None
     }
 
-    /// Delivers the first message that was not delivered, again and again, until there is none, and says how many there were.
+    /// Delivers the first message that was not delivered, again and again, until there is none, and
+    /// says how many there were.
     ///
     /// # Errors
     ///
@@ -183,7 +184,8 @@ impl Network {
         Ok(prefix_in(reply))
     }
 
-    /// The first position of the commands with this id that the node at a place knows, and what it came to.
+    /// The first position of the commands with this id that the node at a place knows, and what it
+    /// came to.
     pub fn settled(&mut self, place: usize, id: u8) -> Result<Option<(u32, Outcome)>, Trouble> {
         let input = Input::Outcome(id_of(id));
         let reply = self.handle(place, &input)?;

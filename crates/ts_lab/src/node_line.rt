@@ -133,7 +133,8 @@ fn read_purposes(alloc: Global, words: &mut Cursor<'_>) -> Result<Vec<Oid>, Line
     Ok(oids)
 }
 
-/// Puts an object identifier among others, which are ascending by their contents octets, where it is not there.
+/// Puts an object identifier among others, which are ascending by their contents octets, where it
+/// is not there.
 fn put_in_order(oids: &mut Vec<Oid>, oid: Oid) -> Result<(), LineFault> {
     let place = place_of(oids, &oid);
     match oids.get(place) {

@@ -1,6 +1,7 @@
 //! A script that comes in pieces, answered line by line up to its first wrong one.
 
-ghost use Rattle.std.specs.Prelude.{◌≡◌, ◌≢◌, ◌++◌, IfErr, ◌+◌, ◌<◌, ◌≤◌, ◌^◌, [], ◌∷◌, length, OnOk};
+ghost use Rattle.std.specs.Prelude.{◌≡◌, ◌≢◌, ◌++◌, IfErr, ◌+◌, ◌<◌, ◌≤◌, ◌^◌, [], ◌∷◌, length};
+ghost use Rattle.std.specs.Prelude.{OnOk};
 ghost use Rattle.std.specs.Io.KnownBytes.{Appends};
 ghost use Rattle.ts_script.specs.Known.{known_in};
 ghost use Rattle.ts_lab.specs.Scanner.{Scans, Finishes, Closes};
@@ -53,8 +54,8 @@ impl Scanner {
     ///
     /// # Errors
     ///
-    /// The first wrong line, once the line feed that ends it is among the octets, or a failed write. The scanner is of no
-    /// use then.
+    /// The first wrong line, once the line feed that ends it is among the octets, or a failed
+    /// write. The scanner is of no use then.
     pub fn feed<W: Write>(
         &mut self,
         alloc: Global,
@@ -62,7 +63,8 @@ impl Scanner {
         piece: &[u8],
     ) -> Result<(), Stop>
         requires { self.old.number + length piece.now < 2 ^ 64 }
-        ensures scans { Scans self.old self.new (W.contents writer.old) (W.contents writer.new) piece.now result }
+        ensures scans { Scans self.old self.new (W.contents writer.old)
+            (W.contents writer.new) piece.now result }
         ensures counts { self.new.number ≤ self.old.number + length piece.now }
     {
         for octet in piece {
@@ -73,7 +75,8 @@ impl Scanner {
 
     fn take<W: Write>(&mut self, alloc: Global, writer: &mut W, octet: u8) -> Result<(), Stop>
         requires { self.old.number + 1 < 2 ^ 64 }
-        ensures scans { Scans self.old self.new (W.contents writer.old) (W.contents writer.new) (octet ∷ []) result }
+        ensures scans { Scans self.old self.new (W.contents writer.old) (W.contents writer.new)
+            (octet ∷ []) result }
         ensures counts { self.new.number ≤ self.old.number + 1 }
     {
         if octet == LINE_FEED {
@@ -86,7 +89,8 @@ impl Scanner {
     /// Ends the line that is being read, and begins the next.
     fn next<W: Write>(&mut self, alloc: Global, writer: &mut W) -> Result<(), Stop>
         requires { self.old.number + 1 < 2 ^ 64 }
-        ensures scans { Scans self.old self.new (W.contents writer.old) (W.contents writer.new) (LINE_FEED ∷ []) result }
+        ensures scans { Scans self.old self.new (W.contents writer.old) (W.contents writer.new)
+            (LINE_FEED ∷ []) result }
         ensures counts { self.new.number ≤ self.old.number + 1 }
     {
         match self.finish(alloc, writer) {
@@ -105,7 +109,8 @@ impl Scanner {
         ensures number { self.new.number ≡ self.old.number }
         ensures known { self.new.known ≡ self.old.known }
         ensures ok { OnOk result (self.new.line.items ≡ self.old.line.items ++ octet ∷ []) }
-        ensures err { IfErr result (λ stop. stop ≡ Stop.Wrong (record { number = self.old.number; fault = LineFault.Memory })) }
+        ensures err { IfErr result (λ stop. stop
+            ≡ Stop.Wrong (record { number = self.old.number; fault = LineFault.Memory })) }
     {
         match self.line.push(octet) {
             Ok(()) => Ok(()),
@@ -132,14 +137,16 @@ impl Scanner {
         }
     }
 
-    /// Ends the line that is being read, where a line feed or the end of the script does, and writes its answer.
+    /// Ends the line that is being read, where a line feed or the end of the script does, and
+    /// writes its answer.
     ///
     /// # Errors
     ///
     /// This line, where it is wrong, or a failed write.
     fn finish<W: Write>(&mut self, alloc: Global, writer: &mut W) -> Result<(), Stop>
         ensures number { self.new.number ≡ self.old.number }
-        ensures finishes { Finishes self.old self.new (W.contents writer.old) (W.contents writer.new) result }
+        ensures finishes { Finishes self.old self.new (W.contents writer.old)
+            (W.contents writer.new) result }
     {
         match answer_line(alloc, &mut self.known, &mut self.nodes, &self.line) {
             Ok(text) => say(writer, text.as_bytes()).map_err(|_| Stop::Write),

@@ -28,7 +28,8 @@ impl Model for Deliverable {
 }
 
 impl Deliverable {
-    /// A message as what reaches a node. `None` for one that no node may be sent, which no node sends.
+    /// A message as what reaches a node. `None` for one that no node may be sent, which no node
+    /// sends.
     fn new(message: Message<Command>) -> Option<Deliverable> {
         if !is_deliverable(&message) {
             return None;

@@ -6,8 +6,8 @@ use crate::trouble::Trouble;
 use std::alloc::{AllocError, Global};
 use ts_node::NodeFault;
 
-/// For each node how many commands it knows without a gap, and the ids of them, where they were submitted. A node's fault is in
-/// place of its line.
+/// For each node how many commands it knows without a gap, and the ids of them, where they were
+/// submitted. A node's fault is in place of its line.
 pub(crate) fn show(alloc: Global, network: &mut Network) -> Result<String, Trouble> {
     let mut text = String::new(alloc);
     for place in 0..network.len() {

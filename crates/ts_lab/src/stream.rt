@@ -28,12 +28,12 @@ pub(crate) enum StreamFault {
     Write,
 }
 
-/// Answers the script that the reader gives, on the writer, line by line up to its first wrong line, which is answered
-/// with `line N: WORD`. A line is answered once it is whole.
+/// Answers the script that the reader gives, on the writer, line by line up to its first wrong
+/// line, which is answered with `line N: WORD`. A line is answered once it is whole.
 ///
-/// Returns the status to end with: 0 for a script without a wrong line, 2 after a wrong line, and 1, with no further
-/// text, where the reader or the writer fails or the input has not ended after `READ_LIMIT` reads. An interrupted read
-/// is tried again.
+/// Returns the status to end with: 0 for a script without a wrong line, 2 after a wrong line, and
+/// 1, with no further text, where the reader or the writer fails or the input has not ended after
+/// `READ_LIMIT` reads. An interrupted read is tried again.
 pub fn lab<R: Read, W: Write>(alloc: Global, reader: &mut R, writer: &mut W) -> u8
     ensures bound { result ≤ 2 }
     ensures text { result ≢ 1 → IfSome (R.remaining reader.old) (λ script.
@@ -94,7 +94,8 @@ fn step<R: Read, W: Write>(
     buffer: &mut [u8; PIECE],
 ) -> Result<Step, StreamFault>
     requires { scanner.old.number + 8192 < 2 ^ 64 }
-    ensures says { IsStep (R.remaining reader.old) (R.remaining reader.new) (W.contents writer.old) (W.contents writer.new) scanner.old scanner.new result }
+    ensures says { IsStep (R.remaining reader.old) (R.remaining reader.new) (W.contents writer.old)
+        (W.contents writer.new) scanner.old scanner.new result }
     ensures counts { scanner.new.number ≤ scanner.old.number + 8192 }
 {
     match reader.read(buffer) {
@@ -129,7 +130,8 @@ fn fed(answered: Result<(), Stop>) -> Result<Step, StreamFault>
 
 /// Writes the line of output for a wrong line.
 fn say<W: Write>(writer: &mut W, wrong: WrongLine) -> io::Result<()>
-    ensures { OnOk result (Appends (W.contents writer.old) (W.contents writer.new) (text_of (Some wrong))) }
+    ensures { OnOk result (Appends (W.contents writer.old) (W.contents writer.new)
+        (text_of (Some wrong))) }
 {
     writeln!(writer, "{wrong}")?;
     writer.flush()

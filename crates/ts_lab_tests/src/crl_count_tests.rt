@@ -1,4 +1,5 @@
-//! What a list's words come to: the octets of the lists that they make, as another program counts them.
+//! What a list's words come to: the octets of the lists that they make, as another program counts
+//! them.
 
 use crate::crl_tests::LINE;
 use crate::lab_tests::answers_words;
@@ -38,8 +39,8 @@ fn makes_lists(rt: HostRuntime) {
     }
 }
 
-/// Words that describe no list: a number that is longer than a list, a URI that is not ASCII, an extension that stands
-/// twice.
+/// Words that describe no list: a number that is longer than a list, a URI that is not ASCII, an
+/// extension that stands twice.
 const UNMADE: [(&[u8], &[u8]); 5] = [
     (b" reasons=4294967295", b"line 1: limit\n"),
     (b" uri=\xc3\xa9", b"line 1: form\n"),

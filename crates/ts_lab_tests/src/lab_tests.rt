@@ -259,7 +259,8 @@ const LINES: [(&str, &str); 42] = [
     ),
 ];
 
-/// Whether the lab answers a line after the certificates so, and refuses the one after it if that is read.
+/// Whether the lab answers a line after the certificates so, and refuses the one after it if that
+/// is read.
 fn answers_line(alloc: Global, line: &str, answer: &str) -> Result<bool, AllocError> {
     let script = format!(in alloc; "{NAMED}{line}\ncheck\n")?;
     let is_wrong = answer.starts_with("line");

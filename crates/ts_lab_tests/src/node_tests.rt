@@ -31,7 +31,8 @@ const AGREED: [(&str, &str); 7] = [
         "nodes 1\noutcome 1 01\nsubmit 1 01 noop\nsettle\noutcome 1 01\nsubmit 1 01 noop\n",
         "outcome none\nsubmit 1 started 1 17\nsettle 4\noutcome 1 applied\nsubmit 1 settled 1 applied\n",
     ),
-    // A proposer is restarted, and another takes over: both commands are chosen, at all nodes in one order.
+    // A proposer is restarted, and another takes over: both commands are chosen, at all nodes in
+    // one order.
     (
         "nodes 3\nsubmit 1 01 add R\ndeliver 1 2\nrestart 1\ndeliver 4 5\nsubmit 2 02 add S\ndeliver 6 8 9 10 11\n\
          submit 1 01 add R\ndeliver 17 18 20 21 12 22 23 26 29\nsettle\nshow\nsubmit 2 01 add R\n",
@@ -72,7 +73,8 @@ const AGREED: [(&str, &str); 7] = [
     ),
 ];
 
-/// Lists that are loaded after the anchor R, with the options of a question on the chain L, and its answer.
+/// Lists that are loaded after the anchor R, with the options of a question on the chain L, and its
+/// answer.
 const STATUSES: [(&[&str], &str, &str); 14] = [
     (&["X", "Y"], " hard", "ask 3 invalid 1 Revoked 1"),
     (&["Y", "X"], " hard", "ask 3 invalid 1 Revoked 1"),

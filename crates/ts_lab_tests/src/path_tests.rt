@@ -1,11 +1,13 @@
-//! Verdicts on chains of certificates: scripts with the `check` lines that they print, taken from the text of RFC 5280.
+//! Verdicts on chains of certificates: scripts with the `check` lines that they print, taken from
+//! the text of RFC 5280.
 
 use std::alloc::Global;
 use ts_lab::lab;
 use ts_script::LINE_FEED;
 use ts_script::words::first_piece;
 
-/// Authorities: path lengths, who may issue, critical extensions and purposes (RFC 5280 6.1.4 (k) to (o)).
+/// Authorities: path lengths, who may issue, critical extensions and purposes (RFC 5280 6.1.4 (k)
+/// to (o)).
 const AUTHORITIES: &str =
     "# A path length counts the certificates of authorities that are not self-issued.
 cert R serial 2 issuer CN=R subject CN=R from 20260101000000Z to 20270101000000Z key 61 signer 61

@@ -133,7 +133,8 @@ fn looks_for_the_form_before_the_name(rt: HostRuntime) {
     }
 }
 
-/// Words that are taken, and what answers the line: the number of octets is that of another encoder.
+/// Words that are taken, and what answers the line: the number of octets is that of another
+/// encoder.
 const TAKEN: [(&[u8], &[u8]); 40] = [
     (b"", b"cert A 138\n"),
     (b" ca", b"cert A 159\n"),

@@ -1,4 +1,5 @@
--- What a log has learned and received, and the facts of a node that this comes from ('Paxos Made Simple' 2.3, 2.5).
+-- What a log has learned and received, and the facts of a node that this comes from ('Paxos Made
+-- Simple' 2.3, 2.5).
 use Rattle.std.proofs.Common.{◌≡◌, ℕ, List, Option, Some, None, Result, Ok, Err}
 use Rattle.ts_synod.specs.declared.message.Fact.{Fact}
 use Rattle.ts_synod.specs.Config.{Config}

@@ -1,4 +1,5 @@
--- The maps of a log, as the functions that the learner's rules speak of. A place that waits for a step counts as none.
+-- The maps of a log, as the functions that the learner's rules speak of. A place that waits for a
+-- step counts as none.
 use Rattle.std.proofs.Common.{◌≡◌, ℕ, Option, Some, None, true, is_some}
 use Rattle.std.specs.Ordering.{nat_cmp}
 use Rattle.std.specs.BTreeMap.{BTreeMap, get}
@@ -15,7 +16,8 @@ vote_in None a = None
 vote_in (Some votes) a = or_none (get nat_cmp votes a)
 
 -- by position and sender, the vote received
-abbrev pub received_in : {C : Type 0} → BTreeMap ℕ (BTreeMap ℕ (Option (Vote C))) → ℕ → ℕ → Option (Vote C)
+abbrev pub received_in : {C : Type 0} → BTreeMap ℕ (BTreeMap ℕ (Option (Vote C))) → ℕ → ℕ
+    → Option (Vote C)
 received_in m p a = vote_in (get nat_cmp m p) a
 
 -- there is a place for a sender's vote

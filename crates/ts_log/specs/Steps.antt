@@ -1,5 +1,6 @@
 -- The steps of a log: what a step keeps, sends and changes, and which step can be kept.
-use Rattle.std.proofs.Common.{◌≡◌, ℕ, List, [], ◌∷◌, Option, Some, None, true, false, is_some, length, suc, nat_le, nat_lt, if◌then◌else◌}
+use Rattle.std.proofs.Common.{◌≡◌, ℕ, List, [], ◌∷◌, Option, Some, None, true, false, is_some}
+use Rattle.std.proofs.Common.{length, suc, nat_le, nat_lt, if◌then◌else◌}
 use Rattle.std.specs.Ordering.{nat_cmp}
 use Rattle.std.specs.BTreeMap.{get}
 use Rattle.ts_synod.specs.declared.message.Fact.{Fact}
@@ -38,17 +39,23 @@ pub record Makes {C : Type 0} (log : Log C) (step : Step C) (rule : LogStep C) :
 
 -- nothing is kept or changed, and these messages are sent
 abbrev pub only_messages : {C : Type 0} → Log C → List (Message C) → LogStep C
-only_messages log messages = record { facts = []; messages = messages; learned = learned_of log; received = received_of log }
+only_messages log messages = record
+    { facts = []; messages = messages; learned = learned_of log; received = received_of log }
 
--- Ask a node for the position after the prefix, where it has grown from one length to another and is not full
+-- Ask a node for the position after the prefix, where it has grown from one length to another and
+-- is not full
 abbrev pub asks : {C : Type 0} → Config → ℕ → ℕ → ℕ → List (Message C)
-asks config before now node = if nat_lt before now then (if nat_le last_position now then [] else send config.me node (Ask (suc now)) ∷ []) else []
+asks config before now node = if nat_lt before now
+    then (if nat_le last_position now then [] else send config.me node (Ask (suc now)) ∷ []) else []
 
 -- the change is that of these facts, and there are places for it
 abbrev pub IsChangeOf : {C : Type 0} → Log C → Change C → List (Fact C) → Type 0
 IsChangeOf log Nothing facts = facts ≡ []
-IsChangeOf log (Receive p a v) facts = (facts ≡ []) × HasPlaceIn (get nat_cmp log.received.votes p) a
-IsChangeOf log (Learn p c n) facts = (facts ≡ Chosen p c ∷ []) × (is_some (learned_of log p) ≡ false) × (is_some (get nat_cmp log.learned.commands p) ≡ true) × (n ≡ length (prefix (put (learned_of log) p (Some c))))
+IsChangeOf log (Receive p a v) facts =
+    (facts ≡ []) × HasPlaceIn (get nat_cmp log.received.votes p) a
+IsChangeOf log (Learn p c n) facts = (facts ≡ Chosen p c ∷ [])
+    × (is_some (learned_of log p) ≡ false) × (is_some (get nat_cmp log.learned.commands p) ≡ true)
+    × (n ≡ length (prefix (put (learned_of log) p (Some c))))
 
 -- the step was made for this log as it is
 abbrev pub IsLatest : {C : Type 0} → Log C → Step C → Type 0

@@ -15,7 +15,8 @@ use ts_synod::put_at;
 /// The last position of a log.
 pub const LAST_POSITION: u32 = 1_000_000;
 
-/// The learned commands. The count is kept beside the map, so that no call walks over the positions before it.
+/// The learned commands. The count is kept beside the map, so that no call walks over the positions
+/// before it.
 #[derive(Drop)]
 pub struct Learned<C> {
     commands: BTreeMap<u32, Option<C>>,
@@ -67,10 +68,11 @@ impl<C: Drop> Learned<C> {
         reserve_in(&mut self.commands, position)
     }
 
-    /// How many commands lead without a gap once this one is learned. It walks over the positions that join them, and so over each
-    /// position once in the life of a log.
+    /// How many commands lead without a gap once this one is learned. It walks over the positions
+    /// that join them, and so over each position once in the life of a log.
     pub fn count_with(&self, position: u32, command: &C) -> u32
-        ensures count { result ≡ length (prefix (put (learned_in self.now.commands) position (Some command.now))) }
+        ensures count { result ≡ length
+            (prefix (put (learned_in self.now.commands) position (Some command.now))) }
         ensures most { result ≤ LAST_POSITION }
     {
         let _command = command;
@@ -88,8 +90,10 @@ impl<C: Drop> Learned<C> {
     /// Puts a command at its place, with the count that this makes.
     pub fn put(&mut self, position: u32, command: C, count: u32)
         requires place { is_some (get nat_cmp self.old.commands position) ≡ true }
-        requires count { count ≡ length (prefix (put (learned_in self.old.commands) position (Some command))) }
-        ensures { learned_in self.new.commands ≡ put (learned_in self.old.commands) position (Some command) }
+        requires count { count ≡ length
+            (prefix (put (learned_in self.old.commands) position (Some command))) }
+        ensures { learned_in self.new.commands
+            ≡ put (learned_in self.old.commands) position (Some command) }
     {
         put_at(&mut self.commands, position, Some(command));
         self.count = count;

@@ -8,8 +8,9 @@
 //! log.keep(step);                                             // takes no memory, and cannot fail
 //! ```
 //!
-//! A step costs the same with a million learned positions as with a thousand: the maps are searched, never walked over. The length of
-//! the prefix is kept beside them, and grows over each position once.
+//! A step costs the same with a million learned positions as with a thousand: the maps are
+//! searched, never walked over. The length of the prefix is kept beside them, and grows over each
+//! position once.
 //!
 //! | Call | Clauses |
 //! |---|---|

@@ -1,6 +1,7 @@
 //! The log and its steps.
 
-ghost use Rattle.std.specs.Prelude.{false, ◌≡◌, ◌≤◌, ◌++◌, ◌∷◌, [], List, IfOk, OnOk, None, Some, true, is_some, length};
+ghost use Rattle.std.specs.Prelude.{false, ◌≡◌, ◌≤◌, ◌++◌, ◌∷◌, [], List, IfOk, OnOk, None, Some};
+ghost use Rattle.std.specs.Prelude.{true, is_some, length};
 ghost use Rattle.std.specs.Option.{option_copied};
 ghost use Rattle.std.specs.Ordering.{nat_cmp};
 ghost use Rattle.std.specs.BTreeMap.{get};
@@ -8,10 +9,14 @@ ghost use Rattle.ts_synod.specs.declared.message.Fact.{Fact};
 ghost use Rattle.ts_synod.specs.declared.message.Fact.TheVariants.{Chosen};
 ghost use Rattle.ts_synod.specs.Lists.{put};
 ghost use Rattle.ts_synod.specs.Majority.{is_majority};
-ghost use Rattle.ts_synod.specs.Log.{ask_back, catch_up, count_votes, is_vote_in, keep_received, learn, next_position, on_accepted, on_ask, on_give, prefix, with_vote};
+ghost use Rattle.ts_synod.specs.Log.{ask_back, catch_up, count_votes, is_vote_in, keep_received};
+ghost use Rattle.ts_synod.specs.Log.{learn, next_position, on_accepted, on_ask, on_give, prefix};
+ghost use Rattle.ts_synod.specs.Log.{with_vote};
 ghost use Rattle.ts_log.specs.Maps.{HasPlaceIn};
-ghost use Rattle.ts_log.specs.Log.{config_of, learned_of, position_of, received_of, StandsFor, Unchanged};
-ghost use Rattle.ts_log.specs.Steps.{IsLatest, Makes, asks, learned_after, only_messages, received_after};
+ghost use Rattle.ts_log.specs.Log.{config_of, learned_of, position_of, received_of, StandsFor};
+ghost use Rattle.ts_log.specs.Log.{Unchanged};
+ghost use Rattle.ts_log.specs.Steps.{IsLatest, Makes, asks, learned_after, only_messages};
+ghost use Rattle.ts_log.specs.Steps.{received_after};
 
 use crate::learned::{LAST_POSITION, Learned};
 use crate::received::Received;
@@ -87,7 +92,8 @@ impl<C: Command> Log<C> {
 
     /// Takes one more fact of the node's stable storage into account.
     fn recover(&mut self, fact: &Fact<C>) -> Result<(), AllocError>
-        ensures state { OnOk result ((facts : List (Fact C)) → StandsFor self.old facts → StandsFor self.new (facts ++ fact.now ∷ [])) }
+        ensures state { OnOk result ((facts : List (Fact C)) → StandsFor self.old facts
+            → StandsFor self.new (facts ++ fact.now ∷ [])) }
         ensures config { OnOk result (config_of self.new ≡ config_of self.old) }
         ensures received { OnOk result (received_of self.new ≡ received_of self.old) }
     {
@@ -102,7 +108,8 @@ impl<C: Command> Log<C> {
 
     /// Takes a learned command of the node's stable storage into account.
     fn recover_chosen(&mut self, position: u32, command: &C) -> Result<(), AllocError>
-        ensures state { OnOk result ((facts : List (Fact C)) → StandsFor self.old facts → StandsFor self.new (facts ++ Chosen position command.now ∷ [])) }
+        ensures state { OnOk result ((facts : List (Fact C)) → StandsFor self.old facts
+            → StandsFor self.new (facts ++ Chosen position command.now ∷ [])) }
         ensures config { OnOk result (config_of self.new ≡ config_of self.old) }
         ensures received { OnOk result (received_of self.new ≡ received_of self.old) }
     {
@@ -164,8 +171,11 @@ impl<C: Command> Log<C> {
     ) -> Result<Step<C>, AllocError>
         requires place { is_some (get nat_cmp self.now.learned.commands position) ≡ true }
         requires new { is_some (learned_of self.now position) ≡ false }
-        requires count { count ≡ length (prefix (put (learned_of self.now) position (Some command.now))) }
-        ensures step { IfOk result (λ step. Makes self.now step (learn (learned_of self.now) (received_of self.now) position command.now messages.items)) }
+        requires count { count ≡ length
+            (prefix (put (learned_of self.now) position (Some command.now))) }
+        ensures step { IfOk result (λ step. Makes self.now step
+            (learn (learned_of self.now) (received_of self.now) position command.now
+            messages.items)) }
         ensures latest { IfOk result (λ step. IsLatest self.now step) }
     {
         let mut facts = Vec::new(self.alloc);
@@ -187,7 +197,9 @@ impl<C: Command> Log<C> {
 
     /// The vote of a node is of this ballot, once this vote of a sender is received.
     fn votes_in(&self, node: u8, from: u8, position: u32, ballot: Ballot, command: &C) -> bool
-        ensures { result ≡ is_vote_in ballot (with_vote (received_of self.now position) from (record { ballot = ballot; command = command.now }) node) }
+        ensures { result ≡ is_vote_in ballot
+            (with_vote (received_of self.now position) from
+            (record { ballot = ballot; command = command.now }) node) }
     {
         let _command = command;
         match self.received.vote(position, node) {
@@ -201,7 +213,9 @@ impl<C: Command> Log<C> {
     #[tactic(auto, using(crate::proofs::Votes::count_more))]
     fn has_majority(&self, from: u8, position: u32, ballot: Ballot, command: &C) -> bool
         requires { self.now.nodes ≤ 9 }
-        ensures { result ≡ is_majority self.now.nodes (λ a. is_vote_in ballot (with_vote (received_of self.now position) from (record { ballot = ballot; command = command.now }) a)) }
+        ensures { result ≡ is_majority self.now.nodes
+            (λ a. is_vote_in ballot (with_vote (received_of self.now position) from
+            (record { ballot = ballot; command = command.now }) a)) }
     {
         let mut votes: u8 = 0;
         for node in 0..self.nodes {
@@ -215,7 +229,8 @@ impl<C: Command> Log<C> {
     /// Makes places for a sender's vote and for a learned command.
     fn reserve(&mut self, from: u8, position: u32) -> Result<(), AllocError>
         ensures vote { OnOk result (HasPlaceIn (get nat_cmp self.new.received.votes position) from) }
-        ensures command { OnOk result (is_some (get nat_cmp self.new.learned.commands position) ≡ true) }
+        ensures command { OnOk result (is_some (get nat_cmp self.new.learned.commands position)
+            ≡ true) }
         ensures same { Unchanged self.old self.new }
     {
         self.learned.reserve(position)?;
@@ -231,7 +246,11 @@ impl<C: Command> Log<C> {
         command: &C,
     ) -> Result<Step<C>, AllocError>
         requires place { HasPlaceIn (get nat_cmp self.now.received.votes position) from }
-        ensures step { IfOk result (λ step. Makes self.now step (keep_received (learned_of self.now) (put (received_of self.now) position (with_vote (received_of self.now position) from (record { ballot = ballot; command = command.now }))))) }
+        ensures step { IfOk result (λ step. Makes self.now step
+            (keep_received (learned_of self.now)
+            (put (received_of self.now) position
+            (with_vote (received_of self.now position) from
+            (record { ballot = ballot; command = command.now }))))) }
         ensures latest { IfOk result (λ step. IsLatest self.now step) }
     {
         if let Some(vote) = self.received.vote(position, from) {
@@ -266,7 +285,11 @@ impl<C: Command> Log<C> {
         requires vote { HasPlaceIn (get nat_cmp self.now.received.votes position) from }
         requires command { is_some (get nat_cmp self.now.learned.commands position) ≡ true }
         requires new { is_some (learned_of self.now position) ≡ false }
-        ensures step { IfOk result (λ step. Makes self.now step (count_votes (config_of self.now) (learned_of self.now) (received_of self.now) position ballot command.now (with_vote (received_of self.now position) from (record { ballot = ballot; command = command.now })))) }
+        ensures step { IfOk result (λ step. Makes self.now step
+            (count_votes (config_of self.now) (learned_of self.now)
+            (received_of self.now) position ballot command.now
+            (with_vote (received_of self.now position) from
+            (record { ballot = ballot; command = command.now })))) }
         ensures latest { IfOk result (λ step. IsLatest self.now step) }
     {
         if self.has_majority(from, position, ballot, command) {
@@ -287,7 +310,9 @@ impl<C: Command> Log<C> {
         command: &C,
     ) -> Result<Step<C>, AllocError>
         requires { (config_of self.old).nodes ≤ 9 }
-        ensures step { IfOk result (λ step. Makes self.new step (on_accepted (config_of self.old) (learned_of self.old) (received_of self.old) from position ballot command.now)) }
+        ensures step { IfOk result (λ step. Makes self.new step
+            (on_accepted (config_of self.old) (learned_of self.old)
+            (received_of self.old) from position ballot command.now)) }
         ensures latest { IfOk result (λ step. IsLatest self.new step) }
         ensures same { Unchanged self.old self.new }
     {
@@ -302,7 +327,8 @@ impl<C: Command> Log<C> {
     /// Ask for the position after a prefix that has grown to this count.
     fn ask_back(&self, from: u8, count: u32) -> Result<Vec<Message<C>>, AllocError>
         requires { count ≤ LAST_POSITION }
-        ensures { IfOk result (λ messages. messages.items ≡ asks (config_of self.now) (length (prefix (learned_of self.now))) count from) }
+        ensures { IfOk result (λ messages. messages.items
+            ≡ asks (config_of self.now) (length (prefix (learned_of self.now))) count from) }
     {
         let mut messages = Vec::new(self.alloc);
         if count <= self.learned.count() || count >= LAST_POSITION {
@@ -320,7 +346,9 @@ impl<C: Command> Log<C> {
 
     /// The step that answers a Give.
     pub fn on_give(&mut self, from: u8, position: u32, command: &C) -> Result<Step<C>, AllocError>
-        ensures step { IfOk result (λ step. Makes self.new step (on_give (config_of self.old) (learned_of self.old) (received_of self.old) from position command.now)) }
+        ensures step { IfOk result (λ step. Makes self.new step
+            (on_give (config_of self.old) (learned_of self.old)
+            (received_of self.old) from position command.now)) }
         ensures latest { IfOk result (λ step. IsLatest self.new step) }
         ensures same { Unchanged self.old self.new }
     {
@@ -336,7 +364,10 @@ impl<C: Command> Log<C> {
     fn learn_given(&self, from: u8, position: u32, command: &C) -> Result<Step<C>, AllocError>
         requires place { is_some (get nat_cmp self.now.learned.commands position) ≡ true }
         requires new { is_some (learned_of self.now position) ≡ false }
-        ensures step { IfOk result (λ step. Makes self.now step (learn (learned_of self.now) (received_of self.now) position command.now (ask_back (config_of self.now) (learned_of self.now) (put (learned_of self.now) position (Some command.now)) from))) }
+        ensures step { IfOk result (λ step. Makes self.now step
+            (learn (learned_of self.now) (received_of self.now) position command.now
+            (ask_back (config_of self.now) (learned_of self.now)
+            (put (learned_of self.now) position (Some command.now)) from))) }
         ensures latest { IfOk result (λ step. IsLatest self.now step) }
     {
         let count = self.learned.count_with(position, command);
@@ -347,7 +378,9 @@ impl<C: Command> Log<C> {
 
     /// The step that answers an Ask.
     pub fn on_ask(&self, from: u8, position: u32) -> Result<Step<C>, AllocError>
-        ensures step { IfOk result (λ step. Makes self.now step (only_messages self.now (on_ask (config_of self.now) (learned_of self.now) from position))) }
+        ensures step { IfOk result (λ step. Makes self.now step
+            (only_messages self.now (on_ask (config_of self.now)
+            (learned_of self.now) from position))) }
         ensures latest { IfOk result (λ step. IsLatest self.now step) }
     {
         let mut messages = Vec::new(self.alloc);
@@ -367,7 +400,8 @@ impl<C: Command> Log<C> {
     /// The step that asks all other nodes for the position after the prefix.
     pub fn catch_up(&self) -> Result<Step<C>, AllocError>
         requires { (config_of self.now).nodes ≤ 9 }
-        ensures step { IfOk result (λ step. Makes self.now step (only_messages self.now (catch_up (config_of self.now) (learned_of self.now)))) }
+        ensures step { IfOk result (λ step. Makes self.now step
+            (only_messages self.now (catch_up (config_of self.now) (learned_of self.now)))) }
         ensures latest { IfOk result (λ step. IsLatest self.now step) }
     {
         match self.next_position() {
@@ -410,7 +444,8 @@ impl<C: Command> Log<C> {
         requires { IsLatest self.old step }
         ensures learned { learned_of self.new ≡ learned_after self.old step.change }
         ensures received { received_of self.new ≡ received_after self.old step.change }
-        ensures state { (facts : List (Fact C)) → StandsFor self.old facts → StandsFor self.new (facts ++ step.facts.items) }
+        ensures state { (facts : List (Fact C)) → StandsFor self.old facts
+            → StandsFor self.new (facts ++ step.facts.items) }
         ensures config { config_of self.new ≡ config_of self.old }
     {
         let Step {

@@ -57,7 +57,9 @@ impl<C: Drop> Received<C> {
     /// Puts a node's vote at its place.
     pub fn put(&mut self, position: u32, node: u8, vote: Vote<C>)
         requires { HasPlaceIn (get nat_cmp self.old.votes position) node }
-        ensures { received_in self.new.votes ≡ put (received_in self.old.votes) position (put (received_in self.old.votes position) node (Some vote)) }
+        ensures { received_in self.new.votes
+            ≡ put (received_in self.old.votes) position
+            (put (received_in self.old.votes position) node (Some vote)) }
     {
         let mut votes = replace_at(&mut self.votes, position, BTreeMap::new(self.alloc));
         put_at(&mut votes, node, Some(vote));
@@ -66,7 +68,8 @@ impl<C: Drop> Received<C> {
 
     /// Forgets the votes at a position.
     pub fn forget(&mut self, position: u32)
-        ensures { received_in self.new.votes ≡ put (received_in self.old.votes) position (λ a. None) }
+        ensures { received_in self.new.votes
+            ≡ put (received_in self.old.votes) position (λ a. None) }
     {
         let _votes = self.votes.remove(&position);
     }

@@ -27,7 +27,8 @@ AreEntriesOf date [] [] = Unit {0}
 AreEntriesOf date (text ∷ texts) (e ∷ es) = IsEntryOf date text e × AreEntriesOf date texts es
 AreEntriesOf date texts es = ⊥
 
--- the list says what the description does: it has a nextUpdate, and each entry is of the time at which the list was issued
+-- the list says what the description does: it has a nextUpdate, and each entry is of the time at
+-- which the list was issued
 pub record IsCrlDescribed (text : CrlText) (c : CertificateList) : Type 0 where
   pub version : c.tbsCertList.version ≡ V2
   pub signature : c.tbsCertList.signature ≡ stand_in
@@ -42,13 +43,18 @@ pub record IsCrlDescribed (text : CrlText) (c : CertificateList) : Type 0 where
 -- the stand-in takes the list's signature for that of what is signed, under the key of these octets
 abbrev pub IsCrlSignedBy : List ℕ → CertificateList → Type 0
 IsCrlSignedBy signer c =
-    let key : Key = record { algorithm = c.signatureAlgorithm.algorithm; parameters = c.signatureAlgorithm.parameters; octets = signer } in
+    let key : Key = record {
+      algorithm = c.signatureAlgorithm.algorithm;
+      parameters = c.signatureAlgorithm.parameters;
+      octets = signer;
+    } in
     stand_in_accepts c.signatureAlgorithm.whole key c.tbs c.signatureValue ≡ true
 
--- reading gives the list, or refuses it for its first critical extension that is not processed (5.2), or, where it has none, as
--- a delta without a number (5.2.3, 5.2.4)
+-- reading gives the list, or refuses it for its first critical extension that is not processed
+-- (5.2), or, where it has none, as a delta without a number (5.2.3, 5.2.4)
 abbrev pub IsReadAs : Result CertificateList ListFault → CertificateList → Type 0
 IsReadAs (Ok c) list = c ≡ list
 IsReadAs (Err (criticalCrlExtension oid)) list = unprocessed list ≡ Some oid
-IsReadAs (Err deltaCrl) list = (unprocessed list ≡ None) × (is_delta list ≡ true) × (has_number list ≡ false)
+IsReadAs (Err deltaCrl) list = (unprocessed list ≡ None) × (is_delta list ≡ true)
+    × (has_number list ≡ false)
 IsReadAs (Err other) list = ⊥

@@ -11,12 +11,14 @@ use Rattle.ts_sig.specs.StandIn.{identifier, algorithm_identifier, stand_in_acce
 use Rattle.ts_cert.specs.declared.version.Version.TheVariants.{V3}
 use Rattle.ts_cert.specs.Certificate.{Certificate}
 use Rattle.ts_make.specs.declared.description.AttributeType.{AttributeType}
-use Rattle.ts_make.specs.declared.description.AttributeType.TheVariants.{CommonName, OrganizationName}
+use Rattle.ts_make.specs.declared.description.AttributeType.TheVariants.{CommonName}
+use Rattle.ts_make.specs.declared.description.AttributeType.TheVariants.{OrganizationName}
 use Rattle.ts_make.specs.declared.description.RdnText.{RdnText}
 use Rattle.ts_make.specs.declared.description.CertText.{CertText}
 use Rattle.ts_make.specs.Extensions.{described_extensions, field_of}
 
--- the content of a type's OBJECT IDENTIFIER: 2 * 40 + 5, 4, and the attribute's arc (RFC 5280 Appendix A.1)
+-- the content of a type's OBJECT IDENTIFIER: 2 * 40 + 5, 4, and the attribute's arc (RFC 5280
+-- Appendix A.1)
 abbrev pub kind_octets : AttributeType → List ℕ
 kind_octets CommonName = 0x55 ∷ 4 ∷ 3 ∷ []
 kind_octets OrganizationName = 0x55 ∷ 4 ∷ 10 ∷ []
@@ -38,7 +40,8 @@ rdns_in rdns = map rdn_in rdns
 abbrev pub stand_in : Algorithm
 stand_in = record { algorithm = identifier; parameters = None; whole = algorithm_identifier }
 
--- the time is this moment, a UTCTime in the years 1950 to 2049 and a GeneralizedTime in all others (4.1.2.5)
+-- the time is this moment, a UTCTime in the years 1950 to 2049 and a GeneralizedTime in all others
+-- (4.1.2.5)
 pub record Says (t : Time) (moment : ℤ) : Type 0 where
   pub at : t.moment ≡ moment
   pub utc : IsInYears 1950 2049 moment → t.form ≡ Utc
@@ -60,8 +63,13 @@ pub record IsDescribed (text : CertText) (c : Certificate) : Type 0 where
   pub extensions : c.tbsCertificate.extensions ≡ field_of (described_extensions text.extensions.now)
   pub signatureAlgorithm : c.signatureAlgorithm ≡ stand_in
 
--- the stand-in takes the certificate's signature for that of what is signed, under the key of these octets
+-- the stand-in takes the certificate's signature for that of what is signed, under the key of these
+-- octets
 abbrev pub IsSignedBy : List ℕ → Certificate → Type 0
 IsSignedBy signer c =
-    let key : Key = record { algorithm = c.signatureAlgorithm.algorithm; parameters = c.signatureAlgorithm.parameters; octets = signer } in
+    let key : Key = record {
+      algorithm = c.signatureAlgorithm.algorithm;
+      parameters = c.signatureAlgorithm.parameters;
+      octets = signer;
+    } in
     stand_in_accepts c.signatureAlgorithm.whole key c.tbs c.signatureValue ≡ true

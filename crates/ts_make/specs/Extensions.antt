@@ -20,14 +20,17 @@ abbrev pub critical_octets : Bool → List ℕ
 critical_octets true = encode 0x01 (boolean_content true)
 critical_octets false = []
 
--- Extension ::= SEQUENCE { extnID OBJECT IDENTIFIER, critical BOOLEAN DEFAULT FALSE, extnValue OCTET STRING } (4.1)
+-- Extension ::= SEQUENCE { extnID OBJECT IDENTIFIER, critical BOOLEAN DEFAULT FALSE, extnValue
+-- OCTET STRING } (4.1)
 unfoldable pub extension_content : Extension → List ℕ
-extension_content x = encode 0x06 x.extnID ++ (critical_octets x.critical ++ encode 0x04 x.extnValue)
+extension_content x = encode 0x06 x.extnID
+    ++ (critical_octets x.critical ++ encode 0x04 x.extnValue)
 
 abbrev pub extension_octets : Extension → List ℕ
 extension_octets x = encode 0x30 (extension_content x)
 
--- extensions [3] EXPLICIT Extensions OPTIONAL, Extensions ::= SEQUENCE SIZE (1..MAX) OF Extension (4.1): absent where there are none
+-- extensions [3] EXPLICIT Extensions OPTIONAL, Extensions ::= SEQUENCE SIZE (1..MAX) OF Extension
+-- (4.1): absent where there are none
 unfoldable pub field_octets : List Extension → List ℕ
 field_octets [] = []
 field_octets (x ∷ xs) = encode 0xA3 (encode 0x30 (flat_map extension_octets (x ∷ xs)))
@@ -53,16 +56,20 @@ abbrev pub path_length : Option ℕ → List ℕ
 path_length None = []
 path_length (Some n) = encode 0x02 (serial_content n)
 
--- BasicConstraints ::= SEQUENCE { cA BOOLEAN DEFAULT FALSE, pathLenConstraint INTEGER (0..MAX) OPTIONAL } of a CA (4.2.1.9)
+-- BasicConstraints ::= SEQUENCE { cA BOOLEAN DEFAULT FALSE, pathLenConstraint INTEGER (0..MAX)
+-- OPTIONAL } of a CA (4.2.1.9)
 unfoldable pub basic_constraints_value : Option ℕ → List ℕ
-basic_constraints_value length = encode 0x30 (encode 0x01 (boolean_content true) ++ path_length length)
+basic_constraints_value length = encode 0x30
+    (encode 0x01 (boolean_content true) ++ path_length length)
 
 -- the extensions that a part alone is
 abbrev pub alone : Kind → ExtensionText → List Extension
 -- basicConstraints (4.2.1.9)
-alone kind.BasicConstraints (part.BasicConstraints length) = extension (id_ce 19) true (basic_constraints_value length) ∷ []
+alone kind.BasicConstraints (part.BasicConstraints length) =
+    extension (id_ce 19) true (basic_constraints_value length) ∷ []
 -- inhibitAnyPolicy (4.2.1.14)
-alone kind.InhibitAnyPolicy (part.InhibitAnyPolicy n) = extension (id_ce 54) true (encode 0x02 (serial_content n)) ∷ []
+alone kind.InhibitAnyPolicy (part.InhibitAnyPolicy n) =
+    extension (id_ce 54) true (encode 0x02 (serial_content n)) ∷ []
 -- any other, with the value NULL (X.690 8.8)
 alone kind.Critical (part.Critical oid) = extension oid.content.now true (0x05 ∷ 0 ∷ []) ∷ []
 alone other text = []
@@ -77,17 +84,20 @@ tagged_if_any tag (octet ∷ content) = encode tag (octet ∷ content)
 -- the extension whose value is a SEQUENCE, absent where it would be empty
 abbrev pub sequence : ℕ → Bool → List ℕ → List Extension
 sequence arc critical [] = []
-sequence arc critical (octet ∷ content) = extension (id_ce arc) critical (encode 0x30 (octet ∷ content)) ∷ []
+sequence arc critical (octet ∷ content) =
+    extension (id_ce arc) critical (encode 0x30 (octet ∷ content)) ∷ []
 
--- NameConstraints ::= SEQUENCE { permittedSubtrees [0] GeneralSubtrees OPTIONAL, excludedSubtrees [1] GeneralSubtrees OPTIONAL }
--- (4.2.1.10)
+-- NameConstraints ::= SEQUENCE { permittedSubtrees [0] GeneralSubtrees OPTIONAL, excludedSubtrees
+-- [1] GeneralSubtrees OPTIONAL } (4.2.1.10)
 unfoldable pub constraints_content : List ExtensionText → List ℕ
-constraints_content texts = tagged_if_any 0xA0 (items_of items.PermittedSubtrees texts) ++ tagged_if_any 0xA1 (items_of items.ExcludedSubtrees texts)
+constraints_content texts = tagged_if_any 0xA0 (items_of items.PermittedSubtrees texts)
+    ++ tagged_if_any 0xA1 (items_of items.ExcludedSubtrees texts)
 
--- PolicyConstraints ::= SEQUENCE { requireExplicitPolicy [0] SkipCerts OPTIONAL, inhibitPolicyMapping [1] SkipCerts OPTIONAL }
--- (4.2.1.11)
+-- PolicyConstraints ::= SEQUENCE { requireExplicitPolicy [0] SkipCerts OPTIONAL,
+-- inhibitPolicyMapping [1] SkipCerts OPTIONAL } (4.2.1.11)
 unfoldable pub policy_constraints_content : List ExtensionText → List ℕ
-policy_constraints_content texts = items_of items.ExplicitPolicy texts ++ items_of items.InhibitedMapping texts
+policy_constraints_content texts =
+    items_of items.ExplicitPolicy texts ++ items_of items.InhibitedMapping texts
 
 -- keyUsage (4.2.1.3), absent where no bit is set
 abbrev pub key_usage : List ℕ → List Extension
@@ -105,7 +115,8 @@ of_kind kind.BasicConstraints texts = flat_map (alone kind.BasicConstraints) tex
 -- nameConstraints (4.2.1.10)
 of_kind kind.NameConstraints texts = sequence 30 true (constraints_content texts)
 -- cRLDistributionPoints (4.2.1.13)
-of_kind kind.CrlDistributionPoints texts = sequence 31 false (items_of items.DistributionPoints texts)
+of_kind kind.CrlDistributionPoints texts =
+    sequence 31 false (items_of items.DistributionPoints texts)
 -- certificatePolicies (4.2.1.4)
 of_kind kind.CertificatePolicies texts = sequence 32 false (items_of items.Policies texts)
 -- policyMappings (4.2.1.5)
@@ -120,8 +131,10 @@ of_kind kind.Critical texts = flat_map (alone kind.Critical) texts
 -- the kinds, in the order in which they stand
 abbrev pub kinds : List Kind
 kinds =
-    kind.KeyUsage ∷ kind.SubjectAltName ∷ kind.BasicConstraints ∷ kind.NameConstraints ∷ kind.CrlDistributionPoints
-    ∷ kind.CertificatePolicies ∷ kind.PolicyMappings ∷ kind.PolicyConstraints ∷ kind.ExtendedKeyUsage ∷ kind.InhibitAnyPolicy ∷ kind.Critical ∷ []
+    kind.KeyUsage ∷ kind.SubjectAltName ∷ kind.BasicConstraints ∷ kind.NameConstraints
+    ∷ kind.CrlDistributionPoints
+    ∷ kind.CertificatePolicies ∷ kind.PolicyMappings ∷ kind.PolicyConstraints
+    ∷ kind.ExtendedKeyUsage ∷ kind.InhibitAnyPolicy ∷ kind.Critical ∷ []
 
 unfoldable pub described_extensions : List ExtensionText → List Extension
 described_extensions texts = flat_map (λ k. of_kind k texts) kinds

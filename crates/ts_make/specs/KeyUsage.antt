@@ -1,5 +1,7 @@
--- keyUsage (RFC 5280 4.2.1.3): a set of bits by their numbers, and its BIT STRING (X.690 8.6, 11.2.2).
-use Rattle.std.specs.Prelude.{◌≡◌, ℕ, ◌+◌, ◌-◌, ◌*◌, ◌/◌, ◌%◌, ◌==◌, Bool, List, [], ◌∷◌, map, fold, max, Result, Ok, Err, if◌then◌else◌}
+-- keyUsage (RFC 5280 4.2.1.3): a set of bits by their numbers, and its BIT STRING (X.690 8.6,
+-- 11.2.2).
+use Rattle.std.specs.Prelude.{◌≡◌, ℕ, ◌+◌, ◌-◌, ◌*◌, ◌/◌, ◌%◌, ◌==◌, Bool, List, [], ◌∷◌, map, fold}
+use Rattle.std.specs.Prelude.{max, Result, Ok, Err, if◌then◌else◌}
 use Rattle.std.specs.List.{flat_map, list_any, range_with_len}
 use Rattle.std.specs.declared.vec.Vec.{Vec}
 use Rattle.std.specs.declared.alloc.Global.{Global}
@@ -35,14 +37,18 @@ weight bit value = if bit then value else 0
 -- the octet of eight bits, from one on, the most significant first (X.690 8.6.2)
 unfoldable pub octet_from : List ℕ → ℕ → ℕ
 octet_from numbers k =
-    weight (is_set numbers k) 128 + weight (is_set numbers (k + 1)) 64 + weight (is_set numbers (k + 2)) 32 + weight (is_set numbers (k + 3)) 16
-    + weight (is_set numbers (k + 4)) 8 + weight (is_set numbers (k + 5)) 4 + weight (is_set numbers (k + 6)) 2 + weight (is_set numbers (k + 7)) 1
+    weight (is_set numbers k) 128 + weight (is_set numbers (k + 1)) 64
+    + weight (is_set numbers (k + 2)) 32 + weight (is_set numbers (k + 3)) 16
+    + weight (is_set numbers (k + 4)) 8 + weight (is_set numbers (k + 5)) 4
+    + weight (is_set numbers (k + 6)) 2 + weight (is_set numbers (k + 7)) 1
 
 -- the octets that hold them
 abbrev pub usage_octets : List ℕ → List ℕ
-usage_octets numbers = map (λ i. octet_from numbers (8 * i)) (range_with_len 0 (last_set numbers / 8 + 1))
+usage_octets numbers = map (λ i. octet_from numbers (8 * i))
+    (range_with_len 0 (last_set numbers / 8 + 1))
 
--- the content of the BIT STRING: how many bits after the last are unused, and the octets (X.690 8.6.2)
+-- the content of the BIT STRING: how many bits after the last are unused, and the octets (X.690
+-- 8.6.2)
 unfoldable pub usage_content : List ℕ → List ℕ
 usage_content numbers = (7 - last_set numbers % 8) ∷ usage_octets numbers
 

@@ -1,4 +1,5 @@
--- The octets of the certificate that a description says (RFC 5280 4.1), given those of its two times.
+-- The octets of the certificate that a description says (RFC 5280 4.1), given those of its two
+-- times.
 use Rattle.std.specs.Prelude.{ℕ, List, ◌∷◌, ◌++◌}
 use Rattle.std.specs.List.{flat_map}
 use Rattle.sha2.specs.Sha256.{sha256}
@@ -21,12 +22,14 @@ bit_octets bits = encode 0x03 (0 ∷ bits)
 unfoldable pub name_octets : List RdnText → List ℕ
 name_octets rdns = encode 0x30 (flat_map encoded_rdn (rdns_in rdns))
 
--- SubjectPublicKeyInfo ::= SEQUENCE { algorithm AlgorithmIdentifier, subjectPublicKey BIT STRING } (4.1.2.7)
+-- SubjectPublicKeyInfo ::= SEQUENCE { algorithm AlgorithmIdentifier, subjectPublicKey BIT STRING }
+-- (4.1.2.7)
 unfoldable pub key_octets : List ℕ → List ℕ
 key_octets key = encode 0x30 (algorithm_identifier ++ bit_octets key)
 
--- TBSCertificate ::= SEQUENCE { version, serialNumber, signature, issuer, validity, subject, subjectPublicKeyInfo, issuerUniqueID,
--- subjectUniqueID, extensions } (4.1.2): the unique identifiers, which are OPTIONAL, are absent
+-- TBSCertificate ::= SEQUENCE { version, serialNumber, signature, issuer, validity, subject,
+-- subjectPublicKeyInfo, issuerUniqueID, subjectUniqueID, extensions } (4.1.2): the unique
+-- identifiers, which are OPTIONAL, are absent
 unfoldable pub tbs_content : List ℕ → List ℕ → CertText → List ℕ
 tbs_content before after text =
     version_octets V3
@@ -41,8 +44,8 @@ tbs_content before after text =
 unfoldable pub tbs_octets : List ℕ → List ℕ → CertText → List ℕ
 tbs_octets before after text = encode 0x30 (tbs_content before after text)
 
--- Certificate ::= SEQUENCE { tbsCertificate, signatureAlgorithm, signatureValue BIT STRING } (4.1.1): the signature is
--- the digest of the signer's key and all of tbsCertificate
+-- Certificate ::= SEQUENCE { tbsCertificate, signatureAlgorithm, signatureValue BIT STRING }
+-- (4.1.1): the signature is the digest of the signer's key and all of tbsCertificate
 unfoldable pub made : List ℕ → List ℕ → CertText → List ℕ
 made before after text =
     let tbs = tbs_octets before after text in

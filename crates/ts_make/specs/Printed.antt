@@ -9,4 +9,5 @@ use Rattle.ts_make.specs.declared.fault.MakeFault.TheVariants.{Memory, TooLong, 
 abbrev pub fault_text : MakeFault → List ℕ
 fault_text Memory = codes "Memory"
 fault_text TooLong = codes "TooLong"
-fault_text (Unreadable fault) = codes "Unreadable(" ++ (rule_name fault.kind ++ (codes " at " ++ (decimal fault.at ++ codes ")")))
+fault_text (Unreadable fault) = codes "Unreadable("
+    ++ (rule_name fault.kind ++ (codes " at " ++ (decimal fault.at ++ codes ")")))

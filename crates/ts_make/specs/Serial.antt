@@ -7,5 +7,6 @@ serial_content n =
     if nat_lt n (2 ^ 7) then n ∷ []
     else (if nat_lt n (2 ^ 15) then n / 2 ^ 8 ∷ n % 2 ^ 8 ∷ []
     else (if nat_lt n (2 ^ 23) then n / 2 ^ 16 ∷ n / 2 ^ 8 % 2 ^ 8 ∷ n % 2 ^ 8 ∷ []
-    else (if nat_lt n (2 ^ 31) then n / 2 ^ 24 ∷ n / 2 ^ 16 % 2 ^ 8 ∷ n / 2 ^ 8 % 2 ^ 8 ∷ n % 2 ^ 8 ∷ []
+    else (if nat_lt n (2 ^ 31) then n / 2 ^ 24 ∷ n / 2 ^ 16 % 2 ^ 8 ∷ n / 2 ^ 8 % 2 ^ 8 ∷ n % 2 ^ 8
+    ∷ []
     else 0 ∷ n / 2 ^ 24 ∷ n / 2 ^ 16 % 2 ^ 8 ∷ n / 2 ^ 8 % 2 ^ 8 ∷ n % 2 ^ 8 ∷ [])))

@@ -2,7 +2,8 @@
 use Rattle.std.specs.Prelude.{◌≡◌, ℕ, ◌<◌, ◌^◌, true, List, [], ◌∷◌, Option, Some, None}
 use Rattle.std.specs.List.{AllByRecursion}
 use Rattle.ts_der.specs.Text.{is_ascii}
-use Rattle.ts_name.specs.General.{GeneralName, rfc822Name, dNSName, uniformResourceIdentifier, iPAddress}
+use Rattle.ts_name.specs.General.{GeneralName, rfc822Name, dNSName, uniformResourceIdentifier}
+use Rattle.ts_name.specs.General.{iPAddress}
 use Rattle.ts_name.specs.Subtree.{GeneralSubtree}
 use Rattle.ts_ext.specs.Policies.{Information, Mapping}
 use Rattle.ts_ext.specs.Points.{Point, fullName}
@@ -60,17 +61,23 @@ if_any (x ∷ xs) = Some (x ∷ xs)
 -- ---- distribution points (4.2.1.13): the full name is a URI
 
 abbrev pub point : ExtensionText → List Point
-point (part.DistributionPoint uri) = record { distributionPoint = Some (fullName (uniformResourceIdentifier uri.now ∷ [])); reasons = None; cRLIssuer = None } ∷ []
+point (part.DistributionPoint uri) = record {
+  distributionPoint = Some (fullName (uniformResourceIdentifier uri.now ∷ []));
+  reasons = None;
+  cRLIssuer = None;
+} ∷ []
 point other = []
 
 -- ---- policies (4.2.1.4, 4.2.1.5) and purposes (4.2.1.12)
 
 abbrev pub policy : ExtensionText → List Information
-policy (part.Policy oid) = record { policyIdentifier = oid.content.now; policyQualifiers = None } ∷ []
+policy (part.Policy oid) = record { policyIdentifier = oid.content.now; policyQualifiers = None }
+    ∷ []
 policy other = []
 
 abbrev pub mapping : ExtensionText → List Mapping
-mapping (part.PolicyMapping issuer subject) = record { issuerDomainPolicy = issuer.content.now; subjectDomainPolicy = subject.content.now } ∷ []
+mapping (part.PolicyMapping issuer subject) = record
+    { issuerDomainPolicy = issuer.content.now; subjectDomainPolicy = subject.content.now } ∷ []
 mapping other = []
 
 abbrev pub purpose : ExtensionText → List (List ℕ)

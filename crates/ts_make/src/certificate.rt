@@ -46,7 +46,8 @@ fn write_readable(
     before: &TimeText,
     after: &TimeText,
 ) -> Result<Vec<u8>, MakeFault>
-    ensures exact { AnswersMade result (made (time_octets before.now) (time_octets after.now) text.now) }
+    ensures exact { AnswersMade result
+        (made (time_octets before.now) (time_octets after.now) text.now) }
     ensures sayable { IfWritten result (IsSayable text.now) }
 {
     let octets = write_certificate(alloc, text, before, after)?;
@@ -59,21 +60,25 @@ fn write_readable(
     }
 }
 
-/// The DER of the certificate that a description says, signed by the stand-in under the signer's key.
+/// The DER of the certificate that a description says, signed by the stand-in under the signer's
+/// key.
 ///
 /// # Errors
 ///
 /// `TooLong` exactly where the octets would be more than 65,536; `Unreadable` exactly where reading would not take them:
-/// a moment lies outside the years 0 to 9999, which no certificate can say, or the extensions are not those that a
-/// certificate may have; `Memory` only where memory ran out.
+/// a moment lies outside the years 0 to 9999, which no certificate can say, or the extensions are
+/// not those that a certificate may have; `Memory` only where memory ran out.
 pub fn make_cert(alloc: Global, text: &CertText<'_>) -> Result<Vec<u8>, MakeFault>
     // It is the one certificate that says the description, where a certificate may be so long.
-    ensures made { (before after : List ℕ) × IsTimeOf before text.now.from × IsTimeOf after text.now.to
+    ensures made { (before after : List ℕ) × IsTimeOf before text.now.from
+        × IsTimeOf after text.now.to
         × AnswersMade result (made before after text.now) }
     // What is read from it is the description.
-    ensures described { IfOk result (λ v. (c : Certificate) × (certificate_of v.items ≡ Ok c) × IsDescribed text.now c) }
+    ensures described { IfOk result
+        (λ v. (c : Certificate) × (certificate_of v.items ≡ Ok c) × IsDescribed text.now c) }
     // It is signed by the stand-in under the signer's key.
-    ensures signed { IfOk result (λ v. (c : Certificate) × (certificate_of v.items ≡ Ok c) × IsSignedBy text.now.signer.now c) }
+    ensures signed { IfOk result (λ v. (c : Certificate) × (certificate_of v.items ≡ Ok c)
+        × IsSignedBy text.now.signer.now c) }
     // Moments outside of the years 0 to 9999 have no encoding.
     ensures years { OnOk result (IsInYears 0 9999 text.now.from × IsInYears 0 9999 text.now.to) }
     // For no other reason is refused what was written.

@@ -31,9 +31,11 @@ pub struct CrlText<'a> {
     pub number: Option<u32>,
     /// deltaCRLIndicator, which is critical: the base number of a delta (RFC 5280 5.2.4).
     pub base: Option<u32>,
-    /// onlySomeReasons of issuingDistributionPoint, critical: the bits of these numbers are 1 (RFC 5280 5.2.5).
+    /// onlySomeReasons of issuingDistributionPoint, critical: the bits of these numbers are 1 (RFC
+    /// 5280 5.2.5).
     pub reasons: &'a [u32],
-    /// distributionPoint of issuingDistributionPoint, critical: its full name, of these URIs (RFC 5280 5.2.5).
+    /// distributionPoint of issuingDistributionPoint, critical: its full name, of these URIs (RFC
+    /// 5280 5.2.5).
     pub uris: &'a [&'a str],
     /// Extensions of these object identifiers, critical, whose values are NULL.
     pub critical: &'a [OidRef<'a>],

@@ -3,7 +3,9 @@
 ghost use Rattle.std.specs.Prelude.{◌≡◌, ◌++◌, true, map, OnOk};
 ghost use Rattle.std.specs.List.{flat_map};
 ghost use Rattle.ts_make.specs.Extensions.{extension_octets, sequence};
-ghost use Rattle.ts_make.specs.CrlExtensions.{reason_extension, number_extensions, base_extensions, uri_octets, full_name, some_reasons, scope_content, null_extension, crl_extensions, crl_field};
+ghost use Rattle.ts_make.specs.CrlExtensions.{reason_extension, number_extensions, base_extensions};
+ghost use Rattle.ts_make.specs.CrlExtensions.{uri_octets, full_name, some_reasons, scope_content};
+ghost use Rattle.ts_make.specs.CrlExtensions.{null_extension, crl_extensions, crl_field};
 ghost use Rattle.ts_make.specs.Told.{IsSmallIfAny};
 ghost use Rattle.ts_make.specs.Writing.{Appends, Writes};
 
@@ -25,7 +27,8 @@ pub(crate) fn append_reason(
     octets: &mut Vec<u8>,
     reason: ReasonCode,
 ) -> Result<(), MakeFault>
-    ensures { Appends result (extension_octets (reason_extension reason)) octets.old.items octets.new.items }
+    ensures { Appends result (extension_octets (reason_extension reason)) octets.old.items
+        octets.new.items }
 {
     let value = element(alloc, ENUMERATED, &[reason.number()])?;
     append_extension(alloc, octets, &[0x55, 0x1d, 21], false, &value)
@@ -37,7 +40,8 @@ fn append_crl_number(
     octets: &mut Vec<u8>,
     number: Option<u32>,
 ) -> Result<(), MakeFault>
-    ensures exact { Appends result (flat_map extension_octets (number_extensions number)) octets.old.items octets.new.items }
+    ensures exact { Appends result
+        (flat_map extension_octets (number_extensions number)) octets.old.items octets.new.items }
     ensures small { OnOk result (IsSmallIfAny number) }
 {
     let Some(n) = number else {
@@ -54,7 +58,8 @@ fn append_base_number(
     octets: &mut Vec<u8>,
     base: Option<u32>,
 ) -> Result<(), MakeFault>
-    ensures exact { Appends result (flat_map extension_octets (base_extensions base)) octets.old.items octets.new.items }
+    ensures exact { Appends result
+        (flat_map extension_octets (base_extensions base)) octets.old.items octets.new.items }
     ensures small { OnOk result (IsSmallIfAny base) }
 {
     let Some(n) = base else {
@@ -120,7 +125,9 @@ fn append_scope(
     uris: &[&str],
     reasons: &[u32],
 ) -> Result<(), MakeFault>
-    ensures { Appends result (flat_map extension_octets (sequence 28 true (scope_content uris.now reasons.now))) octets.old.items octets.new.items }
+    ensures { Appends result (flat_map extension_octets
+        (sequence 28 true (scope_content uris.now reasons.now))) octets.old.items
+        octets.new.items }
 {
     let content = write_scope(alloc, uris, reasons)?;
     append_sequence(alloc, octets, 28, true, &content)
@@ -132,7 +139,8 @@ fn append_nulls(
     octets: &mut Vec<u8>,
     critical: &[OidRef<'_>],
 ) -> Result<(), MakeFault>
-    ensures { Appends result (flat_map extension_octets (map null_extension critical.now)) octets.old.items octets.new.items }
+    ensures { Appends result (flat_map extension_octets (map null_extension critical.now))
+        octets.old.items octets.new.items }
 {
     for oid in critical {
         append_extension(alloc, octets, oid.content, true, NULL.as_slice())?;
@@ -165,7 +173,8 @@ pub(crate) fn append_crl_extensions(
     octets: &mut Vec<u8>,
     text: &CrlText<'_>,
 ) -> Result<(), MakeFault>
-    ensures exact { Appends result (crl_field (crl_extensions text.now)) octets.old.items octets.new.items }
+    ensures exact { Appends result
+        (crl_field (crl_extensions text.now)) octets.old.items octets.new.items }
     ensures small { OnOk result (IsSmallIfAny text.now.number) }
     ensures small_base { OnOk result (IsSmallIfAny text.now.base) }
 {

@@ -36,7 +36,8 @@ fn append_entry(
     date: &TimeText,
     entry: &EntryText,
 ) -> Result<(), MakeFault>
-    ensures exact { Appends result (entry_octets (time_octets date.now) entry.now) octets.old.items octets.new.items }
+    ensures exact { Appends result
+        (entry_octets (time_octets date.now) entry.now) octets.old.items octets.new.items }
     ensures small { OnOk result (entry.now.serial < 2 ^ 32) }
 {
     let mut extensions = Vec::new(alloc);
@@ -55,7 +56,9 @@ fn append_entries(
     date: &TimeText,
     entries: &[EntryText],
 ) -> Result<(), MakeFault>
-    ensures exact { Appends result (flat_map (entry_octets (time_octets date.now)) entries.now) octets.old.items octets.new.items }
+    ensures exact { Appends result
+        (flat_map (entry_octets (time_octets date.now)) entries.now) octets.old.items
+        octets.new.items }
     ensures small { OnOk result (AreSerials entries.now) }
 {
     for entry in entries {
@@ -72,7 +75,8 @@ fn append_revoked(
     date: &TimeText,
     entries: &[EntryText],
 ) -> Result<(), MakeFault>
-    ensures exact { Appends result (revoked_octets (time_octets date.now) entries.now) octets.old.items octets.new.items }
+    ensures exact { Appends result
+        (revoked_octets (time_octets date.now) entries.now) octets.old.items octets.new.items }
     ensures small { OnOk result (AreSerials entries.now) }
 {
     if entries.is_empty() {
@@ -85,7 +89,8 @@ fn append_revoked(
 
 /// The version, the algorithm and the issuer (RFC 5280 5.1.2.1 to 5.1.2.3).
 fn write_head(alloc: Global, issuer: &[RdnText<'_>]) -> Result<Vec<u8>, MakeFault>
-    ensures exact { Writes result (version_octets V2 ++ (algorithm_identifier ++ name_octets issuer.now)) }
+    ensures exact { Writes result (version_octets V2
+        ++ (algorithm_identifier ++ name_octets issuer.now)) }
     ensures texts { OnOk result (AreTexts issuer.now) }
 {
     let mut fields = Vec::new(alloc);
@@ -102,7 +107,8 @@ fn append_times(
     this: &TimeText,
     next: &TimeText,
 ) -> Result<(), MakeFault>
-    ensures { Appends result (time_octets this.now ++ time_octets next.now) octets.old.items octets.new.items }
+    ensures { Appends result (time_octets this.now ++ time_octets next.now) octets.old.items
+        octets.new.items }
 {
     this.append(alloc, octets)?;
     next.append(alloc, octets)
@@ -116,7 +122,8 @@ fn write_crl_fields(
     this: &TimeText,
     next: &TimeText,
 ) -> Result<Vec<u8>, MakeFault>
-    ensures exact { Writes result (crl_content (time_octets this.now) (time_octets next.now) text.now) }
+    ensures exact { Writes result (crl_content (time_octets this.now)
+        (time_octets next.now) text.now) }
     ensures sayable { OnOk result (IsSayableCrl text.now) }
 {
     let mut fields = write_head(alloc, text.issuer)?;

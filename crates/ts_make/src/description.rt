@@ -45,16 +45,17 @@ pub enum NameText<'a> {
     Mail(&'a str),
 }
 
-/// A part of an extension (RFC 5280 4.2). The parts of one extension gather in it, in their order; the extensions that have
-/// a part are there, in the order of this list. Of `BasicConstraints`, `InhibitAnyPolicy` and `Critical` each part is an
-/// extension of its own.
+/// A part of an extension (RFC 5280 4.2). The parts of one extension gather in it, in their order;
+/// the extensions that have a part are there, in the order of this list. Of `BasicConstraints`,
+/// `InhibitAnyPolicy` and `Critical` each part is an extension of its own.
 #[derive(Clone, Copy)]
 pub enum ExtensionText<'a> {
     /// keyUsage, critical: the bit of this number is 1 (RFC 5280 4.2.1.3).
     KeyUsage(u32),
     /// subjectAltName: one more name (RFC 5280 4.2.1.6).
     SubjectAltName(NameText<'a>),
-    /// basicConstraints of a CA, critical, with its pathLenConstraint where there is one (RFC 5280 4.2.1.9).
+    /// basicConstraints of a CA, critical, with its pathLenConstraint where there is one (RFC 5280
+    /// 4.2.1.9).
     BasicConstraints(Option<u32>),
     /// nameConstraints, critical: one more permitted subtree (RFC 5280 4.2.1.10).
     PermittedSubtree(NameText<'a>),
@@ -83,8 +84,8 @@ pub enum ExtensionText<'a> {
     Critical(OidRef<'a>),
 }
 
-/// A certificate of version 3, in the words of its fields (RFC 5280 4.1). Both its algorithms are the stand-in's, and so
-/// is that of its key.
+/// A certificate of version 3, in the words of its fields (RFC 5280 4.1). Both its algorithms are
+/// the stand-in's, and so is that of its key.
 #[derive(Clone, Copy)]
 pub struct CertText<'a> {
     /// serialNumber (RFC 5280 4.1.2.2).

@@ -3,7 +3,9 @@
 ghost use Rattle.std.specs.Prelude.{◌++◌, ◌≢◌, ◌%◌};
 ghost use Rattle.std.specs.List.{flat_map};
 ghost use Rattle.ts_make.specs.Items.{items_of};
-ghost use Rattle.ts_make.specs.Extensions.{extension_octets, tagged_if_any, sequence, constraints_content, policy_constraints_content, of_kind, alone, described_extensions, field_octets};
+ghost use Rattle.ts_make.specs.Extensions.{extension_octets, tagged_if_any, sequence};
+ghost use Rattle.ts_make.specs.Extensions.{constraints_content, policy_constraints_content};
+ghost use Rattle.ts_make.specs.Extensions.{of_kind, alone, described_extensions, field_octets};
 ghost use Rattle.ts_make.specs.Writing.{Appends, Writes};
 
 use crate::description::ExtensionText;
@@ -23,7 +25,8 @@ pub(crate) fn append_sequence(
     critical: bool,
     content: &[u8],
 ) -> Result<(), MakeFault>
-    ensures { Appends result (flat_map extension_octets (sequence arc critical content.now)) octets.old.items octets.new.items }
+    ensures { Appends result (flat_map extension_octets (sequence arc critical content.now))
+        octets.old.items octets.new.items }
 {
     if content.is_empty() {
         return Ok(());
@@ -41,7 +44,8 @@ fn append_list(
     list: Items,
     parts: &[ExtensionText<'_>],
 ) -> Result<(), MakeFault>
-    ensures { Appends result (flat_map extension_octets (sequence arc critical (items_of list parts.now))) octets.old.items octets.new.items }
+    ensures { Appends result (flat_map extension_octets
+        (sequence arc critical (items_of list parts.now))) octets.old.items octets.new.items }
 {
     let mut items = Vec::new(alloc);
     append_items(alloc, &mut items, list, parts)?;
@@ -57,7 +61,8 @@ fn append_tagged(
     parts: &[ExtensionText<'_>],
 ) -> Result<(), MakeFault>
     requires { tag % 32 ≢ 31 }
-    ensures { Appends result (tagged_if_any tag (items_of list parts.now)) octets.old.items octets.new.items }
+    ensures { Appends result (tagged_if_any tag (items_of list parts.now)) octets.old.items
+        octets.new.items }
 {
     let mut items = Vec::new(alloc);
     append_items(alloc, &mut items, list, parts)?;
@@ -108,7 +113,9 @@ fn append_each(
     kind: Kind,
     parts: &[ExtensionText<'_>],
 ) -> Result<(), MakeFault>
-    ensures { Appends result (flat_map (λ part. flat_map extension_octets (alone kind part)) parts.now) octets.old.items octets.new.items }
+    ensures { Appends result (flat_map
+        (λ part. flat_map extension_octets (alone kind part)) parts.now) octets.old.items
+        octets.new.items }
 {
     for part in parts {
         append_alone(alloc, octets, kind, part)?;
@@ -123,7 +130,8 @@ fn append_kind(
     kind: Kind,
     parts: &[ExtensionText<'_>],
 ) -> Result<(), MakeFault>
-    ensures { Appends result (flat_map extension_octets (of_kind kind parts.now)) octets.old.items octets.new.items }
+    ensures { Appends result (flat_map extension_octets (of_kind kind parts.now)) octets.old.items
+        octets.new.items }
 {
     match kind {
         Kind::KeyUsage => append_key_usage(alloc, octets, parts),
@@ -157,7 +165,8 @@ fn append_all(
     octets: &mut Vec<u8>,
     parts: &[ExtensionText<'_>],
 ) -> Result<(), MakeFault>
-    ensures { Appends result (flat_map extension_octets (described_extensions parts.now)) octets.old.items octets.new.items }
+    ensures { Appends result (flat_map extension_octets (described_extensions parts.now))
+        octets.old.items octets.new.items }
 {
     for kind in KINDS {
         append_kind(alloc, octets, kind, parts)?;
@@ -172,7 +181,8 @@ pub(crate) fn append_extensions(
     octets: &mut Vec<u8>,
     parts: &[ExtensionText<'_>],
 ) -> Result<(), MakeFault>
-    ensures { Appends result (field_octets (described_extensions parts.now)) octets.old.items octets.new.items }
+    ensures { Appends result (field_octets (described_extensions parts.now)) octets.old.items
+        octets.new.items }
 {
     let mut extensions = Vec::new(alloc);
     append_all(alloc, &mut extensions, parts)?;

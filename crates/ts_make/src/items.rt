@@ -3,7 +3,8 @@
 ghost use Rattle.std.specs.Prelude.{◌++◌};
 ghost use Rattle.std.specs.List.{flat_map};
 ghost use Rattle.ts_der.specs.Element.{encode};
-ghost use Rattle.ts_make.specs.Items.{general_name, general_subtree, distribution_point, policy_information, policy_mapping, item, items_of};
+ghost use Rattle.ts_make.specs.Items.{general_name, general_subtree, distribution_point};
+ghost use Rattle.ts_make.specs.Items.{policy_information, policy_mapping, item, items_of};
 ghost use Rattle.ts_make.specs.Writing.{Appends};
 
 use crate::description::{ExtensionText, NameText};
@@ -71,7 +72,8 @@ fn append_subtree(alloc: Global, octets: &mut Vec<u8>, name: &NameText<'_>) -> R
     append_element(alloc, octets, SEQUENCE, &base)
 }
 
-/// [0] of a DistributionPoint and of an IssuingDistributionPoint, and [0] of a DistributionPointName.
+/// [0] of a DistributionPoint and of an IssuingDistributionPoint, and [0] of a
+/// DistributionPointName.
 pub(crate) const FIRST: u8 = 0xa0;
 
 /// Appends a distribution point (RFC 5280 4.2.1.13).
@@ -99,7 +101,8 @@ fn append_mapping(
     issuer: &[u8],
     subject: &[u8],
 ) -> Result<(), MakeFault>
-    ensures { Appends result (policy_mapping issuer.now subject.now) octets.old.items octets.new.items }
+    ensures { Appends result (policy_mapping issuer.now subject.now) octets.old.items
+        octets.new.items }
 {
     let mut policies = Vec::new(alloc);
     append_element(alloc, &mut policies, OBJECT_IDENTIFIER, issuer)?;

@@ -1,9 +1,11 @@
 //! Named bits.
 
-ghost use Rattle.std.specs.Prelude.{◌≡◌, ℕ, ◌+◌, ◌*◌, ◌/◌, ◌<◌, ◌≤◌, Bool, List, [], ◌∷◌, ◌++◌, length, map, slice_index_or, false};
+ghost use Rattle.std.specs.Prelude.{◌≡◌, ℕ, ◌+◌, ◌*◌, ◌/◌, ◌<◌, ◌≤◌, Bool, List, [], ◌∷◌, ◌++◌};
+ghost use Rattle.std.specs.Prelude.{length, map, slice_index_or, false};
 ghost use Rattle.std.specs.List.{flat_map, range_with_len, All};
 ghost use Rattle.ts_make.specs.Extensions.{extension_octets, key_usage};
-ghost use Rattle.ts_make.specs.KeyUsage.{numbers_in, is_set, last_set, weight, octet_from, usage_content, Collects};
+ghost use Rattle.ts_make.specs.KeyUsage.{numbers_in, is_set, last_set, weight, octet_from};
+ghost use Rattle.ts_make.specs.KeyUsage.{usage_content, Collects};
 ghost use Rattle.ts_make.specs.Writing.{Appends, Writes};
 
 use crate::description::ExtensionText;
@@ -60,10 +62,14 @@ fn weigh(bit: bool, value: u8) -> u8
 /// The octet of eight bits, the most significant first (X.690 8.6.2).
 fn octet(flags: &[bool], at: usize) -> u8
     requires { at + 8 ≤ length flags.now }
-    ensures { result ≡ weight (slice_index_or flags.now at false) 128 + weight (slice_index_or flags.now (at + 1) false) 64
-        + weight (slice_index_or flags.now (at + 2) false) 32 + weight (slice_index_or flags.now (at + 3) false) 16
-        + weight (slice_index_or flags.now (at + 4) false) 8 + weight (slice_index_or flags.now (at + 5) false) 4
-        + weight (slice_index_or flags.now (at + 6) false) 2 + weight (slice_index_or flags.now (at + 7) false) 1 }
+    ensures { result ≡ weight (slice_index_or flags.now at false) 128
+        + weight (slice_index_or flags.now (at + 1) false) 64
+        + weight (slice_index_or flags.now (at + 2) false) 32
+        + weight (slice_index_or flags.now (at + 3) false) 16
+        + weight (slice_index_or flags.now (at + 4) false) 8
+        + weight (slice_index_or flags.now (at + 5) false) 4
+        + weight (slice_index_or flags.now (at + 6) false) 2
+        + weight (slice_index_or flags.now (at + 7) false) 1 }
 {
     weigh(flags[at], 0x80)
         + weigh(flags[at + 1], 0x40)
@@ -113,7 +119,8 @@ pub(crate) fn append_key_usage(
     octets: &mut Vec<u8>,
     parts: &[ExtensionText<'_>],
 ) -> Result<(), MakeFault>
-    ensures { Appends result (flat_map extension_octets (key_usage (numbers_in parts.now))) octets.old.items octets.new.items }
+    ensures { Appends result (flat_map extension_octets (key_usage (numbers_in parts.now)))
+        octets.old.items octets.new.items }
 {
     let numbers = numbers(alloc, parts)?;
     if numbers.is_empty() {

@@ -1,6 +1,6 @@
-//! Certificates and lists of revoked certificates made to order (RFC 5280 4.1, 5.1): the DER of one from a description of
-//! it, signed by the stand-in for a signature, so that whoever wants to try a rule writes one line. Reading what is made
-//! gives the description.
+//! Certificates and lists of revoked certificates made to order (RFC 5280 4.1, 5.1): the DER of one
+//! from a description of it, signed by the stand-in for a signature, so that whoever wants to try a
+//! rule writes one line. Reading what is made gives the description.
 #![tactic(auto)]
 
 mod certificate;

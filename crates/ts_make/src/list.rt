@@ -47,7 +47,8 @@ fn write_whole_crl(
     this: &TimeText,
     next: &TimeText,
 ) -> Result<Vec<u8>, MakeFault>
-    ensures exact { AnswersCrl IsWhole result (made_crl (time_octets this.now) (time_octets next.now) text.now) }
+    ensures exact { AnswersCrl IsWhole result
+        (made_crl (time_octets this.now) (time_octets next.now) text.now) }
     ensures sayable { IfWritten result (IsSayableCrl text.now) }
 {
     let octets = write_crl(alloc, text, this, next)?;
@@ -65,20 +66,28 @@ fn write_whole_crl(
 /// # Errors
 ///
 /// `TooLong` exactly where the octets would be more than 4,194,304; `Unreadable` exactly where a rule that has a place is
-/// broken: a moment lies outside the years 0 to 9999, which no list can say, or the extensions are not those that a list
-/// may have; `Memory` only where memory ran out. A critical extension that is not processed is no error, nor is a base
-/// number without a number: what is made is the list that says it, which reading refuses.
+/// broken: a moment lies outside the years 0 to 9999, which no list can say, or the extensions are
+/// not those that a list may have; `Memory` only where memory ran out. A critical extension that is
+/// not processed is no error, nor is a base number without a number: what is made is the list that
+/// says it, which reading refuses.
 pub fn make_crl(alloc: Global, text: &CrlText<'_>) -> Result<Vec<u8>, MakeFault>
     // It is the one list that says the description, where a list may be so long.
-    ensures made { (this next : List ℕ) × IsTimeOf this text.now.this_update × IsTimeOf next text.now.next_update
+    ensures made { (this next : List ℕ) × IsTimeOf this text.now.this_update
+        × IsTimeOf next text.now.next_update
         × AnswersCrl IsTaken result (made_crl this next text.now) }
-    // It has the shape of the list that the description says, and reading gives that list, or refuses it for its
-    // first critical extension that is not processed, or as a delta without a number.
-    ensures described { IfOk result (λ v. (l : LocatedList) × (shape_of v.items ≡ Ok l) × IsCrlDescribed text.now (unlocated_list l) × IsReadAs (crl_of v.items) (unlocated_list l)) }
+    // It has the shape of the list that the description says, and reading gives that list, or
+    // refuses it for its first critical extension that is not processed, or as a delta without a
+    // number.
+    ensures described { IfOk result
+        (λ v. (l : LocatedList) × (shape_of v.items ≡ Ok l)
+        × IsCrlDescribed text.now (unlocated_list l)
+        × IsReadAs (crl_of v.items) (unlocated_list l)) }
     // It is signed by the stand-in under the signer's key.
-    ensures signed { IfOk result (λ v. (l : LocatedList) × (shape_of v.items ≡ Ok l) × IsCrlSignedBy text.now.signer.now (unlocated_list l)) }
+    ensures signed { IfOk result (λ v. (l : LocatedList) × (shape_of v.items ≡ Ok l)
+        × IsCrlSignedBy text.now.signer.now (unlocated_list l)) }
     // Moments outside of the years 0 to 9999 have no encoding.
-    ensures years { OnOk result (IsInYears 0 9999 text.now.this_update × IsInYears 0 9999 text.now.next_update) }
+    ensures years { OnOk result (IsInYears 0 9999 text.now.this_update
+        × IsInYears 0 9999 text.now.next_update) }
     // For no other reason is refused what was written.
     ensures refused { IfErr result (IsCrlRefusal text.now) }
 {

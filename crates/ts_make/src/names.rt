@@ -14,10 +14,12 @@ use crate::fault::MakeFault;
 use std::alloc::Global;
 use ts_name::UTF8_STRING;
 
-/// Appends a relative distinguished name of one attribute: SET { SEQUENCE { OBJECT IDENTIFIER, UTF8String } }.
+/// Appends a relative distinguished name of one attribute: SET { SEQUENCE { OBJECT IDENTIFIER,
+/// UTF8String } }.
 #[tactic(auto, unfolding(ts_name::specs::NameEncoding::rdn_content, ts_name::specs::NameEncoding::attribute_content))]
 fn append_rdn(alloc: Global, octets: &mut Vec<u8>, rdn: &RdnText<'_>) -> Result<(), MakeFault>
-    ensures exact { Appends result (encoded_rdn (rdn_in rdn.now)) octets.old.items octets.new.items }
+    ensures exact { Appends result
+        (encoded_rdn (rdn_in rdn.now)) octets.old.items octets.new.items }
     ensures text { OnOk result (IsUtf8 rdn.now.text.now) }
 {
     let mut fields = Vec::new(alloc);

@@ -9,7 +9,8 @@ use crate::elements::append_element;
 use crate::fault::MakeFault;
 use std::alloc::Global;
 
-/// Appends a number as the INTEGER of a tag, in as few octets as can be (RFC 5280 4.1.2.2, X.690 8.3).
+/// Appends a number as the INTEGER of a tag, in as few octets as can be (RFC 5280 4.1.2.2, X.690
+/// 8.3).
 #[tactic(auto, unfolding(crate::specs::Serial::serial_content))]
 pub(crate) fn append_number(
     alloc: Global,

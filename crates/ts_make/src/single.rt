@@ -2,7 +2,8 @@
 
 ghost use Rattle.std.specs.Prelude.{[], ◌∷◌, ◌++◌};
 ghost use Rattle.std.specs.List.{flat_map};
-ghost use Rattle.ts_make.specs.Extensions.{extension, extension_octets, critical_octets, alone, basic_constraints_value, path_length};
+ghost use Rattle.ts_make.specs.Extensions.{extension, extension_octets, critical_octets, alone};
+ghost use Rattle.ts_make.specs.Extensions.{basic_constraints_value, path_length};
 ghost use Rattle.ts_make.specs.Writing.{Appends, Writes};
 
 use crate::description::ExtensionText;
@@ -40,7 +41,8 @@ pub(crate) fn append_extension(
     critical: bool,
     value: &[u8],
 ) -> Result<(), MakeFault>
-    ensures { Appends result (extension_octets (extension id.now critical value.now)) octets.old.items octets.new.items }
+    ensures { Appends result (extension_octets (extension id.now critical value.now))
+        octets.old.items octets.new.items }
 {
     let mut fields = Vec::new(alloc);
     append_element(alloc, &mut fields, OBJECT_IDENTIFIER, id)?;
@@ -77,7 +79,8 @@ pub(crate) fn append_alone(
     kind: Kind,
     part: &ExtensionText<'_>,
 ) -> Result<(), MakeFault>
-    ensures { Appends result (flat_map extension_octets (alone kind part.now)) octets.old.items octets.new.items }
+    ensures { Appends result (flat_map extension_octets (alone kind part.now)) octets.old.items
+        octets.new.items }
 {
     match (kind, part) {
         (Kind::BasicConstraints, ExtensionText::BasicConstraints(length)) => {

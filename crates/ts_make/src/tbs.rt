@@ -28,7 +28,8 @@ fn write_fields(
     before: &TimeText,
     after: &TimeText,
 ) -> Result<Vec<u8>, MakeFault>
-    ensures exact { Writes result (tbs_content (time_octets before.now) (time_octets after.now) text.now) }
+    ensures exact { Writes result (tbs_content (time_octets before.now)
+        (time_octets after.now) text.now) }
     ensures sayable { OnOk result (IsSayable text.now) }
 {
     let mut fields = Vec::new(alloc);
@@ -51,7 +52,8 @@ pub(crate) fn write_tbs(
     before: &TimeText,
     after: &TimeText,
 ) -> Result<Vec<u8>, MakeFault>
-    ensures exact { Writes result (tbs_octets (time_octets before.now) (time_octets after.now) text.now) }
+    ensures exact { Writes result (tbs_octets (time_octets before.now)
+        (time_octets after.now) text.now) }
     ensures sayable { OnOk result (IsSayable text.now) }
 {
     let fields = write_fields(alloc, text, before, after)?;

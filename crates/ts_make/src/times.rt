@@ -61,7 +61,8 @@ pub(crate) fn append_validity(
     before: &TimeText,
     after: &TimeText,
 ) -> Result<(), MakeFault>
-    ensures { Appends result (encode 0x30 (time_octets before.now ++ time_octets after.now)) octets.old.items octets.new.items }
+    ensures { Appends result (encode 0x30 (time_octets before.now ++ time_octets after.now))
+        octets.old.items octets.new.items }
 {
     let mut times = Vec::new(alloc);
     before.append(alloc, &mut times)?;

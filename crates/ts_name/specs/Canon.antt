@@ -1,11 +1,14 @@
--- The canonical form of names, in which they are compared (RFC 5280 7.1). This profile folds the letters of ASCII alone.
-use Rattle.std.specs.Prelude.{ℕ, Bool, true, false, ◌==◌, ◌&&◌, ◌||◌, nat_le, if◌then◌else◌, List, [], ◌∷◌, ◌+◌, map, filter, count_by}
+-- The canonical form of names, in which they are compared (RFC 5280 7.1). This profile folds the
+-- letters of ASCII alone.
+use Rattle.std.specs.Prelude.{ℕ, Bool, true, false, ◌==◌, ◌&&◌, ◌||◌, nat_le, if◌then◌else◌, List}
+use Rattle.std.specs.Prelude.{[], ◌∷◌, ◌+◌, map, filter, count_by}
 use Rattle.std.specs.List.{join_with_byte}
 use Rattle.std.specs.Ordering.{nat_cmp, ordering_then, is_le, is_eq}
 use Rattle.std.specs.declared.cmp.Ordering.{Ordering}
 use Rattle.std.specs.Cmp.Lexicographic.{slice_cmp}
 
--- an attribute of a relative distinguished name: the octets of its type, and the tag and the content of its value
+-- an attribute of a relative distinguished name: the octets of its type, and the tag and the
+-- content of its value
 pub record Attr : Type 0 where
   pub kind : List ℕ
   pub tag : ℕ
@@ -47,18 +50,20 @@ words text = filter is_word (parts text)
 unfoldable pub folded : List ℕ → List ℕ
 folded text = map fold_case (join_with_byte 0x20 (words text))
 
--- an attribute in canonical form: text is folded and has one tag, any other value is its tag and its octets
+-- an attribute in canonical form: text is folded and has one tag, any other value is its tag and
+-- its octets
 unfoldable pub canon_attr : Attr → CanonAttr
 canon_attr a =
     if is_text a.tag
     then record { kind = a.kind; tag = 0x0C; value = folded a.value }
     else record { kind = a.kind; tag = a.tag; value = a.value }
 
--- the order of attributes in canonical form: by type, then by tag, then by value; of octets the first that differ
--- decide, and a beginning is before the whole
+-- the order of attributes in canonical form: by type, then by tag, then by value; of octets the
+-- first that differ decide, and a beginning is before the whole
 unfoldable pub compare_attrs : CanonAttr → CanonAttr → Ordering
 compare_attrs a b =
-    ordering_then (slice_cmp nat_cmp a.kind b.kind) (ordering_then (nat_cmp a.tag b.tag) (slice_cmp nat_cmp a.value b.value))
+    ordering_then (slice_cmp nat_cmp a.kind b.kind)
+    (ordering_then (nat_cmp a.tag b.tag) (slice_cmp nat_cmp a.value b.value))
 
 abbrev pub at_most : CanonAttr → CanonAttr → Bool
 at_most a b = is_le (compare_attrs a b)

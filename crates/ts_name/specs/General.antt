@@ -1,5 +1,6 @@
 -- General names (RFC 5280 4.2.1.6): one name, of one of nine forms.
-use Rattle.std.specs.Prelude.{◌≡◌, ℕ, ◌==◌, ◌||◌, Bool, true, List, length, Result, Ok, Err, if◌then◌else◌}
+use Rattle.std.specs.Prelude.{◌≡◌, ℕ, ◌==◌, ◌||◌, Bool, true, List, length, Result, Ok, Err}
+use Rattle.std.specs.Prelude.{if◌then◌else◌}
 use Rattle.ts_der.specs.declared.fault.DerFault.TheVariants.{WrongTag}
 use Rattle.ts_der.specs.declared.fault.Fault.{Fault}
 use Rattle.ts_der.specs.Answer.{◌>>=◌}
@@ -84,7 +85,8 @@ general_of e =
     else (if e.tag == 0xA3 then Ok (x400Address e.content)
     else (if e.tag == 0xA4 then (directory_of e >>= λ rdns. Ok (directoryName rdns))
     else (if e.tag == 0xA5 then Ok (ediPartyName e.content)
-    else (if e.tag == 0x86 then (value_at ascii_rules (λ c. c) e >>= λ text. Ok (uniformResourceIdentifier text))
+    else (if e.tag == 0x86 then (value_at ascii_rules (λ c. c) e >>= λ text. Ok
+    (uniformResourceIdentifier text))
     else (if e.tag == 0x87 then Ok (iPAddress e.content)
     else (if e.tag == 0x88 then (value_at oid_rules (λ c. c) e >>= λ oid. Ok (registeredID oid))
     else Err (fault_at e.at WrongTag)))))))))

@@ -1,7 +1,8 @@
 -- The rows of general names (RFC 5280 4.2.1.6).
 use Rattle.ts_der.specs.ObjectIdentifier.{oid_rules}
 use Rattle.ts_der.specs.Text.{ascii_rules}
-use Rattle.ts_shape.specs.Shape.{Row, tagged, no_other, nothing, ◌then◌, der_rules, no_rules, primitive, ◌or◌}
+use Rattle.ts_shape.specs.Shape.{Row, tagged, no_other, nothing, ◌then◌, der_rules, no_rules}
+use Rattle.ts_shape.specs.Shape.{primitive, ◌or◌}
 use Rattle.ts_name.specs.NameRows.{name}
 
 -- otherName [0] AnotherName, not looked into

@@ -1,7 +1,13 @@
 -- What contracts see of a general name that a reader lends.
 use Rattle.ts_name.specs.declared.general.General.{General}
-use Rattle.ts_name.specs.declared.general.General.TheVariants.{OtherName, Rfc822Name, DnsName, X400Address, DirectoryName, EdiPartyName, UniformResourceIdentifier, IpAddress, RegisteredId}
-use Rattle.ts_name.specs.General.{GeneralName, otherName, rfc822Name, dNSName, x400Address, directoryName, ediPartyName, uniformResourceIdentifier, iPAddress, registeredID}
+use Rattle.ts_name.specs.declared.general.General.TheVariants.{OtherName, Rfc822Name, DnsName}
+use Rattle.ts_name.specs.declared.general.General.TheVariants.{X400Address, DirectoryName}
+use Rattle.ts_name.specs.declared.general.General.TheVariants.{EdiPartyName}
+use Rattle.ts_name.specs.declared.general.General.TheVariants.{UniformResourceIdentifier, IpAddress}
+use Rattle.ts_name.specs.declared.general.General.TheVariants.{RegisteredId}
+use Rattle.ts_name.specs.General.{GeneralName, otherName, rfc822Name, dNSName, x400Address}
+use Rattle.ts_name.specs.General.{directoryName, ediPartyName, uniformResourceIdentifier, iPAddress}
+use Rattle.ts_name.specs.General.{registeredID}
 use Rattle.ts_name.specs.NameView.{rdns_in}
 
 -- its form and its octets, without where they lie in memory

@@ -22,7 +22,8 @@ rdn_content attributes = flat_map encoded_attribute attributes
 abbrev pub encoded_rdn : List Attr → List ℕ
 encoded_rdn attributes = encode 0x31 (rdn_content attributes)
 
--- an attribute that has an encoding: its type is an object identifier, and a value that is text obeys its character set
+-- an attribute that has an encoding: its type is an object identifier, and a value that is text
+-- obeys its character set
 pub record IsAttribute (a : Attr) : Type 0 where
   pub kind : is_oid a.kind ≡ true
   pub value : Fits a.tag a.value

@@ -1,5 +1,6 @@
 -- The rows of distinguished names (RFC 5280 4.1.2.4).
-use Rattle.std.specs.Prelude.{ℕ, zero, suc, ◌+◌, not, List, [], ◌∷◌, take, drop, length, Option, option_map, if◌then◌else◌}
+use Rattle.std.specs.Prelude.{ℕ, zero, suc, ◌+◌, not, List, [], ◌∷◌, take, drop, length, Option}
+use Rattle.std.specs.Prelude.{option_map, if◌then◌else◌}
 use Rattle.ts_der.specs.declared.fault.DerFault.TheVariants.{Empty, SetOrder}
 use Rattle.ts_der.specs.Rules.{Rule, rule}
 use Rattle.ts_der.specs.Element.{Tlv, inside}
@@ -12,8 +13,10 @@ use Rattle.ts_der.specs.SetOf.{ascends}
 use Rattle.ts_der.specs.Text.{utf8_rules, ascii_rules}
 use Rattle.ts_shape.specs.declared.fault.CertFault.{CertFault}
 use Rattle.ts_shape.specs.Fault.{breaks}
-use Rattle.ts_shape.specs.Shape.{Row, any, tagged, no_other, items, nothing, ◌then◌, ◌or_else◌, judge, der_rules, primitive, sequence, ◌or◌}
-use Rattle.ts_shape.specs.Rows.{object_identifier, utf8_string, printable_string, ia5_string, set_rules, set_of}
+use Rattle.ts_shape.specs.Shape.{Row, any, tagged, no_other, items, nothing, ◌then◌, ◌or_else◌}
+use Rattle.ts_shape.specs.Shape.{judge, der_rules, primitive, sequence, ◌or◌}
+use Rattle.ts_shape.specs.Rows.{object_identifier, utf8_string, printable_string, ia5_string}
+use Rattle.ts_shape.specs.Rows.{set_rules, set_of}
 
 -- AttributeValue ::= ANY DEFINED BY AttributeType, of which text is in its character set
 abbrev pub attribute_value : Row
@@ -29,8 +32,10 @@ relative_distinguished_name = set_of attribute_type_and_value
 
 -- the first rule that an element breaks as a relative distinguished name, whatever its tag is
 abbrev pub rdn_fault : Tlv → Option CertFault
-rdn_fault e = judge (items attribute_type_and_value) (inside e) or_else option_map (breaks e.at) (der_rules set_rules e.content)
+rdn_fault e = judge (items attribute_type_and_value) (inside e) or_else option_map (breaks e.at)
+    (der_rules set_rules e.content)
 
--- Name ::= CHOICE { rdnSequence RDNSequence }, RDNSequence ::= SEQUENCE OF RelativeDistinguishedName
+-- Name ::= CHOICE { rdnSequence RDNSequence }, RDNSequence ::= SEQUENCE OF
+-- RelativeDistinguishedName
 abbrev pub name : Row
 name = sequence (items relative_distinguished_name)

@@ -1,4 +1,5 @@
--- Names (RFC 5280 4.1.2.4, X.501 9): a sequence of relative distinguished names, each a set of attributes, each a type and a value.
+-- Names (RFC 5280 4.1.2.4, X.501 9): a sequence of relative distinguished names, each a set of
+-- attributes, each a type and a value.
 use Rattle.std.specs.Prelude.{ℕ, ◌==◌, ◌||◌, Bool, List, [], ◌∷◌, Result, Ok, is_ok, if◌then◌else◌}
 use Rattle.std.specs.Result.{result_unwrap_or}
 use Rattle.ts_der.specs.declared.fault.DerFault.TheVariants.{Empty}
@@ -16,7 +17,8 @@ use Rattle.ts_name.specs.Canon.{Attr}
 
 -- the rules of a value's text: UTF8String, PrintableString and IA5String have a character set here
 abbrev pub text_rules : ℕ → List Rule
-text_rules tag = if tag == 0x0C then utf8_rules else (if tag == 0x13 || tag == 0x16 then ascii_rules else [])
+text_rules tag = if tag == 0x0C then utf8_rules
+    else (if tag == 0x13 || tag == 0x16 then ascii_rules else [])
 
 -- ---- reading
 

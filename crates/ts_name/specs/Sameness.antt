@@ -1,10 +1,12 @@
--- When two names are one, and when a name lies within the subtree of another (RFC 5280 7.1, 4.2.1.10).
+-- When two names are one, and when a name lies within the subtree of another (RFC 5280 7.1,
+-- 4.2.1.10).
 use Rattle.std.specs.Prelude.{◌≡◌, ◌==◌, ◌&&◌, Bool, List, ◌++◌, map, Option, Some, None}
 use Rattle.std.specs.Str.{bytes_eq}
 use Rattle.std.specs.Cmp.Lexicographic.{pointwise}
 use Rattle.ts_name.specs.Canon.{Attr, CanonAttr, canon_rdn}
 
--- a name in canonical form: its relative distinguished names, each in canonical form. Names are one when these are equal
+-- a name in canonical form: its relative distinguished names, each in canonical form. Names are one
+-- when these are equal
 unfoldable pub canon_name : List (List Attr) → List (List CanonAttr)
 canon_name rdns = map canon_rdn rdns
 
@@ -18,7 +20,8 @@ is_same_name a b = pointwise (pointwise is_same_attr) (canon_name a) (canon_name
 
 -- the name's first relative distinguished names are those of the subtree
 abbrev pub IsWithin : List (List Attr) → List (List Attr) → Type 0
-IsWithin name subtree = (behind : List (List CanonAttr)) × (canon_name name ≡ canon_name subtree ++ behind)
+IsWithin name subtree = (behind : List (List CanonAttr))
+    × (canon_name name ≡ canon_name subtree ++ behind)
 
 -- what is left of a name after a front, or that it does not begin so
 abbrev pub StripsTo : List (List Attr) → List (List Attr) → Option (List (List Attr)) → Type 0

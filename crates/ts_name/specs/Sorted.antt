@@ -1,4 +1,5 @@
--- Attributes in the order of their canonical form, as the comparison of names keeps them for a while.
+-- Attributes in the order of their canonical form, as the comparison of names keeps them for a
+-- while.
 use Rattle.std.specs.Prelude.{List, IsSorted}
 use Rattle.ts_name.specs.declared.attribute.Attribute.{Attribute}
 use Rattle.ts_name.specs.Canon.{CanonAttr, canon_attr, compare_attrs}

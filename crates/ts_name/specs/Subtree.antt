@@ -1,5 +1,6 @@
 -- General subtrees (RFC 5280 4.2.1.10), of which name constraints consist.
-use Rattle.std.specs.Prelude.{◌≡◌, ℕ, ◌==◌, ◌&&◌, not, Bool, true, false, List, [], ◌∷◌, ◌++◌, Option, is_some, unwrap_or, Result, Ok, Err, if◌then◌else◌}
+use Rattle.std.specs.Prelude.{◌≡◌, ℕ, ◌==◌, ◌&&◌, not, Bool, true, false, List, [], ◌∷◌, ◌++◌}
+use Rattle.std.specs.Prelude.{Option, is_some, unwrap_or, Result, Ok, Err, if◌then◌else◌}
 use Rattle.ts_der.specs.declared.fault.DerFault.TheVariants.{IntegerForm, DefaultEncoded}
 use Rattle.ts_der.specs.declared.fault.Fault.{Fault}
 use Rattle.ts_der.specs.Answer.{◌>>=◌}
@@ -40,7 +41,8 @@ pub record IsMinimum (octets : List ℕ) (minimum : List ℕ) : Type 0 where
   pub encoded : IfAny 0x80 IsDistance octets minimum_octets
   pub value : minimum ≡ unwrap_or minimum_octets (0 ∷ [])
 
--- GeneralSubtree ::= SEQUENCE { base GeneralName, minimum [0] BaseDistance DEFAULT 0, maximum [1] BaseDistance OPTIONAL }
+-- GeneralSubtree ::= SEQUENCE { base GeneralName, minimum [0] BaseDistance DEFAULT 0, maximum [1]
+-- BaseDistance OPTIONAL }
 pub record IsSubtree (content : List ℕ) (s : GeneralSubtree) : Type 0 where
   pub named : List ℕ
   pub least : List ℕ
@@ -50,7 +52,8 @@ pub record IsSubtree (content : List ℕ) (s : GeneralSubtree) : Type 0 where
   pub maximum : IfAny 0x81 IsInteger most s.maximum
   pub fields : content ≡ named ++ (least ++ most)
 
--- the octets are the subtree of a constraint: minimum is zero, maximum is absent, and an IP address has a mask (4.2.1.10)
+-- the octets are the subtree of a constraint: minimum is zero, maximum is absent, and an IP address
+-- has a mask (4.2.1.10)
 pub record IsConstraint (octets : List ℕ) (s : GeneralSubtree) : Type 0 where
   pub whole : Within 0x30 IsSubtree octets s
   pub unbounded : is_unbounded s ≡ true
@@ -60,7 +63,8 @@ pub record IsConstraint (octets : List ℕ) (s : GeneralSubtree) : Type 0 where
 
 -- an INTEGER, and then not the default (X.690 8.3.2, 11.5)
 abbrev pub minimum_rules : List Rule
-minimum_rules = rule IntegerForm (λ c. not (is_shortest c)) ∷ rule DefaultEncoded (λ c. is_zero c) ∷ []
+minimum_rules = rule IntegerForm (λ c. not (is_shortest c)) ∷ rule DefaultEncoded (λ c. is_zero c)
+    ∷ []
 
 -- minimum [0], where it is encoded
 abbrev pub minimum_of : Tlv → Result (List ℕ) Fault

@@ -16,7 +16,8 @@ pub struct CanonAttribute {
     pub kind: Vec<u8>,
     /// The tag of the value, that of UTF8String for every text.
     pub tag: u8,
-    /// The octets of the value: of a text, its words with one space between each two, the letters A to Z as a to z.
+    /// The octets of the value: of a text, its words with one space between each two, the letters A
+    /// to Z as a to z.
     pub value: Vec<u8>,
 }
 
@@ -83,8 +84,8 @@ impl Canon {
         }
     }
 
-    /// Adds a relative distinguished name at the end. Where memory runs out, the name stays as it was and the other is
-    /// dropped.
+    /// Adds a relative distinguished name at the end. Where memory runs out, the name stays as it
+    /// was and the other is dropped.
     pub fn push(&mut self, rdn: CanonRdn) -> Result<(), AllocError>
         ensures ok { OnOk result (rdns_in self.new ≡ rdns_in self.old ++ attrs_in rdn ∷ []) }
         ensures err { OnErr result (rdns_in self.new ≡ rdns_in self.old) }

@@ -26,8 +26,8 @@ impl Rdn<'_> {
 }
 
 impl Name<'_> {
-    /// The name in canonical form: names are one exactly if their canonical forms are equal. The error is that memory
-    /// ran out.
+    /// The name in canonical form: names are one exactly if their canonical forms are equal. The
+    /// error is that memory ran out.
     pub fn canon(self, alloc: Global) -> Result<Canon, AllocError>
         ensures { IfOk result (λ canon. canon_in canon ≡ canon_name (rdns_in self.entry)) }
     {

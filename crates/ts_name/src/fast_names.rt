@@ -1,4 +1,5 @@
-//! Fast path. `false` or `None` means undecided; the caller then uses the full reader. Removing it changes speed alone.
+//! Fast path. `false` or `None` means undecided; the caller then uses the full reader. Removing it
+//! changes speed alone.
 //!
 //! Names of short attributes, as most certificates have them.
 
@@ -11,12 +12,15 @@ ghost use Rattle.ts_name.specs.NameEncoding.{IsRdn, IsName, rdn_content, encoded
 use crate::name_reading::{OBJECT_IDENTIFIER, SEQUENCE, SET, check_rdns};
 use ts_der::{Reader, are_ascii};
 
-/// What follows the relative distinguished name at the front of ASCII, where that is one attribute, with lengths of
-/// one octet and a type of three octets. Where nothing is answered, nothing is claimed.
+/// What follows the relative distinguished name at the front of ASCII, where that is one attribute,
+/// with lengths of one octet and a type of three octets. Where nothing is answered, nothing is
+/// claimed.
 #[inline(always)]
 fn behind_short_rdn(octets: &[u8]) -> Option<&[u8]>
     requires { is_ascii octets.now ≡ true }
-    ensures stands { IfSome result (λ more. (x : Attr) × IsRdn (x ∷ []) × Fits 0x31 (rdn_content (x ∷ [])) × (octets.now ≡ encoded_rdn (x ∷ []) ++ more.now)) }
+    ensures stands { IfSome result
+        (λ more. (x : Attr) × IsRdn (x ∷ []) × Fits 0x31 (rdn_content (x ∷ []))
+        × (octets.now ≡ encoded_rdn (x ∷ []) ++ more.now)) }
     ensures ascii { IfSome result (λ more. is_ascii more.now ≡ true) }
 {
     let [
@@ -49,7 +53,8 @@ fn behind_short_rdn(octets: &[u8]) -> Option<&[u8]>
     Some(more.split_at(size).1)
 }
 
-/// Whether octets are one such relative distinguished name after another. Where they are not, nothing is claimed.
+/// Whether octets are one such relative distinguished name after another. Where they are not,
+/// nothing is claimed.
 #[inline(always)]
 pub(crate) fn are_short_rdns(content: &[u8]) -> bool
     ensures { result ≡ true → (rdns : List (List Attr)) × IsName content.now rdns }
@@ -75,8 +80,8 @@ fn is_other_name(content: &[u8]) -> bool
     check_rdns(&mut Reader::new(content)).is_ok()
 }
 
-/// Whether octets are the content of a name: relative distinguished names that are each a set of attributes, as
-/// [`Name::read`](crate::Name::read) reads them (RFC 5280 4.1.2.4).
+/// Whether octets are the content of a name: relative distinguished names that are each a set of
+/// attributes, as [`Name::read`](crate::Name::read) reads them (RFC 5280 4.1.2.4).
 #[inline(always)]
 pub fn is_name(content: &[u8]) -> bool
     ensures { IsTrue result ↔ (rdns : List (List Attr)) × IsName content.now rdns }

@@ -52,7 +52,8 @@ impl Iterator for Folded<'_> {
     }
 }
 
-/// Whether two texts are one in canonical form: they have the same words, the letters A to Z counting as a to z.
+/// Whether two texts are one in canonical form: they have the same words, the letters A to Z
+/// counting as a to z.
 pub fn same_text(a: &[u8], b: &[u8]) -> bool
     ensures { IsTrue result ↔ (folded a.now ≡ folded b.now) }
 {

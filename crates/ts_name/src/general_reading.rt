@@ -4,7 +4,8 @@ ghost use Rattle.std.specs.Prelude.{◌≡◌, IfOk, IsOkAnd, option_map};
 ghost use Rattle.ts_der.specs.Answer.{Answers, refusal};
 ghost use Rattle.ts_der.specs.View.{now};
 ghost use Rattle.ts_shape.specs.Fault.{about};
-ghost use Rattle.ts_name.specs.General.{GeneralName, IsForm, directory_of, general_of, has_address_length, has_range_length};
+ghost use Rattle.ts_name.specs.General.{GeneralName, IsForm, directory_of, general_of};
+ghost use Rattle.ts_name.specs.General.{has_address_length, has_range_length};
 ghost use Rattle.ts_name.specs.GeneralTable.{general_name};
 ghost use Rattle.ts_name.specs.GeneralView.{general_in};
 ghost use Rattle.ts_name.specs.NameView.{rdns_in};
@@ -72,21 +73,26 @@ fn read_general<'a>(element: Element<'a>) -> Result<General<'a>, Fault>
 }
 
 impl<'a> General<'a> {
-    /// The general name that an element is, or the first rule that is broken, at its place: a tag of none of the nine
-    /// forms (`WrongTag`); of a mail address, a host's name and a URI the text (`TextForm`); of a registered id its
-    /// form (`OidForm`); of a directory name those of `Name::read`, and `Trailing`.
+    /// The general name that an element is, or the first rule that is broken, at its place: a tag
+    /// of none of the nine forms (`WrongTag`); of a mail address, a host's name and a URI the text
+    /// (`TextForm`); of a registered id its form (`OidForm`); of a directory name those of
+    /// `Name::read`, and `Trailing`.
     #[inline(always)]
     pub fn read(element: Element<'a>) -> Result<General<'a>, Fault>
-        ensures found { IfOk result (λ name. IsForm element.entry.tag element.entry.content.now (general_in name)) }
-        ensures only { (name : GeneralName) → IsForm element.entry.tag element.entry.content.now name
+        ensures found { IfOk result (λ name. IsForm element.entry.tag element.entry.content.now
+            (general_in name)) }
+        ensures only { (name : GeneralName)
+            → IsForm element.entry.tag element.entry.content.now name
             → IsOkAnd result (λ read. general_in read ≡ name) }
-        ensures fault { option_map about (refusal result) ≡ row_fault general_name (now element.entry) }
+        ensures fault { option_map about (refusal result)
+            ≡ row_fault general_name (now element.entry) }
         ensures exact { Answers general_in result (general_of (now element.entry)) }
     {
         read_general(element)
     }
 
-    /// Whether an IP address has 4 octets or 16 (RFC 5280 4.2.1.6). Of the other forms that is true.
+    /// Whether an IP address has 4 octets or 16 (RFC 5280 4.2.1.6). Of the other forms that is
+    /// true.
     pub fn has_address_length(self) -> bool
         ensures { result ≡ has_address_length (general_in self.entry) }
     {
@@ -96,8 +102,8 @@ impl<'a> General<'a> {
         }
     }
 
-    /// Whether an IP address has the length that it has in a constraint, with its mask: 8 octets or 32 (RFC 5280
-    /// 4.2.1.10). Of the other forms that is true.
+    /// Whether an IP address has the length that it has in a constraint, with its mask: 8 octets or
+    /// 32 (RFC 5280 4.2.1.10). Of the other forms that is true.
     pub fn has_range_length(self) -> bool
         ensures { result ≡ has_range_length (general_in self.entry) }
     {

@@ -9,9 +9,10 @@ use crate::general::General;
 use crate::subtree::Subtree;
 
 impl Subtree<'_> {
-    /// Whether a name lies in the subtree: a distinguished name whose first relative distinguished names are those of the
-    /// base, a host that is the domain or ends in a dot and the domain, an IP address that has the bits of the range under
-    /// its mask. A name of another form than the base lies in none, nor does one of a form that is not processed.
+    /// Whether a name lies in the subtree: a distinguished name whose first relative distinguished
+    /// names are those of the base, a host that is the domain or ends in a dot and the domain, an
+    /// IP address that has the bits of the range under its mask. A name of another form than the
+    /// base lies in none, nor does one of a form that is not processed.
     pub fn holds(self, name: General<'_>) -> bool
         ensures { IsTrue result ↔ Holds (subtree_in self.entry).base (general_in name.entry) }
     {

@@ -1,5 +1,5 @@
-//! Names: distinguished names with their attributes and the canonical form in which two of them are compared (RFC 5280
-//! 7.1), and general names with their subtrees (4.2.1.6, 4.2.1.10).
+//! Names: distinguished names with their attributes and the canonical form in which two of them are
+//! compared (RFC 5280 7.1), and general names with their subtrees (4.2.1.6, 4.2.1.10).
 #![tactic(auto)]
 
 mod attribute;

@@ -12,8 +12,8 @@ use crate::rdn::Rdn;
 use std::marker::Model;
 use ts_der::Reader;
 
-/// The relative distinguished names of a name that are left, in the order of the name. A contract sees them as the
-/// lists of their attributes.
+/// The relative distinguished names of a name that are left, in the order of the name. A contract
+/// sees them as the lists of their attributes.
 #[derive(Drop)]
 pub struct Rdns<'a> {
     rest: Reader<'a>,
@@ -49,8 +49,8 @@ impl<'a> Iterator for Rdns<'a> {
     }
 }
 
-/// The attributes of a relative distinguished name that are left, in the order of the source. A contract sees them
-/// as they are.
+/// The attributes of a relative distinguished name that are left, in the order of the source. A
+/// contract sees them as they are.
 #[derive(Drop)]
 pub struct Attributes<'a> {
     rest: Reader<'a>,

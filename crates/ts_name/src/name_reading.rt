@@ -7,7 +7,8 @@ ghost use Rattle.ts_der.specs.Rules.{first_broken};
 ghost use Rattle.ts_der.specs.Element.{inside};
 ghost use Rattle.ts_der.specs.View.{now};
 ghost use Rattle.ts_der.specs.Reading.{value_at, many};
-ghost use Rattle.ts_name.specs.Names.{attribute_of, attribute_at, rdn_of, rdn_at, name_of, text_rules};
+ghost use Rattle.ts_name.specs.Names.{attribute_of, attribute_at, rdn_of, rdn_at, name_of};
+ghost use Rattle.ts_name.specs.Names.{text_rules};
 ghost use Rattle.ts_shape.specs.Steps.{Takes, Passes};
 ghost use Rattle.ts_name.specs.Canon.{Attr};
 ghost use Rattle.ts_shape.specs.Fault.{about};
@@ -32,7 +33,8 @@ pub(crate) const SET: u8 = 0x31;
 
 /// The content of an attribute's value, whose text obeys its character set.
 fn read_value<'a>(value: Element<'a>) -> Result<&'a [u8], Fault>
-    ensures { Answers (λ c. c.now) result (value_at (text_rules value.entry.tag) (λ c. c) (now value.entry)) }
+    ensures { Answers (λ c. c.now) result
+        (value_at (text_rules value.entry.tag) (λ c. c) (now value.entry)) }
 {
     match value.tag {
         UTF8_STRING => Ok(value.utf8()?.as_bytes()),
@@ -72,7 +74,8 @@ fn next_attribute<'a>(rest: &mut Reader<'a>) -> Result<Attribute<'a>, Fault>
 #[inline(always)]
 fn check_attributes(set: Element<'_>) -> Result<bool, Fault>
     ensures fault { refusal result ≡ refusal (many attribute_at (inside (now set.entry))) }
-    ensures single { IfOk result (λ is_single. is_single ≡ true → (x : Attr) × (many attribute_at (inside (now set.entry)) ≡ Ok (x ∷ []))) }
+    ensures single { IfOk result (λ is_single. is_single ≡ true
+        → (x : Attr) × (many attribute_at (inside (now set.entry)) ≡ Ok (x ∷ []))) }
 {
     let mut rest = set.reader();
     let mut is_first = true;
@@ -113,8 +116,8 @@ fn are_in_character_set(tag: u8, octets: &[u8]) -> bool
     }
 }
 
-/// Whether the content of a set is one attribute, with lengths of one octet and a type of three numbers below 128, as in
-/// most names. Where it is not, nothing is claimed.
+/// Whether the content of a set is one attribute, with lengths of one octet and a type of three
+/// numbers below 128, as in most names. Where it is not, nothing is claimed.
 #[inline(always)]
 fn is_one_short_attribute(content: &[u8]) -> bool
     ensures { result ≡ true → (x : Attr) × IsRdnContent content.now (x ∷ []) }
@@ -210,24 +213,28 @@ fn check_name(name: Element<'_>) -> Result<(), Fault>
 }
 
 impl<'a> Name<'a> {
-    /// The name that a SEQUENCE's content is, or the first rule that is broken, at its place. The tag is not looked at.
+    /// The name that a SEQUENCE's content is, or the first rule that is broken, at its place. The
+    /// tag is not looked at.
     ///
-    /// The rules in their order: of each relative distinguished name, its header (a SET); of each attribute in it, its
-    /// header (a SEQUENCE), its type (`OidForm`), its value's header and, of a UTF8String, PrintableString or
-    /// IA5String, its text (`TextForm`), and `Trailing`; then that the set is not empty (`Empty`) and in order
-    /// (`SetOrder`).
+    /// The rules in their order: of each relative distinguished name, its header (a SET); of each
+    /// attribute in it, its header (a SEQUENCE), its type (`OidForm`), its value's header and, of a
+    /// UTF8String, PrintableString or IA5String, its text (`TextForm`), and `Trailing`; then that
+    /// the set is not empty (`Empty`) and in order (`SetOrder`).
     #[inline(always)]
     pub fn read(element: Element<'a>) -> Result<Name<'a>, Fault>
         ensures found { IfOk result (λ name. IsName element.entry.content.now (rdns_in name)) }
-        ensures only { (rdns : List (List Attr)) → IsName element.entry.content.now rdns → IsOkAnd result (λ name. rdns_in name ≡ rdns) }
-        ensures fault { option_map about (refusal result) ≡ judge (items relative_distinguished_name) (inside (now element.entry)) }
+        ensures only { (rdns : List (List Attr)) → IsName element.entry.content.now rdns
+            → IsOkAnd result (λ name. rdns_in name ≡ rdns) }
+        ensures fault { option_map about (refusal result)
+            ≡ judge (items relative_distinguished_name) (inside (now element.entry)) }
         ensures exact { Answers rdns_in result (name_of (now element.entry)) }
     {
         read_name(element)
     }
 
-    /// The name that another element's content is, as `read` reads it. Where that has the octets of this name, as the
-    /// subject of a self-signed certificate has those of its issuer, they are not read again.
+    /// The name that another element's content is, as `read` reads it. Where that has the octets of
+    /// this name, as the subject of a self-signed certificate has those of its issuer, they are not
+    /// read again.
     #[inline(always)]
     pub fn read_beside(self, element: Element<'a>) -> Result<Name<'a>, Fault>
         ensures exact { Answers rdns_in result (name_of (now element.entry)) }
@@ -248,11 +255,13 @@ fn read_name<'a>(element: Element<'a>) -> Result<Name<'a>, Fault>
 }
 
 impl<'a> Rdn<'a> {
-    /// The relative distinguished name that a SET's content is, or the first rule that is broken, at its place. The tag
-    /// is not looked at. The rules are those of `Name::read` within one SET.
+    /// The relative distinguished name that a SET's content is, or the first rule that is broken,
+    /// at its place. The tag is not looked at. The rules are those of `Name::read` within one SET.
     pub fn read(element: Element<'a>) -> Result<Rdn<'a>, Fault>
-        ensures found { IfOk result (λ rdn. IsRdnContent element.entry.content.now (attributes_in rdn)) }
-        ensures only { (attributes : List Attr) → IsRdnContent element.entry.content.now attributes → IsOkAnd result (λ rdn. attributes_in rdn ≡ attributes) }
+        ensures found { IfOk result (λ rdn. IsRdnContent element.entry.content.now
+            (attributes_in rdn)) }
+        ensures only { (attributes : List Attr) → IsRdnContent element.entry.content.now attributes
+            → IsOkAnd result (λ rdn. attributes_in rdn ≡ attributes) }
         ensures fault { option_map about (refusal result) ≡ rdn_fault (now element.entry) }
         ensures exact { Answers attributes_in result (rdn_of (now element.entry)) }
     {

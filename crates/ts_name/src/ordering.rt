@@ -1,4 +1,5 @@
-//! The order of attributes in canonical form, and sets of attributes in that order, in a table on the stack.
+//! The order of attributes in canonical form, and sets of attributes in that order, in a table on
+//! the stack.
 
 ghost use Rattle.std.specs.Prelude.{◌≡◌, ◌≤◌, ◌↔◌, [], true, IsTrue, IsPermutation, length, map};
 ghost use Rattle.std.specs.Cmp.Lexicographic.{slice_cmp};
@@ -30,7 +31,8 @@ impl Attribute<'_> {
     /// The order of two values in canonical form, which have one tag there.
     fn compare_values(self, other: Attribute<'_>) -> Ordering
         requires { (canon_attr (attr_of self)).tag ≡ (canon_attr (attr_of other)).tag }
-        ensures { result ≡ slice_cmp nat_cmp (canon_attr (attr_of self.entry)).value (canon_attr (attr_of other.entry)).value }
+        ensures { result ≡ slice_cmp nat_cmp (canon_attr (attr_of self.entry)).value
+            (canon_attr (attr_of other.entry)).value }
     {
         if self.is_text() {
             compare_texts(self.value, other.value)
@@ -41,7 +43,8 @@ impl Attribute<'_> {
 
     /// The order of two attributes in canonical form: by type, then by tag, then by value.
     pub(crate) fn compare(self, other: Attribute<'_>) -> Ordering
-        ensures { result ≡ compare_attrs (canon_attr (attr_of self.entry)) (canon_attr (attr_of other.entry)) }
+        ensures { result ≡ compare_attrs (canon_attr (attr_of self.entry))
+            (canon_attr (attr_of other.entry)) }
     {
         let kinds = self.kind.cmp(other.kind);
         if kinds != Ordering::Equal {
@@ -70,8 +73,8 @@ fn sort<const N: usize>(table: &mut ArrayVec<Attribute<'_>, N>)
     table.sort_unstable_by(|a, b| a.compare(*b));
 }
 
-/// Gathers the attributes of a relative distinguished name in an empty table, in the order of their canonical form, and
-/// answers whether there is room for all.
+/// Gathers the attributes of a relative distinguished name in an empty table, in the order of their
+/// canonical form, and answers whether there is room for all.
 pub(crate) fn gather_sorted<'a, const N: usize>(
     table: &mut ArrayVec<Attribute<'a>, N>,
     rdn: Rdn<'a>,

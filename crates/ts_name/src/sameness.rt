@@ -26,7 +26,8 @@ fn size(rdn: Rdn<'_>) -> usize
 
 /// How many of the attributes are this one in canonical form.
 fn count(rdn: Rdn<'_>, attribute: Attribute<'_>) -> usize
-    ensures { result ≡ count_of (canon_attr (attr_of attribute.entry)) (map canon_attr (attributes_in rdn.entry)) }
+    ensures { result ≡ count_of (canon_attr (attr_of attribute.entry))
+        (map canon_attr (attributes_in rdn.entry)) }
 {
     let mut count = 0;
     for other in rdn.attributes() {
@@ -37,9 +38,11 @@ fn count(rdn: Rdn<'_>, attribute: Attribute<'_>) -> usize
     count
 }
 
-/// Whether two relative distinguished names have as many attributes, and each as often, by counting each.
+/// Whether two relative distinguished names have as many attributes, and each as often, by counting
+/// each.
 fn are_one_by_counts(a: Rdn<'_>, b: Rdn<'_>) -> bool
-    ensures { IsTrue result ↔ (canon_rdn (attributes_in a.entry) ≡ canon_rdn (attributes_in b.entry)) }
+    ensures { IsTrue result ↔ (canon_rdn (attributes_in a.entry)
+        ≡ canon_rdn (attributes_in b.entry)) }
 {
     if size(a) != size(b) {
         return false;
@@ -52,9 +55,11 @@ fn are_one_by_counts(a: Rdn<'_>, b: Rdn<'_>) -> bool
     true
 }
 
-/// Whether two relative distinguished names have the attributes in one order, each one in canonical form.
+/// Whether two relative distinguished names have the attributes in one order, each one in canonical
+/// form.
 fn are_one_in_order(a: Rdn<'_>, b: Rdn<'_>) -> bool
-    ensures { result ≡ true → canon_rdn (attributes_in a.entry) ≡ canon_rdn (attributes_in b.entry) }
+    ensures { result ≡ true → canon_rdn (attributes_in a.entry)
+        ≡ canon_rdn (attributes_in b.entry) }
 {
     let mut others = b.attributes();
     for attribute in a.attributes() {
@@ -71,12 +76,13 @@ fn are_one_in_order(a: Rdn<'_>, b: Rdn<'_>) -> bool
     }
 }
 
-/// Whether two relative distinguished names are one, by tables of their attributes in the order of the canonical form. `None`
-/// where a table has no room for them.
+/// Whether two relative distinguished names are one, by tables of their attributes in the order of
+/// the canonical form. `None` where a table has no room for them.
 #[inline(never)]
 fn are_one_by_tables<const N: usize>(a: Rdn<'_>, b: Rdn<'_>) -> Option<bool>
     requires { N ≤ 16384 }
-    ensures { IfSome result (λ one. IsTrue one ↔ (canon_rdn (attributes_in a.entry) ≡ canon_rdn (attributes_in b.entry))) }
+    ensures { IfSome result (λ one. IsTrue one
+        ↔ (canon_rdn (attributes_in a.entry) ≡ canon_rdn (attributes_in b.entry))) }
 {
     let mut first = ArrayVec::<Attribute<'_>, N>::new();
     let mut second = ArrayVec::<Attribute<'_>, N>::new();
@@ -92,15 +98,18 @@ const FEW: usize = 16;
 /// The attributes of a long relative distinguished name.
 const MANY: usize = 512;
 
-/// More attributes than 65,536 octets have, and so than any certificate has in one relative distinguished name.
+/// More attributes than 65,536 octets have, and so than any certificate has in one relative
+/// distinguished name.
 const ALL: usize = 9_600;
 
 impl Rdn<'_> {
-    /// Whether two relative distinguished names are one in canonical form: they have as many attributes, and each as
-    /// often, in whatever order. It takes no memory but tables on the stack, of 768 kB at most. Of sets of more than 9,600
-    /// attributes each is counted in the other, so that their sizes are multiplied.
+    /// Whether two relative distinguished names are one in canonical form: they have as many
+    /// attributes, and each as often, in whatever order. It takes no memory but tables on the
+    /// stack, of 768 kB at most. Of sets of more than 9,600 attributes each is counted in the
+    /// other, so that their sizes are multiplied.
     pub fn same(self, other: Rdn<'_>) -> bool
-        ensures { IsTrue result ↔ (canon_rdn (attributes_in self.entry) ≡ canon_rdn (attributes_in other.entry)) }
+        ensures { IsTrue result ↔ (canon_rdn (attributes_in self.entry)
+            ≡ canon_rdn (attributes_in other.entry)) }
     {
         if are_one_in_order(self, other) {
             return true;
@@ -117,7 +126,8 @@ impl Rdn<'_> {
     }
 }
 
-/// What is left of a name's relative distinguished names after these others, if it begins with them.
+/// What is left of a name's relative distinguished names after these others, if it begins with
+/// them.
 fn behind<'a>(name: Rdns<'a>, front: Rdns<'_>) -> Option<Rdns<'a>>
     ensures { StripsTo name.entry front.entry result }
 {
@@ -134,7 +144,8 @@ fn behind<'a>(name: Rdns<'a>, front: Rdns<'_>) -> Option<Rdns<'a>>
 impl Name<'_> {
     /// Whether two names are one (RFC 5280 7.1): their canonical forms are equal.
     pub fn same(self, other: Name<'_>) -> bool
-        ensures { IsTrue result ↔ (canon_name (rdns_in self.entry) ≡ canon_name (rdns_in other.entry)) }
+        ensures { IsTrue result ↔ (canon_name (rdns_in self.entry)
+            ≡ canon_name (rdns_in other.entry)) }
     {
         match behind(self.rdns(), other.rdns()) {
             Some(mut rest) => rest.next().is_none(),
@@ -142,8 +153,8 @@ impl Name<'_> {
         }
     }
 
-    /// Whether the name lies within the subtree of a name (RFC 5280 7.1, 4.2.1.10): its first relative distinguished
-    /// names are all those of that name.
+    /// Whether the name lies within the subtree of a name (RFC 5280 7.1, 4.2.1.10): its first
+    /// relative distinguished names are all those of that name.
     pub fn within(self, subtree: Name<'_>) -> bool
         ensures { IsTrue result ↔ IsWithin (rdns_in self.entry) (rdns_in subtree.entry) }
     {

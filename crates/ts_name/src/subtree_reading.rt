@@ -10,7 +10,9 @@ ghost use Rattle.ts_name.specs.General.{has_range_length};
 ghost use Rattle.ts_name.specs.GeneralView.{general_in};
 ghost use Rattle.ts_shape.specs.Shape.{judge};
 ghost use Rattle.ts_shape.specs.Steps.{Takes};
-ghost use Rattle.ts_name.specs.Subtree.{GeneralSubtree, is_unbounded, IsSubtree, IsConstraint, minimum_of, maximum_of, subtree_of, constrained, constraint_of};
+ghost use Rattle.ts_name.specs.Subtree.{GeneralSubtree, is_unbounded, IsSubtree, IsConstraint};
+ghost use Rattle.ts_name.specs.Subtree.{minimum_of, maximum_of, subtree_of, constrained};
+ghost use Rattle.ts_name.specs.Subtree.{constraint_of};
 ghost use Rattle.ts_name.specs.SubtreeTable.{subtree_fields, constraint_fault};
 ghost use Rattle.ts_name.specs.SubtreeView.{subtree_in};
 
@@ -43,7 +45,8 @@ fn read_minimum<'a>(element: Element<'a>) -> Result<Integer<'a>, Fault>
 #[tactic(auto, using(ts_shape::proofs::OptionalReads::optional_fails, ts_shape::proofs::OptionalReads::optional_is_absent, ts_shape::proofs::OptionalReads::optional_reads, ts_shape::proofs::OptionalReads::optional_refuses))]
 #[inline(always)]
 fn next_minimum<'a>(fields: &mut Reader<'a>) -> Result<Option<Integer<'a>>, Fault>
-    ensures { Takes (λ m. option_map (λ i. i.octets.now) m) fields.new result (optional_of 0x80 minimum_of fields.old) }
+    ensures { Takes (λ m. option_map (λ i. i.octets.now) m) fields.new result
+        (optional_of 0x80 minimum_of fields.old) }
 {
     match fields.optional(MINIMUM)? {
         Some(element) => Ok(Some(read_minimum(element)?)),
@@ -55,7 +58,8 @@ fn next_minimum<'a>(fields: &mut Reader<'a>) -> Result<Option<Integer<'a>>, Faul
 #[tactic(auto, using(ts_shape::proofs::OptionalReads::optional_fails, ts_shape::proofs::OptionalReads::optional_is_absent, ts_shape::proofs::OptionalReads::optional_reads, ts_shape::proofs::OptionalReads::optional_refuses))]
 #[inline(always)]
 fn next_maximum<'a>(fields: &mut Reader<'a>) -> Result<Option<Integer<'a>>, Fault>
-    ensures { Takes (λ m. option_map (λ i. i.octets.now) m) fields.new result (optional_of 0x81 maximum_of fields.old) }
+    ensures { Takes (λ m. option_map (λ i. i.octets.now) m) fields.new result
+        (optional_of 0x81 maximum_of fields.old) }
 {
     match fields.optional(MAXIMUM)? {
         Some(element) => Ok(Some(element.integer()?)),
@@ -114,20 +118,23 @@ fn read_constraint(octets: &[u8]) -> Result<Subtree<'_>, CertFault>
 }
 
 impl<'a> Subtree<'a> {
-    /// The subtree that a SEQUENCE is, or the first rule that is broken, at its place: those of `General::read`, of
-    /// minimum and maximum `IntegerForm`, a minimum 0 that is encoded (`DefaultEncoded`), and `Trailing`. The tag is
-    /// not looked at.
+    /// The subtree that a SEQUENCE is, or the first rule that is broken, at its place: those of
+    /// `General::read`, of minimum and maximum `IntegerForm`, a minimum 0 that is encoded
+    /// (`DefaultEncoded`), and `Trailing`. The tag is not looked at.
     pub fn read_element(element: Element<'a>) -> Result<Subtree<'a>, Fault>
-        ensures found { IfOk result (λ subtree. IsSubtree element.entry.content.now (subtree_in subtree)) }
+        ensures found { IfOk result (λ subtree. IsSubtree element.entry.content.now
+            (subtree_in subtree)) }
         ensures only { (subtree : GeneralSubtree) → IsSubtree element.entry.content.now subtree
             → IsOkAnd result (λ read. subtree_in read ≡ subtree) }
-        ensures fault { option_map about (refusal result) ≡ judge subtree_fields (inside (now element.entry)) }
+        ensures fault { option_map about (refusal result)
+            ≡ judge subtree_fields (inside (now element.entry)) }
         ensures exact { Answers subtree_in result (subtree_of (now element.entry)) }
     {
         read_subtree(element)
     }
 
-    /// The subtree of a constraint that octets are, or the first rule that is broken: those of `read_element`, with
+    /// The subtree of a constraint that octets are, or the first rule that is broken: those of
+    /// `read_element`, with
     /// `Trailing`; then `SubtreeBounds` where it has a minimum other than 0 or a maximum, then `AddressLength`, both
     /// with place 0.
     pub fn read(octets: &'a [u8]) -> Result<Subtree<'a>, CertFault>
@@ -146,8 +153,8 @@ impl<'a> Subtree<'a> {
         self.base
     }
 
-    /// Whether the minimum is zero and there is no maximum, as RFC 5280 4.2.1.10 wants; else the rule `SubtreeBounds`
-    /// is broken.
+    /// Whether the minimum is zero and there is no maximum, as RFC 5280 4.2.1.10 wants; else the
+    /// rule `SubtreeBounds` is broken.
     pub fn is_unbounded(self) -> bool
         ensures { result ≡ is_unbounded (subtree_in self.entry) }
     {
@@ -158,8 +165,8 @@ impl<'a> Subtree<'a> {
         from_base && self.maximum.is_none()
     }
 
-    /// Whether an IP address in a constraint has 8 octets or 32 (RFC 5280 4.2.1.10); else the rule `AddressLength` is
-    /// broken. Of the other forms of a name that is true.
+    /// Whether an IP address in a constraint has 8 octets or 32 (RFC 5280 4.2.1.10); else the rule
+    /// `AddressLength` is broken. Of the other forms of a name that is true.
     pub fn has_address_length(self) -> bool
         ensures { result ≡ has_range_length (subtree_in self.entry).base }
     {

@@ -1,5 +1,6 @@
 -- What joins the prefix of a log, and how far a machine is behind it.
-use Rattle.std.proofs.Common.{◌≡◌, ℕ, List, [], ◌∷◌, Option, Bool, true, false, length, take, if◌then◌else◌}
+use Rattle.std.proofs.Common.{◌≡◌, ℕ, List, [], ◌∷◌, Option, Bool, true, false, length, take}
+use Rattle.std.proofs.Common.{if◌then◌else◌}
 use Rattle.ts_synod.specs.Store.{same_id}
 use Rattle.ts_synod.specs.Log.{prefix}
 

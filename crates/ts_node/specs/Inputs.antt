@@ -2,7 +2,8 @@
 use Rattle.std.proofs.Common.{◌≡◌, ◌≤◌, ℕ, List, Some, Result, Ok, Err, length, slice_get}
 use Rattle.ts_synod.specs.declared.message.Message.{Message}
 use Rattle.ts_synod.specs.declared.message.Body.{Body}
-use Rattle.ts_synod.specs.declared.message.Body.TheVariants.{Accept, Accepted, Ask, Busy, Give, Prepare, Promise}
+use Rattle.ts_synod.specs.declared.message.Body.TheVariants.{Accept, Accepted, Ask, Busy, Give}
+use Rattle.ts_synod.specs.declared.message.Body.TheVariants.{Prepare, Promise}
 use Rattle.ts_synod.specs.Node as world
 use Rattle.ts_record.specs.Facts.{IsBallot, IsPosition}
 use Rattle.ts_node.specs.declared.input.Input.{Input}
@@ -15,7 +16,8 @@ use Rattle.ts_node.specs.declared.roles.Roles.{Roles}
 use Rattle.ts_node.specs.Roles.{Makes}
 use Rattle.ts_node.specs.declared.input.Reply.TheVariants as replies
 
--- the event's input is this one, where a delivered message is the one of its number among all sent. Compaction is no event of the world.
+-- the event's input is this one, where a delivered message is the one of its number among all sent.
+-- Compaction is no event of the world.
 abbrev pub IsInput : {C Q : Type 0} → List (Message C) → Input C Q → world.Input C Q → Type 0
 IsInput sent (inputs.Deliver m) (world.Deliver which) = slice_get sent which ≡ Some m
 IsInput sent (inputs.Submit c) (world.Submit d) = c ≡ d
@@ -25,14 +27,19 @@ IsInput sent inputs.CatchUp world.CatchUp = Unit {0}
 IsInput sent inputs.Status world.Status = Unit {0}
 IsInput sent input other = ⊥
 
--- The reply says what the world's does. An answer is one to the question, after the commands that the world's reply names.
-abbrev pub IsReply : {C O Q A : Type 0} → (List C → Q → A → Type 0) → Reply O A → world.Reply O Q (List C) → Type 0
+-- The reply says what the world's does. An answer is one to the question, after the commands that
+-- the world's reply names.
+abbrev pub IsReply : {C O Q A : Type 0} → (List C → Q → A → Type 0) → Reply O A
+    → world.Reply O Q (List C) → Type 0
 IsReply is_answer replies.Done world.Done = Unit {0}
-IsReply is_answer (replies.Started p b) (world.Started position ballot) = (p ≡ position) × (b ≡ ballot)
-IsReply is_answer (replies.Settled p o) (world.Settled id position outcome) = (p ≡ position) × (o ≡ outcome)
+IsReply is_answer (replies.Started p b) (world.Started position ballot) =
+    (p ≡ position) × (b ≡ ballot)
+IsReply is_answer (replies.Settled p o) (world.Settled id position outcome) =
+    (p ≡ position) × (o ≡ outcome)
 IsReply is_answer replies.Unknown (world.Unknown id) = Unit {0}
 IsReply is_answer (replies.NotYet k m) (world.NotYet at' question prefix) = (k ≡ at') × (m ≡ prefix)
-IsReply is_answer (replies.Answered k a) (world.Answered at' question commands) = (k ≡ at') × is_answer commands question a
+IsReply is_answer (replies.Answered k a) (world.Answered at' question commands) =
+    (k ≡ at') × is_answer commands question a
 IsReply is_answer (replies.Prefix m) (world.Prefix prefix) = m ≡ prefix
 IsReply is_answer reply other = ⊥
 
@@ -41,7 +48,8 @@ pub record IsShort (octets : List ℕ) : Type 0 where
   pub some : 1 ≤ length octets
   pub short : length octets ≤ 4194325
 
--- what a node may be sent: positions and ballots in their ranges, and commands that a record can hold
+-- what a node may be sent: positions and ballots in their ranges, and commands that a record can
+-- hold
 abbrev pub BodyFits : {C : Type 0} → (C → List ℕ) → Body C → Type 0
 BodyFits octets (Prepare p b) = IsPosition p × IsBallot b
 BodyFits octets (Promise p b taken) = Unit {0}
@@ -60,10 +68,12 @@ InputFits octets inputs.CatchUp = Unit {0}
 InputFits octets inputs.Status = Unit {0}
 InputFits octets inputs.Compact = Unit {0}
 
--- A plan and a reply are those of the world's step. RoundsExhausted and PositionsExhausted are answered exactly where the world's reply
--- is that.
-abbrev pub Submits : {C O Q A : Type 0} → (List C → Q → A → Type 0) → Roles C → Result (Plan C × Reply O A) NodeFault → world.Step C O Q (List C) → Type 0
-Submits is_answer roles (Ok made) step = Makes roles made.0 step.effect × IsReply is_answer made.1 step.reply
+-- A plan and a reply are those of the world's step. RoundsExhausted and PositionsExhausted are
+-- answered exactly where the world's reply is that.
+abbrev pub Submits : {C O Q A : Type 0} → (List C → Q → A → Type 0) → Roles C
+    → Result (Plan C × Reply O A) NodeFault → world.Step C O Q (List C) → Type 0
+Submits is_answer roles (Ok made) step =
+    Makes roles made.0 step.effect × IsReply is_answer made.1 step.reply
 Submits is_answer roles (Err faults.RoundsExhausted) step = step.reply ≡ world.RoundsExhausted
 Submits is_answer roles (Err faults.PositionsExhausted) step = step.reply ≡ world.PositionsExhausted
 Submits is_answer roles (Err faults.Memory) step = Unit {0}

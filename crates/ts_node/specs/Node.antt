@@ -1,5 +1,6 @@
 -- A node on two disks: its facts, which its disks hold, and the world's node that it is.
-use Rattle.std.proofs.Common.{◌≡◌, ◌≤◌, ◌⊎◌, ◌++◌, ◌+◌, ◌^◌, ℕ, List, [], false, true, Result, Ok, Err}
+use Rattle.std.proofs.Common.{◌≡◌, ◌≤◌, ◌⊎◌, ◌++◌, ◌+◌, ◌^◌, ℕ, List, [], false, true, Result, Ok}
+use Rattle.std.proofs.Common.{Err}
 use Rattle.ts_disk.specs.Disk.{State}
 use Rattle.ts_journal.specs.Images.{Member, AnyPair, EveryPair}
 use Rattle.ts_synod.specs.declared.message.Fact.{Fact}
@@ -43,29 +44,39 @@ volatile node = volatile_of node.roles
 abbrev pub facts : {D C M : Type 0} → Node D C M → List (Fact C)
 facts node = node.kept.facts
 
--- Every pair of images that a crash now may leave opens to the facts, as the record of this node; the roles are those of a node that has
--- kept them; and the machine took the first of the learned commands.
-pub record IsWhole {D C M : Type 0} (state : D → State) (octets : C → List ℕ) (commands : M → List C) (node : Node D C M) : Type 0 where
-  pub opens : AnyPair (OpensToFrom octets (member node.kept) node.kept.swapped node.kept.facts) (state node.kept.a) (state node.kept.b)
+-- Every pair of images that a crash now may leave opens to the facts, as the record of this node;
+-- the roles are those of a node that has kept them; and the machine took the first of the learned
+-- commands.
+pub record IsWhole {D C M : Type 0} (state : D → State) (octets : C → List ℕ)
+    (commands : M → List C) (node : Node D C M) : Type 0 where
+  pub opens : AnyPair (OpensToFrom octets (member node.kept) node.kept.swapped node.kept.facts)
+      (state node.kept.a) (state node.kept.b)
   pub whose : member node.kept ≡ owner node
   pub stand : StandFor node.roles node.kept.facts
   pub part : IsPart (commands node.machine) (log_of node.kept.facts)
 
 -- A node is sound until one of its devices fails; then it is broken, and is opened again.
-abbrev pub IsSound : {D C M : Type 0} → (D → State) → (C → List ℕ) → (M → List C) → Node D C M → Type 0
+abbrev pub IsSound : {D C M : Type 0} → (D → State) → (C → List ℕ) → (M → List C) → Node D C M
+    → Type 0
 IsSound state octets commands node = node.kept.broken ≡ false → IsWhole state octets commands node
 
 -- the pair opens to the facts before, or to those with the new ones, as the record of this member
-abbrev pub ToEither : {C : Type 0} → (C → List ℕ) → Member → List (Fact C) → List (Fact C) → List ℕ → List ℕ → Type 0
-ToEither octets whose before more a b = OpensTo octets whose before a b ⊎ OpensTo octets whose (before ++ more) a b
+abbrev pub ToEither : {C : Type 0} → (C → List ℕ) → Member → List (Fact C) → List (Fact C) → List ℕ
+    → List ℕ → Type 0
+ToEither octets whose before more a b =
+    OpensTo octets whose before a b ⊎ OpensTo octets whose (before ++ more) a b
 
--- at every moment of a call each pair of images opens to the facts before it, or to those with the new ones
-abbrev pub Moments : {D C M : Type 0} → (D → State) → (C → List ℕ) → Node D C M → List (Fact C) → Node D C M → Type 0
-Moments state octets old more new = EveryPair (ToEither octets (owner old) (facts old) more) (state old.kept.a) (state old.kept.b) (state new.kept.a) (state new.kept.b)
+-- at every moment of a call each pair of images opens to the facts before it, or to those with the
+-- new ones
+abbrev pub Moments : {D C M : Type 0} → (D → State) → (C → List ℕ) → Node D C M → List (Fact C)
+    → Node D C M → Type 0
+Moments state octets old more new = EveryPair (ToEither octets (owner old) (facts old) more)
+    (state old.kept.a) (state old.kept.b) (state new.kept.a) (state new.kept.b)
 
 -- one of the two devices failed in a call
 abbrev pub Failed : {D C M : Type 0} → (D → State) → Node D C M → Node D C M → Type 0
-Failed state old new = EitherFailed (state old.kept.a) (state old.kept.b) (state new.kept.a) (state new.kept.b)
+Failed state old new = EitherFailed (state old.kept.a) (state old.kept.b) (state new.kept.a)
+    (state new.kept.b)
 
 -- a record's fault, in a call of a node
 abbrev pub fault_as : Fault → NodeFault
@@ -82,27 +93,34 @@ pub record IsSame {D C M : Type 0} (old new : Node D C M) : Type 0 where
   pub kept : new.kept ≡ old.kept
   pub volatile : volatile new ≡ volatile old
 
--- What a call does is the world's step: the facts that it keeps, the volatile part then, the messages and the reply.
-pub record Does {D C M O Q A : Type 0} (is_answer : List C → Q → A → Type 0) (old : Node D C M) (output : Output C O A) (new : Node D C M) (step : world.Step C O Q (List C)) : Type 0 where
+-- What a call does is the world's step: the facts that it keeps, the volatile part then, the
+-- messages and the reply.
+pub record Does {D C M O Q A : Type 0} (is_answer : List C → Q → A → Type 0) (old : Node D C M)
+    (output : Output C O A) (new : Node D C M) (step : world.Step C O Q (List C)) : Type 0 where
   pub facts : facts new ≡ facts old ++ step.effect.facts
   pub volatile : volatile new ≡ step.effect.volatile
   pub messages : output.messages.items ≡ step.effect.messages
   pub reply : IsReply is_answer output.reply step.reply
 
--- A call answers what the world does, or a fault. RoundsExhausted and PositionsExhausted are answered exactly where the world's reply is
--- that, and a fault other than that of a device changes nothing.
-abbrev pub Handles : {D C M O Q A : Type 0} → (List C → Q → A → Type 0) → Node D C M → Result (Output C O A) NodeFault → Node D C M → world.Step C O Q (List C) → Type 0
+-- A call answers what the world does, or a fault. RoundsExhausted and PositionsExhausted are
+-- answered exactly where the world's reply is that, and a fault other than that of a device changes
+-- nothing.
+abbrev pub Handles : {D C M O Q A : Type 0} → (List C → Q → A → Type 0) → Node D C M
+    → Result (Output C O A) NodeFault → Node D C M → world.Step C O Q (List C) → Type 0
 Handles is_answer old (Ok output) new step = Does is_answer old output new step
-Handles is_answer old (Err faults.RoundsExhausted) new step = (step.reply ≡ world.RoundsExhausted) × IsSame old new
-Handles is_answer old (Err faults.PositionsExhausted) new step = (step.reply ≡ world.PositionsExhausted) × IsSame old new
+Handles is_answer old (Err faults.RoundsExhausted) new step =
+    (step.reply ≡ world.RoundsExhausted) × IsSame old new
+Handles is_answer old (Err faults.PositionsExhausted) new step =
+    (step.reply ≡ world.PositionsExhausted) × IsSame old new
 Handles is_answer old (Err faults.Memory) new step = IsSame old new
 Handles is_answer old (Err faults.DiskFailed) new step = new.kept.broken ≡ true
 Handles is_answer old (Err faults.Broken) new step = ⊥
 Handles is_answer old (Err faults.GenerationsExhausted) new step = ⊥
 
--- One step of a rewrite: the facts are of the same force, the volatile part is the same, nothing is sent, and the reply is how far the
--- rewrite is.
-pub record Rewrites {D C M O A : Type 0} (old : Node D C M) (output : Output C O A) (new : Node D C M) : Type 0 where
+-- One step of a rewrite: the facts are of the same force, the volatile part is the same, nothing is
+-- sent, and the reply is how far the rewrite is.
+pub record Rewrites {D C M O A : Type 0} (old : Node D C M) (output : Output C O A)
+    (new : Node D C M) : Type 0 where
   pub progress : Progress
   pub steps : Steps (course old.kept) progress (course new.kept)
   pub force : SameForce (facts new) (facts old)
@@ -110,10 +128,12 @@ pub record Rewrites {D C M O A : Type 0} (old : Node D C M) (output : Output C O
   pub messages : output.messages.items ≡ []
   pub reply : output.reply ≡ replies.Compacted progress
 
-abbrev pub Compacts : {D C M O A : Type 0} → Node D C M → Result (Output C O A) NodeFault → Node D C M → Type 0
+abbrev pub Compacts : {D C M O A : Type 0} → Node D C M → Result (Output C O A) NodeFault
+    → Node D C M → Type 0
 Compacts old (Ok output) new = Rewrites old output new
 Compacts old (Err faults.Memory) new = IsSame old new
-Compacts old (Err faults.GenerationsExhausted) new = (old.kept.generation + 1 ≡ 2 ^ 64) × IsSame old new
+Compacts old (Err faults.GenerationsExhausted) new =
+    (old.kept.generation + 1 ≡ 2 ^ 64) × IsSame old new
 Compacts old (Err faults.DiskFailed) new = new.kept.broken ≡ true
 Compacts old (Err faults.Broken) new = ⊥
 Compacts old (Err faults.RoundsExhausted) new = ⊥

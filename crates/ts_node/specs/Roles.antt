@@ -1,4 +1,5 @@
--- The three roles of a node (Paxos Made Simple 2.5), and the part of the world's node that they stand for.
+-- The three roles of a node (Paxos Made Simple 2.5), and the part of the world's node that they
+-- stand for.
 use Rattle.std.proofs.Common.{◌≡◌, ◌≤◌, ◌++◌, ◌∷◌, List, []}
 use Rattle.ts_synod.specs.declared.message.Fact.{Fact}
 use Rattle.ts_synod.specs.declared.message.Fact.TheVariants.{Chosen, Promised, Took, Used}
@@ -21,7 +22,10 @@ config_of roles = record { nodes = roles.nodes; me = roles.me }
 
 -- what a restart forgets
 abbrev pub volatile_of : {C : Type 0} → Roles C → Volatile C
-volatile_of roles = record { proposer = proposers.state_of roles.proposer; received = logs.received_of roles.log }
+volatile_of roles = record {
+  proposer = proposers.state_of roles.proposer;
+  received = logs.received_of roles.log;
+}
 
 -- the roles are those of one node, which has kept these facts
 pub record StandFor {C : Type 0} (roles : Roles C) (facts : List (Fact C)) : Type 0 where
@@ -60,17 +64,29 @@ facts_in (Grow learn propose facts) = facts.items
 abbrev pub volatile_after : {C : Type 0} → Roles C → Move C → Volatile C
 volatile_after roles Nothing = volatile_of roles
 volatile_after roles (Accept step) = volatile_of roles
-volatile_after roles (Propose step) = record { proposer = proposer_steps.state_after roles.proposer step.change; received = logs.received_of roles.log }
-volatile_after roles (Learn step) = record { proposer = proposers.state_of roles.proposer; received = log_steps.received_after roles.log step.change }
-volatile_after roles (Grow learn propose facts) = record { proposer = proposer_steps.state_after roles.proposer propose.change; received = log_steps.received_after roles.log learn.change }
+volatile_after roles (Propose step) = record {
+  proposer = proposer_steps.state_after roles.proposer step.change;
+  received = logs.received_of roles.log;
+}
+volatile_after roles (Learn step) = record {
+  proposer = proposers.state_of roles.proposer;
+  received = log_steps.received_after roles.log step.change;
+}
+volatile_after roles (Grow learn propose facts) = record {
+  proposer = proposer_steps.state_after roles.proposer propose.change;
+  received = log_steps.received_after roles.log learn.change;
+}
 
 -- the change was made for these roles as they are
 abbrev pub IsLatest : {C : Type 0} → Roles C → Move C → Type 0
 IsLatest roles Nothing = Unit {0}
 IsLatest roles (Accept step) = acceptor_steps.IsLatest roles.acceptor step
-IsLatest roles (Propose step) = proposer_steps.IsLatest roles.proposer step × AllUsed step.facts.items
+IsLatest roles (Propose step) = proposer_steps.IsLatest roles.proposer step
+    × AllUsed step.facts.items
 IsLatest roles (Learn step) = log_steps.IsLatest roles.log step
-IsLatest roles (Grow learn propose facts) = log_steps.IsLatest roles.log learn × proposer_steps.IsLatest roles.proposer propose × AllUsed propose.facts.items × (facts.items ≡ learn.facts.items ++ propose.facts.items)
+IsLatest roles (Grow learn propose facts) = log_steps.IsLatest roles.log learn
+    × proposer_steps.IsLatest roles.proposer propose × AllUsed propose.facts.items
+    × (facts.items ≡ learn.facts.items ++ propose.facts.items)
 
 -- the plan keeps, sends and changes what the world's effect does
 pub record Makes {C : Type 0} (roles : Roles C) (plan : Plan C) (effect : Effect C) : Type 0 where

@@ -10,7 +10,8 @@ use std::alloc::AllocError;
 use ts_log::Log;
 use ts_synod::Command;
 
-/// Feeds a machine the learned commands that it has not taken. Where memory is refused it stays behind, and a later call goes on.
+/// Feeds a machine the learned commands that it has not taken. Where memory is refused it stays
+/// behind, and a later call goes on.
 pub(crate) fn feed<C: Command, M: Machine<C>>(
     log: &Log<C>,
     machine: &mut M,

@@ -1,6 +1,7 @@
 //! Messages that the log learns from, and what follows where its prefix grows.
 
-ghost use Rattle.std.specs.Prelude.{◌≡◌, ◌<◌, ◌≤◌, ◌++◌, IfOk, OnOk, List, length, drop, true, false, ◌≢◌};
+ghost use Rattle.std.specs.Prelude.{◌≡◌, ◌<◌, ◌≤◌, ◌++◌, IfOk, OnOk, List, length, drop, true};
+ghost use Rattle.std.specs.Prelude.{false, ◌≢◌};
 ghost use Rattle.ts_synod.specs.declared.message.Fact.{Fact};
 ghost use Rattle.ts_synod.specs.Store.{same_id};
 ghost use Rattle.ts_synod.specs.Force.{log_of};
@@ -88,8 +89,10 @@ impl<C: Command> Roles<C> {
         after: u32,
     ) -> bool
         requires within { before ≤ after }
-        requires after { after ≡ length (prefix (log_steps.learned_after self.now.log step.now.change)) }
-        ensures { result ≡ has_id M.client_id id.now (drop before (prefix (log_steps.learned_after self.now.log step.now.change))) }
+        requires after { after ≡ length
+            (prefix (log_steps.learned_after self.now.log step.now.change)) }
+        ensures { result ≡ has_id M.client_id id.now
+            (drop before (prefix (log_steps.learned_after self.now.log step.now.change))) }
     {
         for joined in before..after {
             if let Some(command) = self.log.command_after(step, joined + 1) {
@@ -101,7 +104,8 @@ impl<C: Command> Roles<C> {
         false
     }
 
-    /// Where the wanted command can be proposed once a step is kept that makes the prefix grow from one length to another.
+    /// Where the wanted command can be proposed once a step is kept that makes the prefix grow from
+    /// one length to another.
     fn next_for_wanted<M: Machine<C>>(
         &self,
         machine: &mut M,
@@ -112,9 +116,13 @@ impl<C: Command> Roles<C> {
         requires part { IsPart (M.commands machine.old) (learned_of self.now.log) }
         requires latest { log_steps.IsLatest self.now.log step.now }
         requires before { before ≡ length (prefix (learned_of self.now.log)) }
-        requires after { after ≡ length (prefix (log_steps.learned_after self.now.log step.now.change)) }
+        requires after { after ≡ length
+            (prefix (log_steps.learned_after self.now.log step.now.change)) }
         requires grown { before < after }
-        ensures next { IfOk result (λ next. next ≡ position_for_wanted (store_of M.Question M.client_id M.outcome) (config_of self.now) (log_steps.learned_after self.now.log step.now.change) (state_of self.now.proposer).wanted) }
+        ensures next { IfOk result (λ next. next
+            ≡ position_for_wanted (store_of M.Question M.client_id M.outcome) (config_of self.now)
+            (log_steps.learned_after self.now.log step.now.change)
+            (state_of self.now.proposer).wanted) }
         ensures part { IsPart (M.commands machine.new) (learned_of self.now.log) }
         ensures basis { M.basis machine.new ≡ M.basis machine.old }
     {
@@ -141,7 +149,10 @@ impl<C: Command> Roles<C> {
         requires stand { (facts : List (Fact C)) × StandFor self.now facts }
         requires part { IsPart (M.commands machine.old) (learned_of self.now.log) }
         requires latest { log_steps.IsLatest self.now.log step }
-        ensures plan { IfOk result (λ plan. (facts : List (Fact C)) (rule : LogRule C) → StandFor self.now facts → log_steps.Makes self.now.log step rule → Makes self.now plan (log_then_proposer (store_of M.Question M.client_id M.outcome) (config_of self.now) facts (volatile_of self.now) rule)) }
+        ensures plan { IfOk result (λ plan. (facts : List (Fact C)) (rule : LogRule C)
+            → StandFor self.now facts → log_steps.Makes self.now.log step rule
+            → Makes self.now plan (log_then_proposer (store_of M.Question M.client_id M.outcome)
+            (config_of self.now) facts (volatile_of self.now) rule)) }
         ensures latest { IfOk result (λ plan. IsLatest self.now plan.change) }
         ensures part { IsPart (M.commands machine.new) (learned_of self.now.log) }
         ensures basis { M.basis machine.new ≡ M.basis machine.old }
@@ -179,7 +190,11 @@ impl<C: Command> Roles<C> {
     ) -> Result<Plan<C>, AllocError>
         requires stand { (facts : List (Fact C)) × StandFor self.old facts }
         requires part { IsPart (M.commands machine.old) (learned_of self.old.log) }
-        ensures plan { IfOk result (λ plan. (facts : List (Fact C)) → StandFor self.old facts → Makes self.new plan (log_then_proposer (store_of M.Question M.client_id M.outcome) (config_of self.old) facts (volatile_of self.old) (on_accepted (config_of self.old) (log_of facts) (volatile_of self.old).received from position ballot command.now))) }
+        ensures plan { IfOk result (λ plan. (facts : List (Fact C)) → StandFor self.old facts
+            → Makes self.new plan (log_then_proposer (store_of M.Question M.client_id M.outcome)
+            (config_of self.old) facts (volatile_of self.old)
+            (on_accepted (config_of self.old) (log_of facts)
+            (volatile_of self.old).received from position ballot command.now))) }
         ensures latest { IfOk result (λ plan. IsLatest self.new plan.change) }
         ensures same { Unchanged self.old self.new }
         ensures part { IsPart (M.commands machine.new) (learned_of self.new.log) }
@@ -200,7 +215,11 @@ impl<C: Command> Roles<C> {
     ) -> Result<Plan<C>, AllocError>
         requires stand { (facts : List (Fact C)) × StandFor self.old facts }
         requires part { IsPart (M.commands machine.old) (learned_of self.old.log) }
-        ensures plan { IfOk result (λ plan. (facts : List (Fact C)) → StandFor self.old facts → Makes self.new plan (log_then_proposer (store_of M.Question M.client_id M.outcome) (config_of self.old) facts (volatile_of self.old) (on_give (config_of self.old) (log_of facts) (volatile_of self.old).received from position command.now))) }
+        ensures plan { IfOk result (λ plan. (facts : List (Fact C)) → StandFor self.old facts
+            → Makes self.new plan (log_then_proposer (store_of M.Question M.client_id M.outcome)
+            (config_of self.old) facts (volatile_of self.old)
+            (on_give (config_of self.old) (log_of facts)
+            (volatile_of self.old).received from position command.now))) }
         ensures latest { IfOk result (λ plan. IsLatest self.new plan.change) }
         ensures same { Unchanged self.old self.new }
         ensures part { IsPart (M.commands machine.new) (learned_of self.new.log) }

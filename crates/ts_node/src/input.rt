@@ -11,7 +11,8 @@ pub enum Input<C, Q> {
     Deliver(Message<C>),
     /// A command of a client.
     Submit(C),
-    /// A question of a client, about the state after the first k commands, or after all that are learned without a gap.
+    /// A question of a client, about the state after the first k commands, or after all that are
+    /// learned without a gap.
     Ask { k: Option<u32>, question: Q },
     /// A client asks what became of the command with this id.
     Outcome([u8; 16]),

@@ -1,6 +1,8 @@
-//! One node of the synod: acceptor, proposer and log over a record on two disks, and a state machine that takes the learned commands.
+//! One node of the synod: acceptor, proposer and log over a record on two disks, and a state
+//! machine that takes the learned commands.
 //!
-//! Each call of `Node::handle` is one event of the world of `ts_synod`, and what it keeps is on disk before it answers.
+//! Each call of `Node::handle` is one event of the world of `ts_synod`, and what it keeps is on
+//! disk before it answers.
 //!
 //! ```text
 //! let mut node = Node::open(alloc, a, b, machine)?;               // refused, it gives the disks and the machine back
@@ -17,7 +19,8 @@
 //! | `Node::close` | the two disks and the machine |
 //!
 //! `IsSound` says that a node is one that `open` gave: the roles stand for its facts, the disks open to them, and the machine took the
-//! first of the learned commands. Each call keeps it. A command's octets have to fit a record (`InputFits`).
+//! first of the learned commands. Each call keeps it. A command's octets have to fit a record
+//! (`InputFits`).
 #![tactic(auto)]
 
 mod feeding;

@@ -1,13 +1,15 @@
 //! The replicated state machine that a node feeds.
 
-ghost use Rattle.std.specs.Prelude.{◌≡◌, ◌<◌, ◌≤◌, ◌++◌, ◌∷◌, [], ℕ, List, IfOk, OnOk, OnErr, length, take};
+ghost use Rattle.std.specs.Prelude.{◌≡◌, ◌<◌, ◌≤◌, ◌++◌, ◌∷◌, [], ℕ, List, IfOk, OnOk, OnErr};
+ghost use Rattle.std.specs.Prelude.{length, take};
 ghost use Rattle.ts_synod.specs.Store.{settling};
 ghost use Rattle.ts_node.specs.Machine.{settling_as, store_of};
 
 use std::alloc::AllocError;
 
-/// A deterministic state machine over commands ('Paxos Made Simple' 3). What it computes is a function of the commands that it took, in
-/// their order, so two machines that took the same commands give the same outcomes and answers.
+/// A deterministic state machine over commands ('Paxos Made Simple' 3). What it computes is a
+/// function of the commands that it took, in their order, so two machines that took the same
+/// commands give the same outcomes and answers.
 pub trait Machine<C>: Drop {
     /// What becomes of a command.
     type Outcome: Drop;
@@ -53,12 +55,14 @@ pub trait Machine<C>: Drop {
 
     /// The first position of the commands with this id, and the outcome there.
     fn settled(&self, id: &[u8; 16]) -> Option<(u32, Self::Outcome)>
-        ensures { settling_as result ≡ settling (store_of Self.Question client_id outcome) (commands self.now) id.now };
+        ensures { settling_as result ≡ settling (store_of Self.Question client_id outcome)
+            (commands self.now) id.now };
 
     /// The answer to a question after the first k commands.
     fn answer(&mut self, k: u32, question: &Self::Question) -> Result<Self::Answer, AllocError>
         requires { k ≤ length (commands self.old) }
-        ensures answer { IfOk result (λ answer. is_answer (basis self.old) (take k (commands self.old)) question.now answer) }
+        ensures answer { IfOk result (λ answer. is_answer (basis self.old)
+            (take k (commands self.old)) question.now answer) }
         ensures commands { commands self.new ≡ commands self.old }
         ensures basis { basis self.new ≡ basis self.old };
 }

@@ -35,7 +35,10 @@ impl<C: Command> Roles<C> {
         position: u32,
         ballot: Ballot,
     ) -> Result<Plan<C>, AllocError>
-        ensures plan { IfOk result (λ plan. (facts : List (Fact C)) → StandFor self.old facts → Makes self.new plan (output_effect (volatile_of self.old) (on_prepare (config_of self.old) (promised_ballot position facts) (taken_vote position facts) from position ballot))) }
+        ensures plan { IfOk result (λ plan. (facts : List (Fact C)) → StandFor self.old facts
+            → Makes self.new plan (output_effect (volatile_of self.old)
+            (on_prepare (config_of self.old) (promised_ballot position facts)
+            (taken_vote position facts) from position ballot))) }
         ensures latest { IfOk result (λ plan. IsLatest self.new plan.change) }
         ensures same { Unchanged self.old self.new }
     {
@@ -56,7 +59,10 @@ impl<C: Command> Roles<C> {
         command: &C,
     ) -> Result<Plan<C>, AllocError>
         requires { (facts : List (Fact C)) × StandFor self.old facts }
-        ensures plan { IfOk result (λ plan. (facts : List (Fact C)) → StandFor self.old facts → Makes self.new plan (output_effect (volatile_of self.old) (on_accept (config_of self.old) (promised_ballot position facts) (taken_vote position facts) from position ballot command.now))) }
+        ensures plan { IfOk result (λ plan. (facts : List (Fact C)) → StandFor self.old facts
+            → Makes self.new plan (output_effect (volatile_of self.old)
+            (on_accept (config_of self.old) (promised_ballot position facts)
+            (taken_vote position facts) from position ballot command.now))) }
         ensures latest { IfOk result (λ plan. IsLatest self.new plan.change) }
         ensures same { Unchanged self.old self.new }
     {
@@ -77,7 +83,10 @@ impl<C: Command> Roles<C> {
         taken: &Option<Vote<C>>,
     ) -> Result<Plan<C>, AllocError>
         requires { (facts : List (Fact C)) × StandFor self.old facts }
-        ensures plan { IfOk result (λ plan. Makes self.new plan (proposer_effect (volatile_of self.old) (on_promise (config_of self.old) (volatile_of self.old).proposer from position ballot taken.now))) }
+        ensures plan { IfOk result (λ plan. Makes self.new plan
+            (proposer_effect (volatile_of self.old)
+            (on_promise (config_of self.old)
+            (volatile_of self.old).proposer from position ballot taken.now))) }
         ensures latest { IfOk result (λ plan. IsLatest self.new plan.change) }
         ensures same { Unchanged self.old self.new }
     {
@@ -98,7 +107,10 @@ impl<C: Command> Roles<C> {
         promised: Ballot,
     ) -> Result<Plan<C>, AllocError>
         requires { (facts : List (Fact C)) × StandFor self.now facts }
-        ensures plan { IfOk result (λ plan. Makes self.now plan (proposer_effect (volatile_of self.now) (on_busy (config_of self.now) (volatile_of self.now).proposer position ballot promised))) }
+        ensures plan { IfOk result (λ plan. Makes self.now plan
+            (proposer_effect (volatile_of self.now)
+            (on_busy (config_of self.now) (volatile_of self.now).proposer position ballot
+            promised))) }
         ensures latest { IfOk result (λ plan. IsLatest self.now plan.change) }
     {
         let mut step = self.proposer.on_busy(position, ballot, promised)?;
@@ -111,7 +123,9 @@ impl<C: Command> Roles<C> {
 
     /// The plan that answers an Ask.
     pub fn plan_ask(&self, from: u8, position: u32) -> Result<Plan<C>, AllocError>
-        ensures plan { IfOk result (λ plan. (facts : List (Fact C)) → StandFor self.now facts → Makes self.now plan (output_effect (volatile_of self.now) (only_messages (on_ask (config_of self.now) (log_of facts) from position)))) }
+        ensures plan { IfOk result (λ plan. (facts : List (Fact C)) → StandFor self.now facts
+            → Makes self.now plan (output_effect (volatile_of self.now)
+            (only_messages (on_ask (config_of self.now) (log_of facts) from position)))) }
         ensures latest { IfOk result (λ plan. IsLatest self.now plan.change) }
     {
         let mut step = self.log.on_ask(from, position)?;
@@ -125,7 +139,9 @@ impl<C: Command> Roles<C> {
     /// The plan that asks the other nodes for the position after the prefix.
     pub fn plan_catch_up(&self) -> Result<Plan<C>, AllocError>
         requires { (facts : List (Fact C)) × StandFor self.now facts }
-        ensures plan { IfOk result (λ plan. (facts : List (Fact C)) → StandFor self.now facts → Makes self.now plan (output_effect (volatile_of self.now) (only_messages (catch_up (config_of self.now) (log_of facts))))) }
+        ensures plan { IfOk result (λ plan. (facts : List (Fact C)) → StandFor self.now facts
+            → Makes self.now plan (output_effect (volatile_of self.now)
+            (only_messages (catch_up (config_of self.now) (log_of facts))))) }
         ensures latest { IfOk result (λ plan. IsLatest self.now plan.change) }
     {
         let mut step = self.log.catch_up()?;

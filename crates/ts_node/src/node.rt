@@ -1,6 +1,7 @@
 //! A node on two disks.
 
-ghost use Rattle.std.specs.Prelude.{◌≡◌, ◌≤◌, ◌⊎◌, ◌+◌, ◌^◌, [], ℕ, List, false, true, IfOk, IfErr, OnOk, OnErr, MatchResult, IsErrOf, ◌++◌, length};
+ghost use Rattle.std.specs.Prelude.{◌≡◌, ◌≤◌, ◌⊎◌, ◌+◌, ◌^◌, [], ℕ, List, false, true, IfOk, IfErr};
+ghost use Rattle.std.specs.Prelude.{OnOk, OnErr, MatchResult, IsErrOf, ◌++◌, length};
 ghost use Rattle.ts_disk.specs.Disk.{State};
 ghost use Rattle.ts_journal.specs.Images.{Member, AnyPair, EveryPair};
 ghost use Rattle.ts_journal.specs.Choice.{IsChosen};
@@ -18,7 +19,8 @@ ghost use Rattle.ts_node.specs.Roles.{IsLatest, facts_in, volatile_after};
 ghost use Rattle.ts_record.specs.Record.{OpensToForce};
 ghost use Rattle.ts_synod.specs.Force.{SameForce};
 ghost use Rattle.ts_record.specs.Opening.{IsFault, NothingNew};
-ghost use Rattle.ts_node.specs.Node.{Compacts, Failed, Handles, IsSound, Moments, config, fault_as, facts, owner, volatile};
+ghost use Rattle.ts_node.specs.Node.{Compacts, Failed, Handles, IsSound, Moments, config, fault_as};
+ghost use Rattle.ts_node.specs.Node.{facts, owner, volatile};
 
 use crate::input::{Input, NodeFault, Output, Reply};
 use crate::machine::Machine;
@@ -29,7 +31,8 @@ use ts_disk::Disk;
 use ts_record::{Codec, Fault, Record};
 use ts_synod::{Command, Message};
 
-/// A node: a record on two disks, the three roles, and a state machine that takes the learned commands.
+/// A node: a record on two disks, the three roles, and a state machine that takes the learned
+/// commands.
 #[derive(Drop)]
 pub struct Node<D: Disk, C: Codec, M> {
     alloc: Global,
@@ -48,32 +51,41 @@ pub struct Refused<D, M> {
 }
 
 impl<D: Disk, C: Command + Codec, M: Machine<C>> Node<D, C, M> {
-    /// Opens the node whose record is on two disks: the world's node after a restart, on the record's facts. Refused, it gives the disks
-    /// and the machine back.
+    /// Opens the node whose record is on two disks: the world's node after a restart, on the
+    /// record's facts. Refused, it gives the disks and the machine back.
     pub fn open(alloc: Global, a: D, b: D, machine: M) -> Result<Node<D, C, M>, Refused<D, M>>
         requires { M.commands machine ≡ [] }
-        // Each pair of images that a crash may leave opens to the facts, as the record of this node.
-        ensures opens { IfOk result (λ node. AnyPair (OpensTo C.octets (owner node) (facts node)) (D.state node.kept.a) (D.state node.kept.b)) }
+        // Each pair of images that a crash may leave opens to the facts, as the record of this
+        // node.
+        ensures opens { IfOk result (λ node. AnyPair (OpensTo C.octets (owner node) (facts node))
+            (D.state node.kept.a) (D.state node.kept.b)) }
         ensures sound { IfOk result (λ node. IsSound D.state C.octets M.commands node) }
         ensures restarted { IfOk result (λ node. volatile node ≡ initial) }
         ensures whole { IfOk result (λ node. node.kept.broken ≡ false) }
         // Which node it is is in the header of the disk in use.
-        ensures owner { IfOk result (λ node. (choice : Choice) × IsChosen choice (D.state a).read (D.state b).read
+        ensures owner { IfOk result (λ node. (choice : Choice)
+            × IsChosen choice (D.state a).read (D.state b).read
             × (config node ≡ record { nodes = choice.owner.nodes; me = choice.owner.node })) }
-        // Where what is read opens to facts as the record of a member, these are the node's, and it is that member; or memory or a device
-        // failed.
-        ensures only { (whose : Member) (kept : List (Fact C)) → OpensTo C.octets whose kept (D.state a).read (D.state b).read
-            → MatchResult result (λ node. (facts node ≡ kept) × (owner node ≡ whose)) (λ refused. (refused.fault ≡ Memory) ⊎ (refused.fault ≡ DiskFailed)) }
+        // Where what is read opens to facts as the record of a member, these are the node's, and it
+        // is that member; or memory or a device failed.
+        ensures only { (whose : Member) (kept : List (Fact C))
+            → OpensTo C.octets whose kept (D.state a).read (D.state b).read
+            → MatchResult result (λ node. (facts node ≡ kept) × (owner node ≡ whose))
+            (λ refused. (refused.fault ≡ Memory) ⊎ (refused.fault ≡ DiskFailed)) }
         // A crash at any moment within the call leaves nothing that it could not leave before.
         ensures moments { MatchResult result
             (λ node. NothingNew (D.state a) (D.state b) (D.state node.kept.a) (D.state node.kept.b))
             (λ refused. NothingNew (D.state a) (D.state b) (D.state refused.a) (D.state refused.b)) }
         // A fault other than the want of memory is the record's.
-        ensures fault { IfErr result (λ refused. IsFault C.octets (D.state a) (D.state b) (D.state refused.a) (D.state refused.b) refused.fault) }
+        ensures fault { IfErr result (λ refused. IsFault C.octets (D.state a) (D.state b)
+            (D.state refused.a) (D.state refused.b) refused.fault) }
         ensures same { MatchResult result
-            (λ node. ((D.state node.kept.a).read ≡ (D.state a).read) × ((D.state node.kept.b).read ≡ (D.state b).read))
-            (λ refused. ((D.state refused.a).read ≡ (D.state a).read) × ((D.state refused.b).read ≡ (D.state b).read)) }
-        ensures machine { MatchResult result (λ node. node.machine ≡ machine) (λ refused. refused.machine ≡ machine) }
+            (λ node. ((D.state node.kept.a).read ≡ (D.state a).read)
+            × ((D.state node.kept.b).read ≡ (D.state b).read))
+            (λ refused. ((D.state refused.a).read ≡ (D.state a).read)
+            × ((D.state refused.b).read ≡ (D.state b).read)) }
+        ensures machine { MatchResult result (λ node. node.machine ≡ machine)
+            (λ refused. refused.machine ≡ machine) }
     {
         let kept = match Record::open(alloc, a, b) {
             Ok(kept) => kept,
@@ -129,16 +141,20 @@ impl<D: Disk, C: Command + Codec, M: Machine<C>> Node<D, C, M> {
         requires fit { AllFit C.octets (facts_in plan.change) }
         requires short { length (encodings C.octets (facts_in plan.change)) ≤ 4194500 }
         ensures facts { OnOk result (facts self.new ≡ facts self.old ++ facts_in plan.change) }
-        ensures volatile { OnOk result (volatile self.new ≡ volatile_after self.old.roles plan.change) }
+        ensures volatile { OnOk result
+            (volatile self.new ≡ volatile_after self.old.roles plan.change) }
         ensures messages { IfOk result (λ messages. messages.items ≡ plan.messages.items) }
         ensures config { config self.new ≡ config self.old }
         ensures machine { self.new.machine ≡ self.old.machine }
         ensures moments { Moments D.state C.octets self.old (facts_in plan.change) self.new }
         ensures sound { IsSound D.state C.octets M.commands self.new }
         ensures whole { OnOk result (self.new.kept.broken ≡ false) }
-        ensures fault { IfErr result (λ fault. (fault ≡ NodeFault.Memory) ⊎ (fault ≡ NodeFault.DiskFailed)) }
-        ensures memory { IsErrOf result NodeFault.Memory → (self.new.kept ≡ self.old.kept) × (self.new.roles ≡ self.old.roles) }
-        ensures failed { IsErrOf result NodeFault.DiskFailed → (self.new.kept.broken ≡ true) × Failed D.state self.old self.new }
+        ensures fault { IfErr result (λ fault. (fault ≡ NodeFault.Memory)
+            ⊎ (fault ≡ NodeFault.DiskFailed)) }
+        ensures memory { IsErrOf result NodeFault.Memory
+            → (self.new.kept ≡ self.old.kept) × (self.new.roles ≡ self.old.roles) }
+        ensures failed { IsErrOf result NodeFault.DiskFailed
+            → (self.new.kept.broken ≡ true) × Failed D.state self.old self.new }
     {
         let Plan { messages, change } = plan;
         match self.kept.append(self.alloc, change.facts()) {
@@ -155,13 +171,17 @@ impl<D: Disk, C: Command + Codec, M: Machine<C>> Node<D, C, M> {
         requires whole { self.old.kept.broken ≡ false }
         requires sound { IsSound D.state C.octets M.commands self.old }
         ensures step { Compacts self.old result self.new }
-        ensures exhausted { self.old.kept.generation + 1 ≡ 2 ^ 64 → IsErrOf result NodeFault.GenerationsExhausted }
-        ensures moments { EveryPair (OpensToForce C.octets (owner self.old) (facts self.old)) (D.state self.old.kept.a) (D.state self.old.kept.b) (D.state self.new.kept.a) (D.state self.new.kept.b) }
+        ensures exhausted { self.old.kept.generation + 1 ≡ 2 ^ 64
+            → IsErrOf result NodeFault.GenerationsExhausted }
+        ensures moments { EveryPair (OpensToForce C.octets (owner self.old) (facts self.old))
+            (D.state self.old.kept.a) (D.state self.old.kept.b) (D.state self.new.kept.a)
+            (D.state self.new.kept.b) }
         ensures sound { IsSound D.state C.octets M.commands self.new }
         ensures config { config self.new ≡ config self.old }
         ensures basis { M.basis self.new.machine ≡ M.basis self.old.machine }
         ensures whole { OnOk result (self.new.kept.broken ≡ false) }
-        ensures failed { IsErrOf result NodeFault.DiskFailed → (self.new.kept.broken ≡ true) × Failed D.state self.old self.new }
+        ensures failed { IsErrOf result NodeFault.DiskFailed
+            → (self.new.kept.broken ≡ true) × Failed D.state self.old self.new }
     {
         match self.kept.compact(self.alloc) {
             Ok(progress) => Ok(Output {
@@ -172,32 +192,49 @@ impl<D: Disk, C: Command + Codec, M: Machine<C>> Node<D, C, M> {
         }
     }
 
-    /// Takes an input. What it keeps is on disk before it answers, and so before a message can be sent.
+    /// Takes an input. What it keeps is on disk before it answers, and so before a message can be
+    /// sent.
     pub fn handle(
         &mut self,
         input: &Input<C, M::Question>,
     ) -> Result<Output<C, M::Outcome, M::Answer>, NodeFault>
         requires sound { IsSound D.state C.octets M.commands self.old }
         requires fits { InputFits C.octets input.now }
-        // One event of the world: the call keeps, sends and answers what the step of the world's node does, whose facts are of the force
-        // of this node's.
-        ensures step { self.old.kept.broken ≡ false → (kept : List (Fact C)) (sent : List (Message C)) (event : world.Input C M.Question) → SameForce kept (facts self.old) → IsInput sent input.now event
-            → Handles (M.is_answer (M.basis self.old.machine)) self.old result self.new (world.step (store_of M.Question M.client_id M.outcome) (config self.old) (node_with kept (volatile self.old)) sent event) }
+        // One event of the world: the call keeps, sends and answers what the step of the world's
+        // node does, whose facts are of the force of this node's.
+        ensures step { self.old.kept.broken ≡ false
+            → (kept : List (Fact C)) (sent : List (Message C)) (event : world.Input C M.Question)
+            → SameForce kept (facts self.old) → IsInput sent input.now event
+            → Handles (M.is_answer (M.basis self.old.machine)) self.old result self.new
+            (world.step (store_of M.Question M.client_id M.outcome) (config self.old)
+            (node_with kept (volatile self.old)) sent event) }
         // A crash at any moment within the call leaves the facts before it, or those after it.
-        ensures moments { self.old.kept.broken ≡ false → (kept : List (Fact C)) (sent : List (Message C)) (event : world.Input C M.Question) → SameForce kept (facts self.old) → IsInput sent input.now event
-            → Moments D.state C.octets self.old (world.step (store_of M.Question M.client_id M.outcome) (config self.old) (node_with kept (volatile self.old)) sent event).effect.facts self.new }
-        // Compaction is no event of the world: it leaves the force of the facts, also where a crash comes within it.
-        ensures compacts { self.old.kept.broken ≡ false → input.now ≡ Input.Compact → Compacts self.old result self.new
-            × EveryPair (OpensToForce C.octets (owner self.old) (facts self.old)) (D.state self.old.kept.a) (D.state self.old.kept.b) (D.state self.new.kept.a) (D.state self.new.kept.b) }
+        ensures moments { self.old.kept.broken ≡ false
+            → (kept : List (Fact C)) (sent : List (Message C)) (event : world.Input C M.Question)
+            → SameForce kept (facts self.old) → IsInput sent input.now event
+            → Moments D.state C.octets self.old
+            (world.step (store_of M.Question M.client_id M.outcome) (config self.old)
+            (node_with kept (volatile self.old)) sent event).effect.facts self.new }
+        // Compaction is no event of the world: it leaves the force of the facts, also where a crash
+        // comes within it.
+        ensures compacts { self.old.kept.broken ≡ false → input.now ≡ Input.Compact
+            → Compacts self.old result self.new
+            × EveryPair (OpensToForce C.octets (owner self.old) (facts self.old))
+            (D.state self.old.kept.a) (D.state self.old.kept.b) (D.state self.new.kept.a)
+            (D.state self.new.kept.b) }
         // At the last generation there is no next one to rewrite the record in.
-        ensures exhausted { self.old.kept.broken ≡ false → input.now ≡ Input.Compact → self.old.kept.generation + 1 ≡ 2 ^ 64 → IsErrOf result NodeFault.GenerationsExhausted }
+        ensures exhausted { self.old.kept.broken ≡ false → input.now ≡ Input.Compact
+            → self.old.kept.generation + 1 ≡ 2 ^ 64
+            → IsErrOf result NodeFault.GenerationsExhausted }
         ensures sound { IsSound D.state C.octets M.commands self.new }
         ensures config { config self.new ≡ config self.old }
         ensures basis { M.basis self.new.machine ≡ M.basis self.old.machine }
         ensures whole { OnOk result (self.new.kept.broken ≡ false) }
         // After a device failed the node is broken, and does nothing more.
-        ensures failed { IsErrOf result NodeFault.DiskFailed → (self.new.kept.broken ≡ true) × Failed D.state self.old self.new }
-        ensures broken { self.old.kept.broken ≡ true → IsErrOf result NodeFault.Broken × (self.new ≡ self.old) }
+        ensures failed { IsErrOf result NodeFault.DiskFailed
+            → (self.new.kept.broken ≡ true) × Failed D.state self.old self.new }
+        ensures broken { self.old.kept.broken ≡ true
+            → IsErrOf result NodeFault.Broken × (self.new ≡ self.old) }
     {
         if self.kept.is_broken() {
             return Err(NodeFault::Broken);
@@ -217,15 +254,22 @@ impl<D: Disk, C: Command + Codec, M: Machine<C>> Node<D, C, M> {
         requires sound { IsSound D.state C.octets M.commands self.old }
         requires fits { InputFits C.octets input.now }
         requires event { input.now ≡ Input.Compact → ⊥ }
-        ensures step { (sent : List (Message C)) (event : world.Input C M.Question) → IsInput sent input.now event
-            → Handles (M.is_answer (M.basis self.old.machine)) self.old result self.new (world.step (store_of M.Question M.client_id M.outcome) (config self.old) (node_with (facts self.old) (volatile self.old)) sent event) }
-        ensures moments { (sent : List (Message C)) (event : world.Input C M.Question) → IsInput sent input.now event
-            → Moments D.state C.octets self.old (world.step (store_of M.Question M.client_id M.outcome) (config self.old) (node_with (facts self.old) (volatile self.old)) sent event).effect.facts self.new }
+        ensures step { (sent : List (Message C)) (event : world.Input C M.Question)
+            → IsInput sent input.now event
+            → Handles (M.is_answer (M.basis self.old.machine)) self.old result self.new
+            (world.step (store_of M.Question M.client_id M.outcome) (config self.old)
+            (node_with (facts self.old) (volatile self.old)) sent event) }
+        ensures moments { (sent : List (Message C)) (event : world.Input C M.Question)
+            → IsInput sent input.now event
+            → Moments D.state C.octets self.old
+            (world.step (store_of M.Question M.client_id M.outcome) (config self.old)
+            (node_with (facts self.old) (volatile self.old)) sent event).effect.facts self.new }
         ensures sound { IsSound D.state C.octets M.commands self.new }
         ensures config { config self.new ≡ config self.old }
         ensures basis { M.basis self.new.machine ≡ M.basis self.old.machine }
         ensures whole { OnOk result (self.new.kept.broken ≡ false) }
-        ensures failed { IsErrOf result NodeFault.DiskFailed → (self.new.kept.broken ≡ true) × Failed D.state self.old self.new }
+        ensures failed { IsErrOf result NodeFault.DiskFailed
+            → (self.new.kept.broken ≡ true) × Failed D.state self.old self.new }
     {
         match self.roles.plan_input(&mut self.machine, input) {
             Ok((plan, reply)) => match self.commit(plan) {

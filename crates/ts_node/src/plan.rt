@@ -1,4 +1,5 @@
-//! What a node is going to do: facts to keep, messages to send after that, and the change of its roles.
+//! What a node is going to do: facts to keep, messages to send after that, and the change of its
+//! roles.
 
 ghost use Rattle.std.specs.Prelude.{◌≡◌};
 

@@ -28,7 +28,9 @@ impl<C: Command> Roles<C> {
     ) -> Result<Plan<C>, AllocError>
         requires stand { (facts : List (Fact C)) × StandFor self.old facts }
         requires part { IsPart (M.commands machine.old) (learned_of self.old.log) }
-        ensures plan { IfOk result (λ plan. (facts : List (Fact C)) → StandFor self.old facts → Makes self.new plan (world.on_body (store_of M.Question M.client_id M.outcome) (config_of self.old) facts (volatile_of self.old) from body.now)) }
+        ensures plan { IfOk result (λ plan. (facts : List (Fact C)) → StandFor self.old facts
+            → Makes self.new plan (world.on_body (store_of M.Question M.client_id M.outcome)
+            (config_of self.old) facts (volatile_of self.old) from body.now)) }
         ensures latest { IfOk result (λ plan. IsLatest self.new plan.change) }
         ensures same { Unchanged self.old self.new }
         ensures part { IsPart (M.commands machine.new) (learned_of self.new.log) }
@@ -82,7 +84,8 @@ impl<C: Command> Roles<C> {
         }
     }
 
-    /// The plan that answers a message. One for another node, or from a number that is no node, changes nothing.
+    /// The plan that answers a message. One for another node, or from a number that is no node,
+    /// changes nothing.
     fn plan_message<M: Machine<C>>(
         &mut self,
         machine: &mut M,
@@ -90,7 +93,9 @@ impl<C: Command> Roles<C> {
     ) -> Result<Plan<C>, AllocError>
         requires stand { (facts : List (Fact C)) × StandFor self.old facts }
         requires part { IsPart (M.commands machine.old) (learned_of self.old.log) }
-        ensures plan { IfOk result (λ plan. (facts : List (Fact C)) → StandFor self.old facts → Makes self.new plan (world.on_message (store_of M.Question M.client_id M.outcome) (config_of self.old) facts (volatile_of self.old) message.now)) }
+        ensures plan { IfOk result (λ plan. (facts : List (Fact C)) → StandFor self.old facts
+            → Makes self.new plan (world.on_message (store_of M.Question M.client_id M.outcome)
+            (config_of self.old) facts (volatile_of self.old) message.now)) }
         ensures latest { IfOk result (λ plan. IsLatest self.new plan.change) }
         ensures same { Unchanged self.old self.new }
         ensures part { IsPart (M.commands machine.new) (learned_of self.new.log) }
@@ -111,8 +116,12 @@ impl<C: Command> Roles<C> {
     ) -> Result<(Plan<C>, Reply<M::Outcome, M::Answer>), NodeFault>
         requires stand { (facts : List (Fact C)) × StandFor self.old facts }
         requires part { IsPart (M.commands machine.old) (learned_of self.old.log) }
-        ensures step { (facts : List (Fact C)) (sent : List (Message C)) (event : world.Input C M.Question) → StandFor self.old facts → IsInput sent input.now event
-            → Submits (M.is_answer (M.basis machine.old)) self.new result (world.step (store_of M.Question M.client_id M.outcome) (config_of self.old) (node_with facts (volatile_of self.old)) sent event) }
+        ensures step { (facts : List (Fact C)) (sent : List (Message C))
+            (event : world.Input C M.Question) → StandFor self.old facts
+            → IsInput sent input.now event
+            → Submits (M.is_answer (M.basis machine.old)) self.new result
+            (world.step (store_of M.Question M.client_id M.outcome) (config_of self.old)
+            (node_with facts (volatile_of self.old)) sent event) }
         ensures latest { IfOk result (λ step. IsLatest self.new step.0.change) }
         ensures same { Unchanged self.old self.new }
         ensures part { IsPart (M.commands machine.new) (learned_of self.new.log) }

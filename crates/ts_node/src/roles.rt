@@ -7,7 +7,8 @@ ghost use Rattle.ts_acceptor.specs.Steps as acceptor_steps;
 ghost use Rattle.ts_proposer.specs.Steps as proposer_steps;
 ghost use Rattle.ts_log.specs.Steps as log_steps;
 ghost use Rattle.ts_log.specs.Log as logs;
-ghost use Rattle.ts_node.specs.Roles.{AllUsed, IsLatest, StandFor, config_of, facts_in, volatile_after, volatile_of};
+ghost use Rattle.ts_node.specs.Roles.{AllUsed, IsLatest, StandFor, config_of, facts_in};
+ghost use Rattle.ts_node.specs.Roles.{volatile_after, volatile_of};
 
 use crate::plan::Move;
 use std::alloc::{AllocError, Global};
@@ -50,7 +51,8 @@ impl<C: Command> Roles<C> {
 
     fn keep_accept(&mut self, step: AcceptorStep<C>)
         requires { acceptor_steps.IsLatest self.old.acceptor step }
-        ensures stand { (facts : List (Fact C)) → StandFor self.old facts → StandFor self.new (facts ++ step.facts.items) }
+        ensures stand { (facts : List (Fact C)) → StandFor self.old facts
+            → StandFor self.new (facts ++ step.facts.items) }
         ensures volatile { volatile_of self.new ≡ volatile_of self.old }
         ensures config { config_of self.new ≡ config_of self.old }
         ensures log { self.new.log ≡ self.old.log }
@@ -61,8 +63,13 @@ impl<C: Command> Roles<C> {
     fn keep_propose(&mut self, step: ProposerStep<C>)
         requires latest { proposer_steps.IsLatest self.old.proposer step }
         requires used { AllUsed step.facts.items }
-        ensures stand { (facts : List (Fact C)) → StandFor self.old facts → StandFor self.new (facts ++ step.facts.items) }
-        ensures volatile { volatile_of self.new ≡ record { proposer = proposer_steps.state_after self.old.proposer step.change; received = logs.received_of self.old.log } }
+        ensures stand { (facts : List (Fact C)) → StandFor self.old facts
+            → StandFor self.new (facts ++ step.facts.items) }
+        ensures volatile { volatile_of self.new
+            ≡ record {
+              proposer = proposer_steps.state_after self.old.proposer step.change;
+              received = logs.received_of self.old.log;
+            } }
         ensures config { config_of self.new ≡ config_of self.old }
         ensures log { self.new.log ≡ self.old.log }
     {
@@ -71,8 +78,10 @@ impl<C: Command> Roles<C> {
 
     fn keep_learn(&mut self, step: LogStep<C>)
         requires { log_steps.IsLatest self.old.log step }
-        ensures stand { (facts : List (Fact C)) → StandFor self.old facts → StandFor self.new (facts ++ step.facts.items) }
-        ensures received { logs.received_of self.new.log ≡ log_steps.received_after self.old.log step.change }
+        ensures stand { (facts : List (Fact C)) → StandFor self.old facts
+            → StandFor self.new (facts ++ step.facts.items) }
+        ensures received { logs.received_of self.new.log
+            ≡ log_steps.received_after self.old.log step.change }
         ensures proposer { self.new.proposer ≡ self.old.proposer }
         ensures config { config_of self.new ≡ config_of self.old }
     {
@@ -82,7 +91,8 @@ impl<C: Command> Roles<C> {
     /// Makes a change, which takes no memory.
     pub fn keep(&mut self, change: Move<C>)
         requires { IsLatest self.old change }
-        ensures stand { (facts : List (Fact C)) → StandFor self.old facts → StandFor self.new (facts ++ facts_in change) }
+        ensures stand { (facts : List (Fact C)) → StandFor self.old facts
+            → StandFor self.new (facts ++ facts_in change) }
         ensures volatile { volatile_of self.new ≡ volatile_after self.old change }
         ensures config { config_of self.new ≡ config_of self.old }
     {

@@ -32,7 +32,10 @@ impl<C: Command> Roles<C> {
     ) -> Result<(Plan<C>, Reply<M::Outcome, M::Answer>), NodeFault>
         requires stand { (facts : List (Fact C)) × StandFor self.now facts }
         requires part { IsPart (M.commands machine.old) (learned_of self.now.log) }
-        ensures step { (facts : List (Fact C)) → StandFor self.now facts → Submits (M.is_answer (M.basis machine.old)) self.now result (on_submit (store_of M.Question M.client_id M.outcome) (config_of self.now) (node_with facts (volatile_of self.now)) command.now) }
+        ensures step { (facts : List (Fact C)) → StandFor self.now facts
+            → Submits (M.is_answer (M.basis machine.old)) self.now result
+            (on_submit (store_of M.Question M.client_id M.outcome) (config_of self.now)
+            (node_with facts (volatile_of self.now)) command.now) }
         ensures latest { IfOk result (λ step. IsLatest self.now step.0.change) }
         ensures part { IsPart (M.commands machine.new) (learned_of self.now.log) }
         ensures basis { M.basis machine.new ≡ M.basis machine.old }
@@ -71,7 +74,9 @@ impl<C: Command> Roles<C> {
         question: &M::Question,
     ) -> Result<Reply<M::Outcome, M::Answer>, AllocError>
         requires part { IsPart (M.commands machine.old) (learned_of self.now.log) }
-        ensures reply { IfOk result (λ reply. IsReply (M.is_answer (M.basis machine.old)) reply (on_question (store_of M.Question M.client_id M.outcome) (prefix (learned_of self.now.log)) k question.now)) }
+        ensures reply { IfOk result (λ reply. IsReply (M.is_answer (M.basis machine.old)) reply
+            (on_question (store_of M.Question M.client_id M.outcome)
+            (prefix (learned_of self.now.log)) k question.now)) }
         ensures part { IsPart (M.commands machine.new) (learned_of self.now.log) }
         ensures basis { M.basis machine.new ≡ M.basis machine.old }
     {
@@ -95,7 +100,10 @@ impl<C: Command> Roles<C> {
         id: &[u8; 16],
     ) -> Result<Reply<M::Outcome, M::Answer>, AllocError>
         requires part { IsPart (M.commands machine.old) (learned_of self.now.log) }
-        ensures reply { IfOk result (λ reply. IsReply (M.is_answer (M.basis machine.old)) reply (outcome_reply (store_of M.Question M.client_id M.outcome) id.now (settling (store_of M.Question M.client_id M.outcome) (prefix (learned_of self.now.log)) id.now))) }
+        ensures reply { IfOk result (λ reply. IsReply (M.is_answer (M.basis machine.old)) reply
+            (outcome_reply (store_of M.Question M.client_id M.outcome) id.now
+            (settling (store_of M.Question M.client_id M.outcome)
+            (prefix (learned_of self.now.log)) id.now))) }
         ensures part { IsPart (M.commands machine.new) (learned_of self.now.log) }
         ensures basis { M.basis machine.new ≡ M.basis machine.old }
     {

@@ -1,5 +1,6 @@
-//! Nodes, each on two disks in memory, for tests, and three of them: they take the messages that a test delivers, and a node whose device fails is
-//! opened again from what a crash leaves of its disks.
+//! Nodes, each on two disks in memory, for tests, and three of them: they take the messages that a
+//! test delivers, and a node whose device fails is opened again from what a crash leaves of its
+//! disks.
 
 ghost use Rattle.std.specs.Prelude.{◌≤◌, ◌∷◌, [], IfOk, IsTrue};
 ghost use Rattle.ts_disk.specs.Memory.{state_of};
@@ -106,7 +107,8 @@ fn is_fit(body: &Body<Number>) -> bool
 }
 
 impl Sent {
-    /// A message that is not delivered yet. `None` for one that no node may be sent, which no node sends.
+    /// A message that is not delivered yet. `None` for one that no node may be sent, which no node
+    /// sends.
     pub fn new(message: Message<Number>) -> Option<Sent> {
         if !is_fit(&message.body) {
             return None;
@@ -128,7 +130,8 @@ impl Sent {
 
 /// The node on two disks. Where memory is refused it is opened again from what is given back.
 fn opened(alloc: Global, a: MemDisk, b: MemDisk) -> Result<Small, Refused<MemDisk, Takes>>
-    ensures { IfOk result (λ node. IsSound state_of (λ (number : Number). number.value ∷ []) (λ (machine : Takes). machine.commands.items) node) }
+    ensures { IfOk result (λ node. IsSound state_of (λ (number : Number). number.value ∷ [])
+        (λ (machine : Takes). machine.commands.items) node) }
 {
     match Node::open(alloc, a, b, Takes::new(alloc)) {
         Err(
@@ -160,7 +163,8 @@ impl Model for Member {
 
     ghost view = { λ _. 0 };
 
-    ghost invariant = { λ m. IsSound state_of (λ number. number.value ∷ []) (λ machine. machine.commands.items) m.node };
+    ghost invariant = { λ m. IsSound state_of (λ number. number.value ∷ [])
+        (λ machine. machine.commands.items) m.node };
 }
 
 impl Member {
@@ -185,7 +189,8 @@ impl Member {
         Member::open(alloc, a, b, trouble.torn, Vec::new(alloc))
     }
 
-    /// The node on two disks, or where a device fails the one after a crash, and then true. Where memory is refused it is opened again.
+    /// The node on two disks, or where a device fails the one after a crash, and then true. Where
+    /// memory is refused it is opened again.
     fn open(
         alloc: Global,
         a: MemDisk,
@@ -269,7 +274,8 @@ impl Member {
         }
     }
 
-    /// Keeps what is learned, by the node's reply. False where that is not what it was before, or more.
+    /// Keeps what is learned, by the node's reply. False where that is not what it was before, or
+    /// more.
     fn learns(&mut self, reply: Reply<(), Vec<Number>>) -> bool {
         match reply {
             Reply::Answered { k: _, answer } => {
@@ -423,7 +429,8 @@ impl Group {
         Ok(is_kept)
     }
 
-    /// Whether no node has learned another command where a majority has voted for one in one ballot.
+    /// Whether no node has learned another command where a majority has voted for one in one
+    /// ballot.
     fn is_choice_kept(&self) -> bool {
         self.votes
             .iter()

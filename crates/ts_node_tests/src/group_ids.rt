@@ -15,7 +15,8 @@ fn is_same(a: &[u8], b: &[u8]) -> bool
 
 /// A command has this id.
 pub(crate) fn has_id(command: Number, id: &[u8; 16]) -> bool
-    ensures { result ≡ same_id (command.value ∷ 0 ∷ 0 ∷ 0 ∷ 0 ∷ 0 ∷ 0 ∷ 0 ∷ 0 ∷ 0 ∷ 0 ∷ 0 ∷ 0 ∷ 0 ∷ 0 ∷ 0 ∷ []) id.now }
+    ensures { result ≡ same_id (command.value ∷ 0 ∷ 0 ∷ 0 ∷ 0 ∷ 0 ∷ 0 ∷ 0 ∷ 0 ∷ 0 ∷ 0 ∷ 0 ∷ 0 ∷ 0
+        ∷ 0 ∷ 0 ∷ []) id.now }
 {
     let other = [command.value, 0, 0, 0, 0, 0, 0, 0, 0, 0, 0, 0, 0, 0, 0, 0];
     is_same(&other, id)

@@ -1,4 +1,5 @@
-//! A command and a state machine for tests of a group: a command is a number, and an answer is the list of the commands.
+//! A command and a state machine for tests of a group: a command is a number, and an answer is the
+//! list of the commands.
 
 ghost use Rattle.std.specs.Prelude.{◌≡◌, ◌≤◌, [], length};
 
@@ -75,7 +76,8 @@ impl Machine<Number> for Takes {
 
     type Basis = ();
 
-    ghost client_id = { λ number. number.value ∷ 0 ∷ 0 ∷ 0 ∷ 0 ∷ 0 ∷ 0 ∷ 0 ∷ 0 ∷ 0 ∷ 0 ∷ 0 ∷ 0 ∷ 0 ∷ 0 ∷ 0 ∷ [] };
+    ghost client_id = { λ number. number.value ∷ 0 ∷ 0 ∷ 0 ∷ 0 ∷ 0 ∷ 0 ∷ 0 ∷ 0 ∷ 0 ∷ 0 ∷ 0 ∷ 0 ∷ 0
+        ∷ 0 ∷ 0 ∷ [] };
 
     ghost outcome = { λ before number. tt };
 

@@ -1,5 +1,5 @@
-//! The classic run of three nodes, in which devices stop and fail: the nodes that learn a command learn the same one, and what was chosen
-//! stays chosen.
+//! The classic run of three nodes, in which devices stop and fail: the nodes that learn a command
+//! learn the same one, and what was chosen stays chosen.
 
 use crate::group::{Failing, Group, NO_TROUBLE, Trouble};
 use crate::group_machine::Number;
@@ -7,7 +7,8 @@ use std::alloc::{AllocError, Global};
 use std::test::Fail;
 use ts_disk::Torn;
 
-/// A proposer is restarted, another takes over, and the first one comes back. Returns how many messages were left at the end.
+/// A proposer is restarted, another takes over, and the first one comes back. Returns how many
+/// messages were left at the end.
 fn classic_run(group: &mut Group) -> Result<u32, AllocError> {
     group.submit(0, 1)?;
     group.deliver_all(&[1, 2])?;
@@ -24,14 +25,16 @@ fn classic_run(group: &mut Group) -> Result<u32, AllocError> {
 fn both_commands_are_learned_in_one_order(rt: HostRuntime) -> Result<(), Fail> {
     let mut group = Group::new(rt.alloc(), NO_TROUBLE)?;
     let left = classic_run(&mut group)?;
-    // Where one growth is refused, a node answers so once and the run is the same, or a disk in memory has failed.
+    // Where one growth is refused, a node answers so once and the run is the same, or a disk in
+    // memory has failed.
     assert!(rt; group.agrees && group.refusals < 2);
     let is_whole = left == 40 && group.have_learned(&[Number { value: 2 }, Number { value: 1 }]);
     assert!(rt; is_whole || group.stops > 0);
     Ok(())
 }
 
-/// The disks, the second one of a node for true, and how many calls each gets in a run without trouble.
+/// The disks, the second one of a node for true, and how many calls each gets in a run without
+/// trouble.
 const DISKS: [(u8, bool, u64); 6] = [
     (1, false, 48),
     (1, true, 4),
@@ -43,8 +46,9 @@ const DISKS: [(u8, bool, u64); 6] = [
 
 const TORN: [Torn; 3] = [Torn::Old, Torn::New, Torn::Byte(0xff)];
 
-/// The classic run in which devices fail; then both commands are submitted again until they are learned, and the nodes catch up. How
-/// often a device failed, and whether the nodes agreed all along and have the same two commands in the end.
+/// The classic run in which devices fail; then both commands are submitted again until they are
+/// learned, and the nodes catch up. How often a device failed, and whether the nodes agreed all
+/// along and have the same two commands in the end.
 fn ended(alloc: Global, trouble: Trouble) -> Result<(u32, bool), AllocError> {
     let mut group = Group::new(alloc, trouble)?;
     let _left = classic_run(&mut group)?;
@@ -58,8 +62,8 @@ fn ended(alloc: Global, trouble: Trouble) -> Result<(u32, bool), AllocError> {
     Ok((group.stops, is_well))
 }
 
-/// Lets each call of a disk fail in turn, alone or with all after it. Whether the nodes agree each time, and whether there is one
-/// failure each time but for the last.
+/// Lets each call of a disk fail in turn, alone or with all after it. Whether the nodes agree each
+/// time, and whether there is one failure each time but for the last.
 fn agree(
     alloc: Global,
     disk: (u8, bool, u64),

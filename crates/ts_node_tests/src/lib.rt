@@ -1,4 +1,5 @@
-//! Tests of nodes, over the public calls of their crate: two nodes in every order of a few events, and three whose devices stop and fail.
+//! Tests of nodes, over the public calls of their crate: two nodes in every order of a few events,
+//! and three whose devices stop and fail.
 //!
 //! In a crate of their own they are proved alone: a crate with tests is proved once more with them.
 #![tactic(auto)]

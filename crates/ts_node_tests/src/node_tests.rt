@@ -1,5 +1,5 @@
-//! Two nodes in every order of a few events, against the laws of the world: what is learned is chosen, one command is chosen at a
-//! position, and it was submitted.
+//! Two nodes in every order of a few events, against the laws of the world: what is learned is
+//! chosen, one command is chosen at a position, and it was submitted.
 
 ghost use Rattle.std.specs.Prelude.{◌≤◌, ◌∷◌, []};
 ghost use Rattle.ts_node.specs.Inputs.{InputFits};
@@ -28,8 +28,8 @@ struct Records {
     second: Record<MemDisk, Number>,
 }
 
-/// What happens at a node: the message of a number is delivered, a command is submitted, the node asks for what it has not learned, or it
-/// restarts.
+/// What happens at a node: the message of a number is delivered, a command is submitted, the node
+/// asks for what it has not learned, or it restarts.
 #[derive(Clone, Copy)]
 enum Happens {
     Deliver(usize),
@@ -174,7 +174,8 @@ fn took(facts: &[Fact<Number>], place: u32, number: u64, value: u8) -> bool {
     false
 }
 
-/// Position and command of what both nodes took in one ballot: a majority, so the command is chosen there.
+/// Position and command of what both nodes took in one ballot: a majority, so the command is chosen
+/// there.
 fn chosen_by(alloc: Global, records: &Records) -> Result<Vec<(u32, u8)>, AllocError> {
     let mut chosen = Vec::new(alloc);
     for fact in records.first.facts() {
@@ -233,8 +234,8 @@ fn sum_of(a: Seen, b: Seen) -> Seen {
     }
 }
 
-/// What a fact of one node shows, with the facts of the other node and what was chosen before: that a command is chosen, that one is
-/// learned, and that the laws hold.
+/// What a fact of one node shows, with the facts of the other node and what was chosen before: that
+/// a command is chosen, that one is learned, and that the laws hold.
 fn look(
     fact: &Fact<Number>,
     others: &[Fact<Number>],
@@ -314,8 +315,8 @@ fn push_both(events: &mut Vec<Event>, node: u8, happens: Happens) -> Result<(), 
     Ok(())
 }
 
-/// The events that may come next: each message to its node, and what a client or the node itself does. Commands may change their
-/// names, so the first that is submitted is 1.
+/// The events that may come next: each message to its node, and what a client or the node itself
+/// does. Commands may change their names, so the first that is submitted is 1.
 fn next_events(alloc: Global, events: &[Event], sent: &[Sent]) -> Result<Vec<Event>, AllocError> {
     let mut next = Vec::new(alloc);
     for node in [1, 2] {
@@ -333,8 +334,9 @@ fn next_events(alloc: Global, events: &[Event], sent: &[Sent]) -> Result<Vec<Eve
     Ok(next)
 }
 
-/// Whether an event is to be tried behind others, where so many messages were sent before the last of them. Of two events at different
-/// nodes, of which the second delivers no message of the first, one order is enough, since the other leaves the same nodes.
+/// Whether an event is to be tried behind others, where so many messages were sent before the last
+/// of them. Of two events at different nodes, of which the second delivers no message of the first,
+/// one order is enough, since the other leaves the same nodes.
 fn is_in_order(events: &[Event], before: Option<usize>, event: &Event) -> bool {
     match (events.last(), before) {
         (Some(last), Some(before)) if event.node < last.node => {
@@ -344,8 +346,9 @@ fn is_in_order(events: &[Event], before: Option<usize>, event: &Event) -> bool {
     }
 }
 
-/// What each list of events shows that goes on from these, by at most so many more. Before the last of these so many messages were sent;
-/// where no number is given, the last of them stays in its place.
+/// What each list of events shows that goes on from these, by at most so many more. Before the last
+/// of these so many messages were sent; where no number is given, the last of them stays in its
+/// place.
 fn explore(
     alloc: Global,
     events: &mut Vec<Event>,
@@ -396,7 +399,8 @@ const PROMISED: [(u8, Happens); 5] = [
     (1, Happens::Deliver(3)),
 ];
 
-/// Then both nodes take the command, so it is chosen. Node 2 proposes command 2, and has the promises of both.
+/// Then both nodes take the command, so it is chosen. Node 2 proposes command 2, and has the
+/// promises of both.
 const OVERTAKEN: [(u8, Happens); 7] = [
     (1, Happens::Deliver(4)),
     (2, Happens::Deliver(5)),

@@ -7,7 +7,8 @@ use Rattle.ts_crl.specs.List.{CertificateList}
 use Rattle.ts_constraint.specs.Source.{Source}
 use Rattle.ts_policy.specs.Labels.{Label}
 
--- a trust anchor (6.1.1 (d)): its name, its public key, and the purposes that it is trusted for, None where for any
+-- a trust anchor (6.1.1 (d)): its name, its public key, and the purposes that it is trusted for,
+-- None where for any
 pub record TrustAnchor : Type 0 where
   pub name : List (List Attr)
   pub key : KeyInfo
@@ -18,7 +19,8 @@ pub record Asked : Type 0 where
   pub anchor : TrustAnchor
   -- the moment of the validation (6.1.1 (b))
   pub moment : ℤ
-  -- the purpose that the target is to have, as the content of an OBJECT IDENTIFIER, if one is asked for
+  -- the purpose that the target is to have, as the content of an OBJECT IDENTIFIER, if one is asked
+  -- for
   pub purpose : Option (List ℕ)
   -- user-initial-policy-set (6.1.1 (c)); none stands for any policy
   pub user_policies : List Label
@@ -30,7 +32,8 @@ pub record Asked : Type 0 where
   pub subtrees : Source
   -- whether a certificate whose status can't be determined is refused
   pub hard : Bool
-  -- the complete CRLs and the delta CRLs at hand, each in order, and whether delta CRLs are used (6.3.1 (b))
+  -- the complete CRLs and the delta CRLs at hand, each in order, and whether delta CRLs are used
+  -- (6.3.1 (b))
   pub lists : List CertificateList
   pub deltas : List CertificateList
   pub use_deltas : Bool

@@ -8,7 +8,8 @@ pub record Question : Type 0 where
   pub asked : Asked
   pub chain : List Certificate
 
--- a certificate of a chain, those above it (towards the anchor, the nearest first) and those below it
+-- a certificate of a chain, those above it (towards the anchor, the nearest first) and those below
+-- it
 pub record Link : Type 0 where
   pub above : List Certificate
   pub certificate : Certificate

@@ -1,6 +1,8 @@
--- The conditions of path validation (RFC 5280 6.1.3 to 6.1.5), each a statement on what is asked, the state variables at a
--- certificate, and the certificate. They are numbered in the order in which they are given as reasons.
-use Rattle.std.specs.Prelude.{◌≡◌, ◌≢◌, ℕ, zero, ◌-◌, ◌==◌, nat_lt, ◌≤ℤ◌, not, ◌||◌, Bool, true, false, List, ◌∷◌, Option, Some, None, IsTrue}
+-- The conditions of path validation (RFC 5280 6.1.3 to 6.1.5), each a statement on what is asked,
+-- the state variables at a certificate, and the certificate. They are numbered in the order in
+-- which they are given as reasons.
+use Rattle.std.specs.Prelude.{◌≡◌, ◌≢◌, ℕ, zero, ◌-◌, ◌==◌, nat_lt, ◌≤ℤ◌, not, ◌||◌, Bool, true}
+use Rattle.std.specs.Prelude.{false, List, ◌∷◌, Option, Some, None, IsTrue}
 use Rattle.ts_name.specs.Sameness.{canon_name}
 use Rattle.ts_cert.specs.Certificate.{Certificate}
 use Rattle.ts_name.specs.General.{GeneralName}
@@ -16,11 +18,13 @@ use Rattle.ts_revoke.specs.Status.{status_of}
 use Rattle.ts_path.specs.Asked.{TrustAnchor, Asked}
 use Rattle.ts_path.specs.Names.{is_self_issued}
 use Rattle.ts_path.specs.Purposes.{allow}
-use Rattle.ts_path.specs.Extensions.{is_ca, may_sign, purposes_of, explicit_policy_of, first_refused}
+use Rattle.ts_path.specs.Extensions.{is_ca, may_sign, purposes_of, explicit_policy_of}
+use Rattle.ts_path.specs.Extensions.{first_refused}
 use Rattle.ts_path.specs.State.{State, policies_at}
 
--- what the conditions at a certificate look at: the question, the state variables, what the certificates above state of policies (the
--- nearest first), the certificate, and whether it is the last
+-- what the conditions at a certificate look at: the question, the state variables, what the
+-- certificates above state of policies (the nearest first), the certificate, and whether it is the
+-- last
 pub record Site : Type 0 where
   pub asked : Asked
   pub state : State
@@ -51,7 +55,8 @@ pub data Condition : Type 0 where
 
 -- ---- the place in the chain
 
--- the anchor is trusted for the purpose that is asked, if one is: a condition on the first certificate alone
+-- the anchor is trusted for the purpose that is asked, if one is: a condition on the first
+-- certificate alone
 abbrev pub is_trusted : TrustAnchor → Option (List ℕ) → State → Bool
 is_trusted anchor wanted s = not (s.passed == 0) || allow wanted anchor.purposes
 
@@ -61,9 +66,11 @@ may_go_on s c = is_self_issued c || nat_lt 0 s.counters.max_path_length
 
 -- ---- names
 
--- the names of the certificate meet a condition of the sources of constraints, unless constraints do not bear on it
+-- the names of the certificate meet a condition of the sources of constraints, unless constraints
+-- do not bear on it
 abbrev pub NamesMeet : (List Source → List GeneralName → Type 0) → Site → Type 0
-NamesMeet Are x = ¬ (IsExempt x.certificate.tbsCertificate x.last) → Are x.state.sources (names_of x.certificate.tbsCertificate)
+NamesMeet Are x = ¬ (IsExempt x.certificate.tbsCertificate x.last)
+    → Are x.state.sources (names_of x.certificate.tbsCertificate)
 
 -- ---- policies
 
@@ -75,7 +82,8 @@ policies_to x = policies_at x.state x.certificate x.last ∷ x.policies_above
 abbrev pub NoPath : Site → Type 0
 NoPath x = (w : Path) → InT (policies_to x) w → ⊥
 
--- explicit_policy at the end: it falls by one (6.1.5 (a)), and is 0 where requireExplicitPolicy is stated as 0 (6.1.5 (b))
+-- explicit_policy at the end: it falls by one (6.1.5 (a)), and is 0 where requireExplicitPolicy is
+-- stated as 0 (6.1.5 (b))
 abbrev pub final_explicit : ℕ → Option ℕ → ℕ
 final_explicit counter (Some zero) = 0
 final_explicit counter other = counter - 1
@@ -89,7 +97,8 @@ NoneAccepted x = (p : Label) → Accepts x p → ⊥
 
 -- ---- revocation
 
--- the status of the certificate by the CRLs at hand, of which the key of its issuer is the working key (6.3)
+-- the status of the certificate by the CRLs at hand, of which the key of its issuer is the working
+-- key (6.3)
 abbrev pub status_at : Site → Status
 status_at x = status_of (record {
   certificate = x.certificate;
@@ -109,7 +118,8 @@ unfoldable pub Meets : Condition → Site → Type 0
 Meets anchor_purpose x = IsTrue (is_trusted x.asked.anchor x.asked.purpose x.state)
 -- the signature is good under the working key: 6.1.3 (a) (1)
 Meets signature x =
-    IsTrue (x.asked.good x.certificate.signatureAlgorithm.whole x.state.key x.certificate.tbs x.certificate.signatureValue)
+    IsTrue (x.asked.good x.certificate.signatureAlgorithm.whole x.state.key x.certificate.tbs
+    x.certificate.signatureValue)
 -- the moment is not before notBefore, and not after notAfter: 6.1.3 (a) (2)
 Meets too_early x = x.certificate.tbsCertificate.validity.not_before.moment ≤ℤ x.asked.moment
 Meets expired x = x.asked.moment ≤ℤ x.certificate.tbsCertificate.validity.not_after.moment
@@ -136,9 +146,12 @@ Meets key_usage x = x.last ≡ false → IsTrue (may_sign x.certificate.tbsCerti
 -- each critical extension is processed: 6.1.4 (o), 6.1.5 (f)
 Meets critical_extension x = first_refused x.certificate.tbsCertificate ≡ None
 -- of the last: explicit_policy is above 0 at the end, or a policy is accepted: 6.1.5 (g)
-Meets final_policy x = x.last ≡ true → ¬ ((final_explicit x.state.counters.explicit_policy (explicit_policy_of x.certificate.tbsCertificate) ≡ 0) × NoneAccepted x)
+Meets final_policy x = x.last ≡ true
+    → ¬ ((final_explicit x.state.counters.explicit_policy
+    (explicit_policy_of x.certificate.tbsCertificate) ≡ 0) × NoneAccepted x)
 -- its purposes, if it states some, allow the one that is asked: 4.2.1.12
-Meets purpose x = x.last ≡ true → IsTrue (allow x.asked.purpose (purposes_of x.certificate.tbsCertificate))
+Meets purpose x = x.last ≡ true
+    → IsTrue (allow x.asked.purpose (purposes_of x.certificate.tbsCertificate))
 
 abbrev pub number_of : Condition → ℕ
 number_of anchor_purpose = 1

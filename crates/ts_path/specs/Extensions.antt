@@ -1,5 +1,6 @@
 -- What the conditions ask of a certificate's extensions (RFC 5280 4.2, 6.1.4).
-use Rattle.std.specs.Prelude.{ℕ, Bool, true, false, not, ◌&&◌, ◌||◌, List, [], ◌∷◌, Option, Some, None, is_some, option_map, unwrap_or}
+use Rattle.std.specs.Prelude.{ℕ, Bool, true, false, not, ◌&&◌, ◌||◌, List, [], ◌∷◌, Option, Some}
+use Rattle.std.specs.Prelude.{None, is_some, option_map, unwrap_or}
 use Rattle.std.specs.List.{find, list_any}
 use Rattle.std.specs.Option.{option_and_then}
 use Rattle.std.specs.Str.{bytes_eq}
@@ -11,7 +12,8 @@ use Rattle.ts_ext.specs.Extension.{Extension}
 use Rattle.ts_ext.specs.Known.{known_at, identifier_of}
 use Rattle.ts_ext.specs.NamedBits.{bit}
 use Rattle.ts_ext.specs.Policies.{Information, Qualifier}
-use Rattle.ts_ext.specs.Reading.{basic_constraints_of, key_usage_of, policy_constraints_of, certificate_policies_of, ext_key_usage_of, skip_certs_of}
+use Rattle.ts_ext.specs.Reading.{basic_constraints_of, key_usage_of, policy_constraints_of}
+use Rattle.ts_ext.specs.Reading.{certificate_policies_of, ext_key_usage_of, skip_certs_of}
 use Rattle.ts_cert.specs.declared.version.Version.{Version}
 use Rattle.ts_cert.specs.declared.version.Version.TheVariants.{V1, V2, V3}
 use Rattle.ts_cert.specs.Certificate.{Tbs, all_extensions}
@@ -27,7 +29,8 @@ abbrev pub says_ca : Option BasicConstraints → Bool
 says_ca None = false
 says_ca (Some b) = b.ca
 
--- the certificate is of version 3 and basicConstraints has cA TRUE (6.1.4 (k)); this profile takes no earlier version for a CA's
+-- the certificate is of version 3 and basicConstraints has cA TRUE (6.1.4 (k)); this profile takes
+-- no earlier version for a CA's
 abbrev pub is_ca : Tbs → Bool
 is_ca t = is_v3 t.version && says_ca (stated extension.BasicConstraints basic_constraints_of t)
 
@@ -47,7 +50,8 @@ purposes_of t = stated extension.ExtendedKeyUsage ext_key_usage_of t
 
 -- pathLenConstraint (6.1.4 (m))
 abbrev pub path_length_of : Tbs → Option ℕ
-path_length_of t = option_and_then (λ b. b.path_len_constraint) (stated extension.BasicConstraints basic_constraints_of t)
+path_length_of t = option_and_then (λ b. b.path_len_constraint)
+    (stated extension.BasicConstraints basic_constraints_of t)
 
 abbrev pub constraints_of : Tbs → Option PolicyConstraints
 constraints_of t = stated extension.PolicyConstraints policy_constraints_of t
@@ -81,13 +85,16 @@ is_other q = not (bytes_eq q.policyQualifierId cps || bytes_eq q.policyQualifier
 abbrev pub is_qualified : Information → Bool
 is_qualified p = list_any is_other (unwrap_or p.policyQualifiers [])
 
--- one of the certificate's policies has: who processes a critical certificatePolicies must be able to interpret its qualifiers
+-- one of the certificate's policies has: who processes a critical certificatePolicies must be able
+-- to interpret its qualifiers
 abbrev pub has_other_qualifier : Tbs → Bool
-has_other_qualifier t = list_any is_qualified (unwrap_or (stated extension.CertificatePolicies certificate_policies_of t) [])
+has_other_qualifier t = list_any is_qualified
+    (unwrap_or (stated extension.CertificatePolicies certificate_policies_of t) [])
 
 -- the extension is one of those that this profile processes in a certificate
 abbrev pub is_processed : Tbs → List ℕ → Bool
-is_processed t id = is_some (known_at OfCertificate id) && not (bytes_eq id (identifier_of extension.CertificatePolicies) && has_other_qualifier t)
+is_processed t id = is_some (known_at OfCertificate id)
+    && not (bytes_eq id (identifier_of extension.CertificatePolicies) && has_other_qualifier t)
 
 abbrev pub is_refused : Tbs → Extension → Bool
 is_refused t x = x.critical && not (is_processed t x.extnID)

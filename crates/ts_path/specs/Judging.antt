@@ -1,5 +1,6 @@
 -- What a walk over the conditions at a certificate finds (in private clauses).
-use Rattle.std.specs.Prelude.{◌≡◌, ◌↔◌, ℕ, ◌+◌, ◌<◌, ◌-◌, min, Bool, true, false, List, [], ◌∷◌, ◌++◌, map, Option, Some, None}
+use Rattle.std.specs.Prelude.{◌≡◌, ◌↔◌, ℕ, ◌+◌, ◌<◌, ◌-◌, min, Bool, true, false, List, [], ◌∷◌}
+use Rattle.std.specs.Prelude.{◌++◌, map, Option, Some, None}
 use Rattle.std.specs.Str.{bytes_eq}
 use Rattle.ts_sig.specs.Key.{Key}
 use Rattle.ts_ext.specs.declared.known.Known.TheVariants.{KeyUsage}
@@ -19,7 +20,8 @@ use Rattle.ts_path.specs.declared.walk.Step.TheVariants.{Next, Stop}
 use Rattle.ts_path.specs.declared.walk.End.{End}
 use Rattle.ts_path.specs.declared.walk.End.TheVariants.{Accepted, Refused}
 use Rattle.ts_path.specs.Counters.{counted}
-use Rattle.ts_path.specs.Extensions.{path_length_of, explicit_policy_of, policy_mapping_of, any_policy_of}
+use Rattle.ts_path.specs.Extensions.{path_length_of, explicit_policy_of, policy_mapping_of}
+use Rattle.ts_path.specs.Extensions.{any_policy_of}
 use Rattle.ts_path.specs.State.{State, policies_at}
 use Rattle.ts_path.specs.WorkingKey.{own, or_inherited, subject_key}
 use Rattle.ts_path.specs.declared.reason.Reason.{Reason}
@@ -43,7 +45,8 @@ Finds n x (Some r) = FailsFirst x r
 
 -- ---- from a certificate to the one that follows it (6.1.4)
 
--- a counter falls by what the certificate counts, and is then lowered to a bound that the certificate states
+-- a counter falls by what the certificate counts, and is then lowered to a bound that the
+-- certificate states
 abbrev pub lowered : ℕ → Option ℕ → ℕ
 lowered counter None = counter
 lowered counter (Some bound) = min bound counter
@@ -63,7 +66,8 @@ counters_after k c = record {
 abbrev pub key_after : Key → KeyInfo → Key
 key_after before k = record {
   algorithm = k.algorithm.algorithm;
-  parameters = or_inherited (own k) (bytes_eq k.algorithm.algorithm before.algorithm) before.parameters;
+  parameters = or_inherited (own k)
+      (bytes_eq k.algorithm.algorithm before.algorithm) before.parameters;
   octets = k.subjectPublicKey;
 }
 
@@ -83,19 +87,25 @@ state_after s c = record {
 abbrev pub Took : Seen → Bool → Site → Type 0
 Took policies mapped x = policies ≡ record { certificates = policies_to x; mapped = mapped }
 
--- a certificate meets the conditions up to that on the valid policy tree, or one of these is the first that it does not meet
+-- a certificate meets the conditions up to that on the valid policy tree, or one of these is the
+-- first that it does not meet
 abbrev pub IsJudged : Site → Judged → Type 0
 IsJudged x (Met m) =
-    MeetsBelow 12 x × (m.state ≡ x.state) × Took m.policies false x × ((m.maps_any ≡ false) ↔ MapsNoAny (policies_at x.state x.certificate x.last))
+    MeetsBelow 12 x × (m.state ≡ x.state) × Took m.policies false x
+    × ((m.maps_any ≡ false) ↔ MapsNoAny (policies_at x.state x.certificate x.last))
 IsJudged x (Failed reason) = FailsFirst x reason
 
--- a certificate that is not the last meets all conditions, and the state is that at the next, or it does not meet one
+-- a certificate that is not the last meets all conditions, and the state is that at the next, or it
+-- does not meet one
 abbrev pub IsStep : Site → Step → Type 0
-IsStep x (Next w) = MeetsBelow 19 x × (w.state ≡ state_after x.state x.certificate) × Took w.policies true x
+IsStep x (Next w) = MeetsBelow 19 x × (w.state ≡ state_after x.state x.certificate)
+    × Took w.policies true x
 IsStep x (Stop reason) = FailsFirst x reason
 
--- the last certificate meets all conditions, and these are the policies that are accepted, or it does not meet one
+-- the last certificate meets all conditions, and these are the policies that are accepted, or it
+-- does not meet one
 abbrev pub IsEnd : Site → End → Type 0
 IsEnd x (Accepted policies) =
-    MeetsBelow 19 x × ((p : Label) → In p (map (λ p. p.now) policies.items) ↔ Accepts x p) × AreAscending (map (λ p. p.now) policies.items)
+    MeetsBelow 19 x × ((p : Label) → In p (map (λ p. p.now) policies.items) ↔ Accepts x p)
+    × AreAscending (map (λ p. p.now) policies.items)
 IsEnd x (Refused reason) = FailsFirst x reason

@@ -4,9 +4,16 @@ use Rattle.std.specs.Fmt.{decimal}
 use Rattle.ts_der.specs.ObjectIdentifier.{arcs}
 use Rattle.ts_der.specs.Dotted.{dotted}
 use Rattle.ts_path.specs.declared.reason.Reason.{Reason}
-use Rattle.ts_path.specs.declared.reason.Reason.TheVariants.{AnchorPurpose, Signature, TooEarly, Expired, Revoked, Undetermined, IssuerName, UnsupportedConstraint, NotPermitted, Excluded, PolicyRequired, MapsAny, NotCa, PathLength, KeyUsage, CriticalExtension, FinalPolicy, Purpose}
+use Rattle.ts_path.specs.declared.reason.Reason.TheVariants.{AnchorPurpose, Signature, TooEarly}
+use Rattle.ts_path.specs.declared.reason.Reason.TheVariants.{Expired, Revoked, Undetermined}
+use Rattle.ts_path.specs.declared.reason.Reason.TheVariants.{IssuerName, UnsupportedConstraint}
+use Rattle.ts_path.specs.declared.reason.Reason.TheVariants.{NotPermitted, Excluded, PolicyRequired}
+use Rattle.ts_path.specs.declared.reason.Reason.TheVariants.{MapsAny, NotCa, PathLength, KeyUsage}
+use Rattle.ts_path.specs.declared.reason.Reason.TheVariants.{CriticalExtension, FinalPolicy}
+use Rattle.ts_path.specs.declared.reason.Reason.TheVariants.{Purpose}
 
--- the name of the reason, and after a space the number of a revocation's reason or the object identifier of an extension
+-- the name of the reason, and after a space the number of a revocation's reason or the object
+-- identifier of an extension
 abbrev pub reason_text : Reason → List ℕ
 reason_text AnchorPurpose = codes "AnchorPurpose"
 reason_text Signature = codes "Signature"

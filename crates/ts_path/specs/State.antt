@@ -1,5 +1,7 @@
--- The state variables of path validation (RFC 5280 6.1.2) at a certificate, each as a statement about the certificates above it.
-use Rattle.std.specs.Prelude.{ℕ, suc, ◌==◌, Bool, true, false, List, [], ◌∷◌, ◌++◌, length, Option, Some, None, if◌then◌else◌}
+-- The state variables of path validation (RFC 5280 6.1.2) at a certificate, each as a statement
+-- about the certificates above it.
+use Rattle.std.specs.Prelude.{ℕ, suc, ◌==◌, Bool, true, false, List, [], ◌∷◌, ◌++◌, length, Option}
+use Rattle.std.specs.Prelude.{Some, None, if◌then◌else◌}
 use Rattle.ts_name.specs.Canon.{Attr}
 use Rattle.ts_sig.specs.Key.{Key}
 use Rattle.ts_ext.specs.declared.known.Known.TheVariants as extension
@@ -13,7 +15,8 @@ use Rattle.ts_path.specs.declared.counters.Counters.{Counters}
 use Rattle.ts_path.specs.Asked.{Asked, TrustAnchor}
 use Rattle.ts_path.specs.Names.{is_self_issued}
 use Rattle.ts_path.specs.Counters.{counter}
-use Rattle.ts_path.specs.Extensions.{path_length_of, explicit_policy_of, policy_mapping_of, any_policy_of}
+use Rattle.ts_path.specs.Extensions.{path_length_of, explicit_policy_of, policy_mapping_of}
+use Rattle.ts_path.specs.Extensions.{any_policy_of}
 use Rattle.ts_path.specs.WorkingKey.{working_key}
 
 pub record State : Type 0 where
@@ -44,16 +47,20 @@ abbrev pub sources_above : Source → List Certificate → List Source
 sources_above initial [] = initial ∷ []
 sources_above initial (c ∷ above) = sources_above initial above ++ source_of c.tbsCertificate ∷ []
 
--- where a counter of policies starts, in a chain of n certificates: at 0 if the flag is set, else where it can't reach 0 (6.1.2 (d) to (f))
+-- where a counter of policies starts, in a chain of n certificates: at 0 if the flag is set, else
+-- where it can't reach 0 (6.1.2 (d) to (f))
 abbrev pub start : ℕ → Bool → ℕ
 start n flag = if flag then 0 else suc n
 
 -- the counters in a chain of n certificates, at the certificate below these
 unfoldable pub counters_at : Asked → ℕ → List Certificate → Counters
 counters_at a n above = record {
-  explicit_policy = counter (λ c. explicit_policy_of c.tbsCertificate) (start n a.explicit_policy) above;
-  policy_mapping = counter (λ c. policy_mapping_of c.tbsCertificate) (start n a.inhibit_policy_mapping) above;
-  inhibit_any_policy = counter (λ c. any_policy_of c.tbsCertificate) (start n a.inhibit_any_policy) above;
+  explicit_policy = counter (λ c. explicit_policy_of c.tbsCertificate)
+      (start n a.explicit_policy) above;
+  policy_mapping = counter (λ c. policy_mapping_of c.tbsCertificate)
+      (start n a.inhibit_policy_mapping) above;
+  inhibit_any_policy = counter (λ c. any_policy_of c.tbsCertificate)
+      (start n a.inhibit_any_policy) above;
   max_path_length = counter (λ c. path_length_of c.tbsCertificate) n above;
 }
 

@@ -18,10 +18,15 @@ use Rattle.ts_path.specs.State.{State}
 use Rattle.ts_path.specs.Conditions.{Site}
 
 abbrev pub anchor_in : Anchor → TrustAnchor
-anchor_in a = record { name = rdns_in a.name; key = key_in a.key; purposes = option_map (λ ps. map (λ p. p.now) ps.now) a.purposes }
+anchor_in a = record {
+  name = rdns_in a.name;
+  key = key_in a.key;
+  purposes = option_map (λ ps. map (λ p. p.now) ps.now) a.purposes;
+}
 
 -- what is asked of a chain under a trust anchor
-abbrev pub asked_under : Inputs → Crls → (List ℕ → Key → List ℕ → List ℕ → Bool) → TrustAnchor → Asked
+abbrev pub asked_under : Inputs → Crls → (List ℕ → Key → List ℕ → List ℕ → Bool) → TrustAnchor
+    → Asked
 asked_under inputs crls good anchor = record {
   anchor = anchor;
   moment = inputs.moment;
@@ -30,7 +35,10 @@ asked_under inputs crls good anchor = record {
   explicit_policy = inputs.explicit_policy;
   inhibit_policy_mapping = inputs.inhibit_policy_mapping;
   inhibit_any_policy = inputs.inhibit_any_policy;
-  subtrees = record { permitted = bases_in inputs.permitted_subtrees.now; excluded = bases_in inputs.excluded_subtrees.now };
+  subtrees = record {
+    permitted = bases_in inputs.permitted_subtrees.now;
+    excluded = bases_in inputs.excluded_subtrees.now;
+  };
   hard = inputs.hard;
   lists = map crl_in crls.lists.now;
   deltas = map crl_in crls.deltas.now;
@@ -41,12 +49,17 @@ asked_under inputs crls good anchor = record {
 abbrev pub asked_in : Anchor → Inputs → Crls → (List ℕ → Key → List ℕ → List ℕ → Bool) → Asked
 asked_in anchor inputs crls good = asked_under inputs crls good (anchor_in anchor)
 
-abbrev pub question_in : Anchor → List Cert → Inputs → Crls → (List ℕ → Key → List ℕ → List ℕ → Bool) → Question
-question_in anchor chain inputs crls good = record { asked = asked_in anchor inputs crls good; chain = map cert_in chain }
+abbrev pub question_in : Anchor → List Cert → Inputs → Crls
+    → (List ℕ → Key → List ℕ → List ℕ → Bool) → Question
+question_in anchor chain inputs crls good =
+    record { asked = asked_in anchor inputs crls good; chain = map cert_in chain }
 
 -- what the conditions at a certificate look at
 abbrev pub at : Asked → State → List CertPolicies → Certificate → Bool → Site
-at asked state above c last = record { asked = asked; state = state; policies_above = above; certificate = c; last = last }
+at asked state above c last = record
+    { asked = asked; state = state; policies_above = above; certificate = c; last = last }
 
-abbrev pub site_in : Anchor → Inputs → Crls → (List ℕ → Key → List ℕ → List ℕ → Bool) → State → List CertPolicies → Certificate → Bool → Site
-site_in anchor inputs crls good state above c last = at (asked_in anchor inputs crls good) state above c last
+abbrev pub site_in : Anchor → Inputs → Crls → (List ℕ → Key → List ℕ → List ℕ → Bool) → State
+    → List CertPolicies → Certificate → Bool → Site
+site_in anchor inputs crls good state above c last =
+    at (asked_in anchor inputs crls good) state above c last

@@ -1,5 +1,7 @@
--- The key under which a certificate's signature is checked (RFC 5280 6.1.1 (d), 6.1.2 (g) to (i), 6.1.4 (d) to (f)).
-use Rattle.std.specs.Prelude.{◌≡◌, ℕ, Bool, true, false, List, [], ◌∷◌, ◌++◌, Option, Some, None, if◌then◌else◌}
+-- The key under which a certificate's signature is checked (RFC 5280 6.1.1 (d), 6.1.2 (g) to (i),
+-- 6.1.4 (d) to (f)).
+use Rattle.std.specs.Prelude.{◌≡◌, ℕ, Bool, true, false, List, [], ◌∷◌, ◌++◌, Option, Some, None}
+use Rattle.std.specs.Prelude.{if◌then◌else◌}
 use Rattle.std.specs.List.{AllByRecursion}
 use Rattle.std.specs.Str.{bytes_eq}
 use Rattle.ts_sig.specs.Key.{Key}
@@ -39,10 +41,15 @@ nearest_key anchor (c ∷ above) = subject_key c
 -- the parameters that the nearest key is used with: its own, or inherited
 unfoldable pub parameters_of : TrustAnchor → List Certificate → Option (List ℕ)
 parameters_of anchor [] = own anchor.key
-parameters_of anchor (c ∷ above) = or_inherited (own (subject_key c)) (is_alike (subject_key c) (nearest_key anchor above)) (parameters_of anchor above)
+parameters_of anchor (c ∷ above) = or_inherited (own (subject_key c))
+    (is_alike (subject_key c) (nearest_key anchor above)) (parameters_of anchor above)
 
 -- algorithm and octets of the nearest key, with these parameters
 abbrev pub working_key : TrustAnchor → List Certificate → Key
 working_key anchor above =
     let k = nearest_key anchor above in
-    record { algorithm = k.algorithm.algorithm; parameters = parameters_of anchor above; octets = k.subjectPublicKey }
+    record {
+      algorithm = k.algorithm.algorithm;
+      parameters = parameters_of anchor above;
+      octets = k.subjectPublicKey;
+    }

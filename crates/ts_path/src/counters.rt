@@ -3,7 +3,8 @@
 ghost use Rattle.std.specs.Prelude.{◌≡◌, ◌<◌, ◌-◌};
 ghost use Rattle.ts_cert.specs.CertView.{cert_in};
 ghost use Rattle.ts_path.specs.Counters.{counted};
-ghost use Rattle.ts_path.specs.Extensions.{path_length_of, explicit_policy_of, policy_mapping_of, any_policy_of};
+ghost use Rattle.ts_path.specs.Extensions.{path_length_of, explicit_policy_of, policy_mapping_of};
+ghost use Rattle.ts_path.specs.Extensions.{any_policy_of};
 ghost use Rattle.ts_path.specs.Judging.{lowered, counters_after};
 ghost use Rattle.ts_path.specs.State.{start};
 
@@ -11,7 +12,8 @@ use crate::inputs::Inputs;
 use crate::self_issued::is_self_issued;
 use ts_cert::Cert;
 
-/// explicit_policy, policy_mapping, inhibit_anyPolicy and max_path_length (RFC 5280 6.1.2 (d), (f), (e), (k)).
+/// explicit_policy, policy_mapping, inhibit_anyPolicy and max_path_length (RFC 5280 6.1.2 (d), (f),
+/// (e), (k)).
 #[derive(Clone, Copy)]
 pub(crate) struct Counters {
     pub(crate) explicit_policy: u32,
@@ -24,8 +26,10 @@ impl Counters {
     /// The counters at the first of some certificates.
     pub(crate) fn start(length: u8, inputs: &Inputs<'_>) -> Counters
         ensures explicit_policy { result.explicit_policy ≡ start length inputs.now.explicit_policy }
-        ensures policy_mapping { result.policy_mapping ≡ start length inputs.now.inhibit_policy_mapping }
-        ensures inhibit_any_policy { result.inhibit_any_policy ≡ start length inputs.now.inhibit_any_policy }
+        ensures policy_mapping { result.policy_mapping
+            ≡ start length inputs.now.inhibit_policy_mapping }
+        ensures inhibit_any_policy { result.inhibit_any_policy
+            ≡ start length inputs.now.inhibit_any_policy }
         ensures max_path_length { result.max_path_length ≡ length }
     {
         Counters {

@@ -10,7 +10,12 @@ ghost use Rattle.ts_ext.specs.Reading.{policy_qualifier_in};
 ghost use Rattle.ts_ext.specs.View.{information_in, qualifier_in, policies_in, purposes_in};
 ghost use Rattle.ts_cert.specs.CertView.{cert_in};
 ghost use Rattle.ts_path.specs.Purposes.{allow, stands_for as stands_for_of};
-ghost use Rattle.ts_path.specs.Extensions.{is_ca as is_ca_of, may_sign as may_sign_of, purposes_of, is_other as is_other_of, is_qualified as is_qualified_of, has_other_qualifier as has_other_qualifier_of, is_processed as is_processed_of, is_refused, first_refused as first_refused_of};
+ghost use Rattle.ts_path.specs.Extensions.{is_ca as is_ca_of, may_sign as may_sign_of, purposes_of};
+ghost use Rattle.ts_path.specs.Extensions.{is_other as is_other_of};
+ghost use Rattle.ts_path.specs.Extensions.{is_qualified as is_qualified_of};
+ghost use Rattle.ts_path.specs.Extensions.{has_other_qualifier as has_other_qualifier_of};
+ghost use Rattle.ts_path.specs.Extensions.{is_processed as is_processed_of, is_refused};
+ghost use Rattle.ts_path.specs.Extensions.{first_refused as first_refused_of};
 
 use ts_cert::{Cert, Version};
 use ts_der::OidRef;
@@ -66,7 +71,8 @@ fn stands_for(asked: &[u8], purpose: &[u8]) -> bool
 
 /// Whether an anchor's purposes allow the one that is asked.
 pub(crate) fn is_trusted_for(asked: Option<&[u8]>, purposes: Option<&[&[u8]]>) -> bool
-    ensures { result ≡ allow (option_map (λ p. p.now) asked.entry) (option_map (λ ps. map (λ p. p.now) ps.now) purposes.entry) }
+    ensures { result ≡ allow (option_map (λ p. p.now) asked.entry)
+        (option_map (λ ps. map (λ p. p.now) ps.now) purposes.entry) }
 {
     match (asked, purposes) {
         (Some(asked), Some(purposes)) => hold(purposes, asked),
@@ -90,7 +96,8 @@ fn hold(purposes: &[&[u8]], asked: &[u8]) -> bool
 
 /// Whether the purposes that a certificate states allow the one that is asked (RFC 5280 4.2.1.12).
 pub(crate) fn is_meant_for(asked: Option<&[u8]>, cert: &Cert<'_>) -> bool
-    ensures { result ≡ allow (option_map (λ p. p.now) asked.entry) (purposes_of (cert_in cert.now).tbsCertificate) }
+    ensures { result ≡ allow (option_map (λ p. p.now) asked.entry)
+        (purposes_of (cert_in cert.now).tbsCertificate) }
 {
     match (asked, cert.extended_key_usage()) {
         (Some(asked), Some(purposes)) => have(purposes, asked),
@@ -132,7 +139,8 @@ fn is_qualified(policy: PolicyInformation<'_>) -> bool
 
 /// Whether one of the qualifiers is neither.
 fn any_other<'a>(qualifiers: SequenceOf<'a, PolicyQualifier<'a>>) -> bool
-    ensures { result ≡ list_any is_other_of (items_at policy_qualifier_in (inside (now qualifiers.entry.element))) }
+    ensures { result ≡ list_any is_other_of
+        (items_at policy_qualifier_in (inside (now qualifiers.entry.element))) }
 {
     for qualifier in qualifiers.iter() {
         if is_other(qualifier) {
@@ -177,16 +185,20 @@ fn is_processed(cert: &Cert<'_>, id: OidRef<'_>) -> bool
     !has_other_qualifier(cert)
 }
 
-/// The first critical extension of a certificate, by its place, that is not processed (RFC 5280 6.1.4 (o), 6.1.5 (f)).
+/// The first critical extension of a certificate, by its place, that is not processed (RFC 5280
+/// 6.1.4 (o), 6.1.5 (f)).
 pub(crate) fn first_refused<'a>(cert: &Cert<'a>) -> Option<OidRef<'a>>
-    ensures { option_map (λ id. id.content.now) result ≡ first_refused_of (cert_in cert.now).tbsCertificate }
+    ensures { option_map (λ id. id.content.now) result
+        ≡ first_refused_of (cert_in cert.now).tbsCertificate }
 {
     first_among(cert, cert.extensions()?)
 }
 
 /// The first of these extensions that is critical and not processed in the certificate.
 fn first_among<'a>(cert: &Cert<'a>, extensions: Extensions<'a>) -> Option<OidRef<'a>>
-    ensures { option_map (λ id. id.content.now) result ≡ option_map (λ x. x.extnID) (find (is_refused (cert_in cert.now).tbsCertificate) (extensions_in extensions.entry)) }
+    ensures { option_map (λ id. id.content.now) result
+        ≡ option_map (λ x. x.extnID) (find (is_refused (cert_in cert.now).tbsCertificate)
+        (extensions_in extensions.entry)) }
 {
     for extension in extensions.iter() {
         if extension.critical && !is_processed(cert, extension.id) {

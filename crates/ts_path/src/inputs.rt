@@ -5,7 +5,8 @@ ghost use Rattle.std.specs.Prelude.{◌≡◌, [], None, false};
 use ts_name::Subtree;
 use ts_time::Moment;
 
-/// The inputs of path validation (RFC 5280 6.1.1). Policies and purposes are the content octets of their object identifiers.
+/// The inputs of path validation (RFC 5280 6.1.1). Policies and purposes are the content octets of
+/// their object identifiers.
 #[derive(Clone, Copy)]
 pub struct Inputs<'a> {
     /// The moment at which the chain is judged (6.1.1 (b)).
@@ -31,12 +32,13 @@ pub struct Inputs<'a> {
 }
 
 impl<'a> Inputs<'a> {
-    /// The inputs that ask for nothing but a moment: any policy, any names and any purpose are accepted, and a certificate
-    /// whose status can't be determined.
+    /// The inputs that ask for nothing but a moment: any policy, any names and any purpose are
+    /// accepted, and a certificate whose status can't be determined.
     pub fn at(moment: Moment) -> Inputs<'a>
         ensures moment { result.moment ≡ moment }
         ensures purpose { result.purpose ≡ None }
-        ensures policies { (result.user_policies.now ≡ []) × (result.explicit_policy ≡ false) × (result.inhibit_policy_mapping ≡ false) × (result.inhibit_any_policy ≡ false) }
+        ensures policies { (result.user_policies.now ≡ []) × (result.explicit_policy ≡ false)
+            × (result.inhibit_policy_mapping ≡ false) × (result.inhibit_any_policy ≡ false) }
         ensures names { (result.permitted_subtrees.now ≡ []) × (result.excluded_subtrees.now ≡ []) }
         ensures revocation { (result.hard ≡ false) × (result.use_deltas ≡ false) }
     {

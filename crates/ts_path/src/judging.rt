@@ -1,6 +1,7 @@
 //! The conditions on a certificate that ask nothing of policies, one by one.
 
-ghost use Rattle.std.specs.Prelude.{◌≡◌, ◌↔◌, ◌≤ℤ◌, IfOk, IsTrue, Bool, List, [], false, map, option_map};
+ghost use Rattle.std.specs.Prelude.{◌≡◌, ◌↔◌, ◌≤ℤ◌, IfOk, IsTrue, Bool, List, [], false, map};
+ghost use Rattle.std.specs.Prelude.{option_map};
 ghost use Rattle.ts_name.specs.Sameness.{canon_name};
 ghost use Rattle.ts_cert.specs.CertView.{cert_in};
 ghost use Rattle.ts_constraint.specs.Conditions.{IsExempt, IsAnswer};
@@ -12,7 +13,8 @@ ghost use Rattle.ts_policy.specs.Seen.{InPaths};
 ghost use Rattle.ts_revoke.specs.declared.crls.Crls.{Crls as CrlsOf};
 ghost use Rattle.ts_path.specs.declared.anchor.Anchor.{Anchor as AnchorOf};
 ghost use Rattle.ts_path.specs.Asked.{Asked};
-ghost use Rattle.ts_path.specs.Conditions.{Site, status_at, final_explicit as final_explicit_of, is_trusted as is_trusted_of, may_go_on as may_go_on_of};
+ghost use Rattle.ts_path.specs.Conditions.{Site, status_at, final_explicit as final_explicit_of};
+ghost use Rattle.ts_path.specs.Conditions.{is_trusted as is_trusted_of, may_go_on as may_go_on_of};
 ghost use Rattle.ts_path.specs.Extensions.{explicit_policy_of};
 ghost use Rattle.ts_path.specs.State.{policies_at};
 ghost use Rattle.ts_path.specs.View.{anchor_in, site_in, at};
@@ -33,20 +35,24 @@ use ts_revoke::{Crls, Issuer, Status, status};
 use ts_sig::SignatureCheck;
 
 fn has_begun(cert: &Cert<'_>, inputs: &Inputs<'_>) -> bool
-    ensures { IsTrue result ↔ ((cert_in cert.now).tbsCertificate.validity.not_before.moment ≤ℤ inputs.now.moment) }
+    ensures { IsTrue result ↔ ((cert_in cert.now).tbsCertificate.validity.not_before.moment ≤ℤ
+        inputs.now.moment) }
 {
     cert.validity().not_before.moment <= inputs.moment
 }
 
 fn has_not_ended(cert: &Cert<'_>, inputs: &Inputs<'_>) -> bool
-    ensures { IsTrue result ↔ (inputs.now.moment ≤ℤ (cert_in cert.now).tbsCertificate.validity.not_after.moment) }
+    ensures { IsTrue result ↔ (inputs.now.moment ≤ℤ
+        (cert_in cert.now).tbsCertificate.validity.not_after.moment) }
 {
     inputs.moment <= cert.validity().not_after.moment
 }
 
 impl<'a> State<'a> {
     fn is_signed<S: SignatureCheck>(&self, cert: &Cert<'a>, check: &S) -> bool
-        ensures { result ≡ S.accepts check.now (cert_in cert.now).signatureAlgorithm.whole self.now.key (cert_in cert.now).tbs (cert_in cert.now).signatureValue }
+        ensures { result ≡ S.accepts check.now
+            (cert_in cert.now).signatureAlgorithm.whole self.now.key (cert_in cert.now).tbs
+            (cert_in cert.now).signatureValue }
     {
         check.good(
             cert.signature_algorithm().whole,
@@ -56,9 +62,11 @@ impl<'a> State<'a> {
         )
     }
 
-    /// Whether the anchor is trusted for the purpose that is asked, which is asked of the first certificate alone.
+    /// Whether the anchor is trusted for the purpose that is asked, which is asked of the first
+    /// certificate alone.
     fn is_trusted(&self, anchor: &Anchor<'a>, inputs: &Inputs<'a>) -> bool
-        ensures { result ≡ is_trusted_of (anchor_in anchor.now) (option_map (λ p. p.now) inputs.now.purpose) self.now }
+        ensures { result ≡ is_trusted_of (anchor_in anchor.now)
+            (option_map (λ p. p.now) inputs.now.purpose) self.now }
     {
         self.passed != 0 || is_trusted_for(inputs.purpose, anchor.purposes)
     }
@@ -73,18 +81,21 @@ impl<'a> State<'a> {
     /// Whether the names of the certificate meet the constraints above it.
     fn check_names(&self, cert: &Cert<'a>, last: bool) -> Result<(), NameFault>
         ensures exempt { IsExempt (cert_in cert.now).tbsCertificate last → result ≡ Ok tt }
-        ensures checked { ¬ (IsExempt (cert_in cert.now).tbsCertificate last) → IsAnswer self.now.sources (names_of (cert_in cert.now).tbsCertificate) result }
+        ensures checked { ¬ (IsExempt (cert_in cert.now).tbsCertificate last)
+            → IsAnswer self.now.sources (names_of (cert_in cert.now).tbsCertificate) result }
     {
         self.bounds.check(cert, last)
     }
 
     fn is_issued(&self, cert: &Cert<'a>) -> bool
-        ensures { IsTrue result ↔ (canon_name (cert_in cert.now).tbsCertificate.issuer ≡ canon_name self.now.name) }
+        ensures { IsTrue result ↔ (canon_name (cert_in cert.now).tbsCertificate.issuer
+            ≡ canon_name self.now.name) }
     {
         cert.issuer().same(self.name)
     }
 
-    /// The first condition that the certificate does not meet, of those on the anchor, the signature and the time.
+    /// The first condition that the certificate does not meet, of those on the anchor, the
+    /// signature and the time.
     fn first_of_origin<S: SignatureCheck>(
         &self,
         anchor: &Anchor<'a>,
@@ -92,7 +103,9 @@ impl<'a> State<'a> {
         check: &S,
         cert: &Cert<'a>,
     ) -> Option<Reason<'a>>
-        ensures { (crls : CrlsOf) (above : List CertPolicies) (last : Bool) → Finds 5 (site_in anchor.now inputs.now crls (S.accepts check.now) self.now above (cert_in cert.now) last) result }
+        ensures { (crls : CrlsOf) (above : List CertPolicies) (last : Bool)
+            → Finds 5 (site_in anchor.now inputs.now crls (S.accepts check.now) self.now above
+            (cert_in cert.now) last) result }
     {
         if !self.is_trusted(anchor, inputs) {
             return Some(Reason::AnchorPurpose);
@@ -117,7 +130,9 @@ impl<'a> State<'a> {
         check: &S,
         cert: &Cert<'a>,
     ) -> Status
-        ensures { (anchor : AnchorOf) (above : List CertPolicies) (last : Bool) → result ≡ status_at (site_in anchor inputs.now crls.now (S.accepts check.now) self.now above (cert_in cert.now) last) }
+        ensures { (anchor : AnchorOf) (above : List CertPolicies) (last : Bool)
+            → result ≡ status_at (site_in anchor inputs.now crls.now
+            (S.accepts check.now) self.now above (cert_in cert.now) last) }
     {
         let issuer = Issuer {
             key: self.key,
@@ -134,7 +149,9 @@ impl<'a> State<'a> {
         check: &S,
         cert: &Cert<'a>,
     ) -> Option<Reason<'a>>
-        ensures { (anchor : AnchorOf) (above : List CertPolicies) (last : Bool) → let x = site_in anchor inputs.now crls.now (S.accepts check.now) self.now above (cert_in cert.now) last in MeetsBelow 5 x → Finds 7 x result }
+        ensures { (anchor : AnchorOf) (above : List CertPolicies) (last : Bool)
+            → let x = site_in anchor inputs.now crls.now (S.accepts check.now) self.now above
+            (cert_in cert.now) last in MeetsBelow 5 x → Finds 7 x result }
     {
         match self.status(inputs, crls, check, cert) {
             Status::Good => None,
@@ -148,8 +165,8 @@ impl<'a> State<'a> {
         }
     }
 
-    /// The first of the conditions that ask nothing of policies, of the certificate's place in the chain and of its extensions
-    /// that it does not meet (RFC 5280 6.1.3 (a) to (c)).
+    /// The first of the conditions that ask nothing of policies, of the certificate's place in the
+    /// chain and of its extensions that it does not meet (RFC 5280 6.1.3 (a) to (c)).
     pub(crate) fn first_of_basics<S: SignatureCheck>(
         &self,
         anchor: &Anchor<'a>,
@@ -159,7 +176,9 @@ impl<'a> State<'a> {
         cert: &Cert<'a>,
         last: bool,
     ) -> Option<Reason<'a>>
-        ensures { (above : List CertPolicies) → Finds 11 (site_in anchor.now inputs.now crls.now (S.accepts check.now) self.now above (cert_in cert.now) last) result }
+        ensures { (above : List CertPolicies)
+            → Finds 11 (site_in anchor.now inputs.now crls.now (S.accepts check.now) self.now above
+            (cert_in cert.now) last) result }
     {
         if let Some(reason) = self.first_of_origin(anchor, inputs, check, cert) {
             return Some(reason);
@@ -172,7 +191,9 @@ impl<'a> State<'a> {
 
     /// The first condition on names that the certificate does not meet.
     fn first_of_names(&self, cert: &Cert<'a>, last: bool) -> Option<Reason<'a>>
-        ensures { (asked : Asked) (above : List CertPolicies) → MeetsBelow 7 (at asked self.now above (cert_in cert.now) last) → Finds 11 (at asked self.now above (cert_in cert.now) last) result }
+        ensures { (asked : Asked) (above : List CertPolicies)
+            → MeetsBelow 7 (at asked self.now above (cert_in cert.now) last)
+            → Finds 11 (at asked self.now above (cert_in cert.now) last) result }
     {
         if !self.is_issued(cert) {
             return Some(Reason::IssuerName);
@@ -185,9 +206,12 @@ impl<'a> State<'a> {
         }
     }
 
-    /// The first condition on a certificate that issues another that it does not meet, but for that on its policies.
+    /// The first condition on a certificate that issues another that it does not meet, but for that
+    /// on its policies.
     pub(crate) fn first_of_issuer(&self, cert: &Cert<'a>) -> Option<Reason<'a>>
-        ensures { (asked : Asked) (above : List CertPolicies) → MeetsBelow 13 (at asked self.now above (cert_in cert.now) false) → Finds 16 (at asked self.now above (cert_in cert.now) false) result }
+        ensures { (asked : Asked) (above : List CertPolicies)
+            → MeetsBelow 13 (at asked self.now above (cert_in cert.now) false)
+            → Finds 16 (at asked self.now above (cert_in cert.now) false) result }
     {
         if !is_ca(cert) {
             return Some(Reason::NotCa);
@@ -224,15 +248,17 @@ impl<'a> State<'a> {
 
     /// Whether a policy is required, and no policy path is left.
     pub(crate) fn lacks_policy(&self, policies: &Policies<'a>) -> bool
-        ensures { IsTrue result ↔ ((self.now.counters.explicit_policy ≡ 0) × ((w : Path) → InPaths policies.now w → ⊥)) }
+        ensures { IsTrue result ↔ ((self.now.counters.explicit_policy ≡ 0)
+            × ((w : Path) → InPaths policies.now w → ⊥)) }
     {
         self.counters.explicit_policy == 0 && policies.is_empty()
     }
 
-    /// explicit_policy at the end: it falls by one, and is 0 where the last certificate states requireExplicitPolicy as 0
-    /// (RFC 5280 6.1.5 (a), (b)).
+    /// explicit_policy at the end: it falls by one, and is 0 where the last certificate states
+    /// requireExplicitPolicy as 0 (RFC 5280 6.1.5 (a), (b)).
     pub(crate) fn final_explicit(&self, cert: &Cert<'a>) -> u32
-        ensures { result ≡ final_explicit_of self.now.counters.explicit_policy (explicit_policy_of (cert_in cert.now).tbsCertificate) }
+        ensures { result ≡ final_explicit_of self.now.counters.explicit_policy
+            (explicit_policy_of (cert_in cert.now).tbsCertificate) }
     {
         match explicit_policy(cert) {
             Some(0) => 0,

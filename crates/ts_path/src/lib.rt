@@ -1,5 +1,5 @@
-//! Path validation (RFC 5280 6.1): whether a chain of certificates is good under a trust anchor at a moment, and if not,
-//! the first reason.
+//! Path validation (RFC 5280 6.1): whether a chain of certificates is good under a trust anchor at
+//! a moment, and if not, the first reason.
 //!
 //! ```text
 //! match validate(alloc, &anchor, &chain, &inputs, &check)? {

@@ -16,8 +16,9 @@ use ts_sig::SignatureCheck;
 /// The greatest number of certificates in a chain.
 pub const MAX_CHAIN: usize = 16;
 
-/// The verdict on a chain of 1 to [`MAX_CHAIN`] certificates under a trust anchor (RFC 5280 6.1). The first of them is the one
-/// that the anchor issued, the last is the target. A signature is checked at most once.
+/// The verdict on a chain of 1 to [`MAX_CHAIN`] certificates under a trust anchor (RFC 5280 6.1).
+/// The first of them is the one that the anchor issued, the last is the target. A signature is
+/// checked at most once.
 ///
 /// # Errors
 ///
@@ -32,7 +33,8 @@ pub fn validate<'a, S: SignatureCheck>(
 ) -> Result<Verdict<'a>, AllocError>
     requires some { 1 ≤ length chain.now }
     requires few { length chain.now ≤ 16 }
-    ensures { IfOk result (IsVerdict (question_in anchor.now chain.now inputs.now crls.now (S.accepts check.now))) }
+    ensures { IfOk result (IsVerdict
+        (question_in anchor.now chain.now inputs.now crls.now (S.accepts check.now))) }
 {
     let mut walk = Walk::start(alloc, anchor, inputs, chain.len() as u8)?;
     let mut rest = chain;

@@ -8,8 +8,8 @@ ghost use Rattle.ts_path.specs.Printed.{reason_text};
 use std::fmt;
 use ts_der::OidRef;
 
-/// The condition that a certificate of the chain does not meet (RFC 5280 6.1.3 to 6.1.5), in the order in which they
-/// are judged.
+/// The condition that a certificate of the chain does not meet (RFC 5280 6.1.3 to 6.1.5), in the
+/// order in which they are judged.
 #[derive(Clone, Copy, Debug)]
 pub enum Reason<'a> {
     /// The anchor is not trusted for the purpose that is asked.

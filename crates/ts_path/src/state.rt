@@ -44,7 +44,14 @@ impl<'a> Model for State<'a> {
 
     ghost Value = { State };
 
-    ghost view = { λ s. record { passed = s.passed; name = rdns_in s.name; key = key_of s.key; usage = option_map (λ u. bits_in u.bits) s.usage; sources = s.bounds; counters = s.counters } };
+    ghost view = { λ s. record {
+      passed = s.passed;
+      name = rdns_in s.name;
+      key = key_of s.key;
+      usage = option_map (λ u. bits_in u.bits) s.usage;
+      sources = s.bounds;
+      counters = s.counters;
+    } };
 }
 
 impl<'a> State<'a> {
@@ -55,7 +62,8 @@ impl<'a> State<'a> {
         inputs: &Inputs<'a>,
         length: u8,
     ) -> Result<Self, AllocError>
-        ensures { IfOk result (λ s. (crls : CrlsOf) (good : List ℕ → Key → List ℕ → List ℕ → Bool) → s ≡ state_at (asked_in anchor.now inputs.now crls good) length []) }
+        ensures { IfOk result (λ s. (crls : CrlsOf) (good : List ℕ → Key → List ℕ → List ℕ → Bool)
+            → s ≡ state_at (asked_in anchor.now inputs.now crls good) length []) }
     {
         Ok(State {
             passed: 0,

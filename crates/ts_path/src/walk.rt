@@ -71,8 +71,11 @@ impl<'a> Walk<'a> {
         inputs: &Inputs<'a>,
         length: u8,
     ) -> Result<Walk<'a>, AllocError>
-        ensures state { IfOk result (λ w. (crls : CrlsOf) (good : List ℕ → Key → List ℕ → List ℕ → Bool) → w.state ≡ state_at (asked_in anchor.now inputs.now crls good) length []) }
-        ensures policies { IfOk result (λ w. w.policies ≡ record { certificates = []; mapped = true }) }
+        ensures state { IfOk result (λ w. (crls : CrlsOf)
+            (good : List ℕ → Key → List ℕ → List ℕ → Bool)
+            → w.state ≡ state_at (asked_in anchor.now inputs.now crls good) length []) }
+        ensures policies { IfOk result
+            (λ w. w.policies ≡ record { certificates = []; mapped = true }) }
     {
         Ok(Walk {
             state: State::start(alloc, anchor, inputs, length)?,
@@ -100,7 +103,9 @@ impl<'a> Walk<'a> {
     ) -> Result<Step<'a>, AllocError>
         requires mapped { self.policies.mapped ≡ true }
         requires room { self.state.passed < 255 }
-        ensures { IfOk result (IsStep (site_in anchor.now inputs.now crls.now (S.accepts check.now) self.entry.state self.entry.policies.certificates (cert_in cert.now) false)) }
+        ensures { IfOk result (IsStep (site_in anchor.now inputs.now crls.now
+            (S.accepts check.now) self.entry.state self.entry.policies.certificates
+            (cert_in cert.now) false)) }
     {
         let met = match self.judge(alloc, anchor, inputs, crls, check, cert, false)? {
             Judged::Met(met) => met,
@@ -132,7 +137,9 @@ impl<'a> Walk<'a> {
         cert: &Cert<'a>,
     ) -> Result<End<'a>, AllocError>
         requires { self.policies.mapped ≡ true }
-        ensures { IfOk result (IsEnd (site_in anchor.now inputs.now crls.now (S.accepts check.now) self.entry.state self.entry.policies.certificates (cert_in cert.now) true)) }
+        ensures { IfOk result (IsEnd (site_in anchor.now inputs.now crls.now
+            (S.accepts check.now) self.entry.state self.entry.policies.certificates
+            (cert_in cert.now) true)) }
     {
         let met = match self.judge(alloc, anchor, inputs, crls, check, cert, true)? {
             Judged::Met(met) => met,
@@ -164,7 +171,10 @@ impl<'a> Walk<'a> {
         last: bool,
     ) -> Result<Judged<'a>, AllocError>
         requires { self.policies.mapped ≡ true }
-        ensures { IfOk result (IsJudged (site_in anchor.now inputs.now crls.now (S.accepts check.now) self.entry.state self.entry.policies.certificates (cert_in cert.now) last)) }
+        ensures { IfOk result (IsJudged
+            (site_in anchor.now inputs.now crls.now
+            (S.accepts check.now) self.entry.state self.entry.policies.certificates
+            (cert_in cert.now) last)) }
     {
         let state = self.state;
         if let Some(reason) = state.first_of_basics(anchor, inputs, crls, check, cert, last) {

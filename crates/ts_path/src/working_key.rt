@@ -23,9 +23,14 @@ fn stated_parameters(parameters: Option<&[u8]>) -> Option<&[u8]>
     }
 }
 
-/// The key of an anchor, which has no issuer whose parameters it could inherit (RFC 5280 6.1.2 (g) to (i)).
+/// The key of an anchor, which has no issuer whose parameters it could inherit (RFC 5280 6.1.2 (g)
+/// to (i)).
 pub(crate) fn key_of_anchor<'a>(key: &SubjectPublicKeyInfo<'a>) -> WorkingKey<'a>
-    ensures { key_of result ≡ record { algorithm = (key_in key.now).algorithm.algorithm; parameters = own (key_in key.now); octets = (key_in key.now).subjectPublicKey } }
+    ensures { key_of result ≡ record {
+      algorithm = (key_in key.now).algorithm.algorithm;
+      parameters = own (key_in key.now);
+      octets = (key_in key.now).subjectPublicKey;
+    } }
 {
     WorkingKey {
         algorithm: key.algorithm.algorithm,
@@ -34,8 +39,8 @@ pub(crate) fn key_of_anchor<'a>(key: &SubjectPublicKeyInfo<'a>) -> WorkingKey<'a
     }
 }
 
-/// The key of a certificate, which inherits the parameters of the key before it if it states none and has the same algorithm
-/// (RFC 5280 6.1.4 (d) to (f)).
+/// The key of a certificate, which inherits the parameters of the key before it if it states none
+/// and has the same algorithm (RFC 5280 6.1.4 (d) to (f)).
 pub(crate) fn key_after<'a>(
     before: &WorkingKey<'a>,
     key: &SubjectPublicKeyInfo<'a>,

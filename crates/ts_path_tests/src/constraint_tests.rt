@@ -1,4 +1,5 @@
-//! Names of certificates against sources of constraints. The certificates are written by another tool; their signatures are empty.
+//! Names of certificates against sources of constraints. The certificates are written by another
+//! tool; their signatures are empty.
 
 use std::alloc::Global;
 use ts_cert::Cert;

@@ -1,5 +1,5 @@
-//! Rows by hand: one certificate under one anchor, and chains of three. The octets and the digests were made by another tool. The
-//! other rules are shown by scripts of the lab.
+//! Rows by hand: one certificate under one anchor, and chains of three. The octets and the digests
+//! were made by another tool. The other rules are shown by scripts of the lab.
 
 use std::alloc::Global;
 use ts_cert::Cert;
@@ -50,7 +50,8 @@ const FIRST: i64 = 1_767_225_600;
 /// 2027-01-01, its last.
 const LAST: i64 = 1_798_761_600;
 
-/// The verdict on one certificate under a root, both in DER, at a moment. `None`: octets that are no certificate, or want of memory.
+/// The verdict on one certificate under a root, both in DER, at a moment. `None`: octets that are
+/// no certificate, or want of memory.
 fn verdict<'a>(alloc: Global, root: &'a [u8], leaf: &'a [u8], at: Moment) -> Option<Verdict<'a>> {
     let anchor = Anchor::of(&Cert::read(root).ok()?);
     let chain = [Cert::read(leaf).ok()?];
@@ -58,13 +59,14 @@ fn verdict<'a>(alloc: Global, root: &'a [u8], leaf: &'a [u8], at: Moment) -> Opt
     validate(alloc, &anchor, &chain, &inputs, &Crls::none(), &DigestCheck).ok()
 }
 
-/// The position of the certificate and the number of the reason, none where a chain of one certificate is valid. The outer `None` is
-/// want of memory, or that octets are no certificate.
+/// The position of the certificate and the number of the reason, none where a chain of one
+/// certificate is valid. The outer `None` is want of memory, or that octets are no certificate.
 fn judge(alloc: Global, anchor: &[u8], cert: &[u8], moment: i64) -> Option<Option<(u8, u8)>> {
     Some(answer(&verdict(alloc, anchor, cert, Moment(moment))?))
 }
 
-/// The same for a chain of three with this CA in the middle, whose signatures are listed in a table.
+/// The same for a chain of three with this CA in the middle, whose signatures are listed in a
+/// table.
 fn judge_three(alloc: Global, middle: &'static [u8]) -> Option<Option<(u8, u8)>> {
     let table = TableCheck::read(alloc, CHECKED).ok()?;
     let root = Cert::read(KEYED).ok()?;
@@ -93,8 +95,8 @@ fn answer(verdict: &Verdict<'_>) -> Option<(u8, u8)> {
     }
 }
 
-/// An anchor, a certificate and a moment, with the position and the number of the reason, none where the chain is
-/// valid.
+/// An anchor, a certificate and a moment, with the position and the number of the reason, none
+/// where the chain is valid.
 const CHAINS: [(&[u8], &[u8], i64, Option<(u8, u8)>); 12] = [
     (R, L, JUNE, None),
     (R, L, FIRST, None),

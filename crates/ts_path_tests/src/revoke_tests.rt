@@ -33,7 +33,8 @@ fn anchor() -> Issuer<'static> {
     }
 }
 
-/// The status in June under two CRLs, of which the second may be absent. There is a delta CRL that is not used.
+/// The status in June under two CRLs, of which the second may be absent. There is a delta CRL that
+/// is not used.
 fn under(cert: &[u8], first: &[u8], second: &[u8]) -> Option<Status> {
     if second.is_empty() {
         return Some(with_delta(cert, first, D_1)?.0);
@@ -254,7 +255,8 @@ fn lets_the_entry_of_a_delta_decide(rt: HostRuntime) {
     }
 }
 
-/// The status in June under two CRLs, and how many signatures are checked for it. There is a delta CRL that is not used.
+/// The status in June under two CRLs, and how many signatures are checked for it. There is a delta
+/// CRL that is not used.
 fn counted<'x>(cert: &[u8], first: &'x [u8], second: &'x [u8]) -> Option<(Status, u32)> {
     let cert = Cert::read(cert).ok()?;
     let lists = [Crl::read(first).ok()?, Crl::read(second).ok()?];

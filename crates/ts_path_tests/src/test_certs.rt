@@ -1,5 +1,6 @@
-//! Certificates for tests: serial number 2, issuer CN=R, 2026-01-01 to 2027-01-01, signed by the stand-in under the key "a".
-//! The octets were made by another tool, with the digests of Python's hashlib.
+//! Certificates for tests: serial number 2, issuer CN=R, 2026-01-01 to 2027-01-01, signed by the
+//! stand-in under the key "a". The octets were made by another tool, with the digests of Python's
+//! hashlib.
 
 /// Serial number 2, issuer CN=R; no distribution point.
 pub(crate) const L: &[u8] =

@@ -26,10 +26,12 @@ impl Counting {
 }
 
 impl SignatureCheck for Counting {
-    ghost accepts = { λ _ algorithm key signed signature. stand_in_accepts algorithm key signed signature };
+    ghost accepts = { λ _ algorithm key signed signature. stand_in_accepts algorithm key signed
+        signature };
 
     fn good(&self, algorithm: &[u8], key: &WorkingKey<'_>, signed: &[u8], signature: &[u8]) -> bool
-        ensures { result ≡ stand_in_accepts algorithm.now (key_of key.now) signed.now signature.now }
+        ensures { result ≡ stand_in_accepts algorithm.now
+            (key_of key.now) signed.now signature.now }
     {
         self.asked.set(self.asked.get().saturating_add(1));
         DigestCheck.good(algorithm, key, signed, signature)

@@ -1,4 +1,5 @@
-//! Delta CRLs for tests, of the issuer, the dates and the key of the others. The octets were made by another tool, with the digests of Python's hashlib.
+//! Delta CRLs for tests, of the issuer, the dates and the key of the others. The octets were made
+//! by another tool, with the digests of Python's hashlib.
 
 /// Number 2 of base 1, serial number 2 with removeFromCRL.
 pub(crate) const D_8: &[u8] =

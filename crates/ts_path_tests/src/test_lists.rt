@@ -1,4 +1,5 @@
-//! CRLs for tests: issuer CN=R, 2026-05-01 to 2026-07-01, signed by the stand-in under the key "a". The octets were made by another tool, with the digests of Python's hashlib.
+//! CRLs for tests: issuer CN=R, 2026-05-01 to 2026-07-01, signed by the stand-in under the key "a".
+//! The octets were made by another tool, with the digests of Python's hashlib.
 
 /// Issuer CN=R, 2026-05-01 to 2026-07-01, number 1, no entries.
 pub(crate) const Y: &[u8] =

@@ -1,5 +1,6 @@
 -- The accepted policies, given in place of the tree of RFC 5280, 6.1.5 (g), as a set of labels.
-use Rattle.std.specs.Prelude.{◌≡◌, ◌≢◌, ℕ, Bool, true, false, ◌||◌, ◌&&◌, ◌==◌, nat_lt, List, [], ◌∷◌, ◌++◌, MatchBool, ◌⊎◌}
+use Rattle.std.specs.Prelude.{◌≡◌, ◌≢◌, ℕ, Bool, true, false, ◌||◌, ◌&&◌, ◌==◌, nat_lt, List, []}
+use Rattle.std.specs.Prelude.{◌∷◌, ◌++◌, MatchBool, ◌⊎◌}
 use Rattle.ts_policy.specs.Labels.{Label, Path, any_policy, In, has, anys}
 
 -- p is the first label of the path, from the trust anchor, that is not anyPolicy
@@ -15,9 +16,10 @@ abbrev pub is_none : List Label → Bool
 is_none [] = true
 is_none (p ∷ ps) = false
 
--- p is accepted of the paths T of n labels, for a user's set of policies. A user who names none or anyPolicy accepts
--- the first labels, and anyPolicy where n times anyPolicy is a path. Another user accepts of the own policies all where
--- n times anyPolicy is a path, and else those that are first labels.
+-- p is accepted of the paths T of n labels, for a user's set of policies. A user who names none or
+-- anyPolicy accepts the first labels, and anyPolicy where n times anyPolicy is a path. Another user
+-- accepts of the own policies all where n times anyPolicy is a path, and else those that are first
+-- labels.
 abbrev pub IsAccepted : ℕ → (Path → Type 0) → List Label → Label → Type 0
 IsAccepted n T user p =
     MatchBool (is_none user || has user any_policy)

@@ -1,4 +1,5 @@
--- What contracts see of the certificates that a caller hands in: octets, without where they lie in memory.
+-- What contracts see of the certificates that a caller hands in: octets, without where they lie in
+-- memory.
 use Rattle.std.specs.Prelude.{Bool, ◌||◌, List, option_map, map}
 use Rattle.std.specs.List.{list_any}
 use Rattle.ts_policy.specs.declared.certificate.Certificate.{Certificate}
@@ -23,7 +24,8 @@ policies_in c = record {
 
 -- a mapping names anyPolicy
 abbrev pub maps_any_of : List Mapping → Bool
-maps_any_of ms = list_any (λ m. same m.issuer_domain.now any_policy || same m.subject_domain.now any_policy) ms
+maps_any_of ms = list_any (λ m. same m.issuer_domain.now any_policy
+    || same m.subject_domain.now any_policy) ms
 
 -- the same for the pairs
 abbrev pub maps_any : CertPolicies → Bool

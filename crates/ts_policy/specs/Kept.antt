@@ -8,8 +8,10 @@ use Rattle.ts_policy.specs.Links.{link_in}
 use Rattle.ts_policy.specs.Certificates.{policies_in}
 use Rattle.ts_policy.specs.Seen.{Seen, InPaths}
 
--- the layers hold the paths of the certificates, and once the latest is mapped, the pairs are what its labels expect
-pub record Stand (cs : List CertPolicies) (mapped : Bool) (ls : List Layer) (pairs : Layer) : Type 0 where
+-- the layers hold the paths of the certificates, and once the latest is mapped, the pairs are what
+-- its labels expect
+pub record Stand (cs : List CertPolicies) (mapped : Bool) (ls : List Layer)
+    (pairs : Layer) : Type 0 where
   pub holds : Holds (InPaths (record { certificates = cs; mapped = mapped })) ls
   pub long : depth ls ≡ count cs
   pub expectations_are : mapped ≡ true → AreExpectations (expected cs) ls pairs
@@ -26,4 +28,5 @@ kept_layers a = newest (λ v. map link_in v.items) [] a.layers.items
 
 -- they stand for the certificates
 abbrev pub IsKept : Inside → Type 0
-IsKept a = Stand (newest policies_in [] a.taken.items) a.mapped (kept_layers a) (map link_in a.expectations.items)
+IsKept a = Stand (newest policies_in [] a.taken.items) a.mapped (kept_layers a)
+    (map link_in a.expectations.items)

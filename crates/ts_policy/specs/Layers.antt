@@ -1,7 +1,8 @@
--- How the sets of paths are kept: layers of labels, one for each certificate, the latest first. A link (p, q) of a layer
--- says that p may follow a path that ends in the label q of the layer above. Above the first layer stands anyPolicy.
--- No public clause speaks of this file.
-use Rattle.std.specs.Prelude.{◌≡◌, ℕ, zero, suc, Bool, true, false, not, ◌&&◌, ◌||◌, nat_lt, if◌then◌else◌, List, [], ◌∷◌, ◌++◌, map, filter, ◌↔◌}
+-- How the sets of paths are kept: layers of labels, one for each certificate, the latest first. A
+-- link (p, q) of a layer says that p may follow a path that ends in the label q of the layer above.
+-- Above the first layer stands anyPolicy. No public clause speaks of this file.
+use Rattle.std.specs.Prelude.{◌≡◌, ℕ, zero, suc, Bool, true, false, not, ◌&&◌, ◌||◌, nat_lt}
+use Rattle.std.specs.Prelude.{if◌then◌else◌, List, [], ◌∷◌, ◌++◌, map, filter, ◌↔◌}
 use Rattle.std.specs.List.{list_any}
 use Rattle.ts_policy.specs.Labels.{Label, Path, any_policy, same, In, has}
 use Rattle.ts_policy.specs.Paths.{CertPolicies, stated, any_counts, is_mapped, end_of}
@@ -54,12 +55,14 @@ wanted pairs ps on = filter (λ x. is_asked on ps x) pairs
 -- the links by what nothing expects, from the labels that are expected
 abbrev pub unwanted_by : List Label → List Label → Layer
 unwanted_by es ps =
-    if has es any_policy then map (λ p. (p, any_policy)) (filter (λ p. not (same p any_policy) && not (has es p)) ps) else []
+    if has es any_policy then map (λ p. (p, any_policy))
+    (filter (λ p. not (same p any_policy) && not (has es p)) ps) else []
 
 -- the same, from the expectations
 abbrev pub unwanted : Layer → List Label → Layer
 unwanted pairs ps =
-    if has_label pairs any_policy then map (λ p. (p, any_policy)) (filter (λ p. not (same p any_policy) && not (has_label pairs p)) ps) else []
+    if has_label pairs any_policy then map (λ p. (p, any_policy))
+    (filter (λ p. not (same p any_policy) && not (has_label pairs p)) ps) else []
 
 -- the next layer
 abbrev pub next_layer : Layer → List Label → Bool → Layer
@@ -73,20 +76,24 @@ pub record IsNext (c : CertPolicies) (pairs : Layer) (l : Layer) : Type 0 where
 
 -- the links to what is mapped and not there, from the labels that are there
 abbrev pub added_by : List Label → List (Label × Label) → Layer
-added_by es ms = if has es any_policy then map (λ m. (m.0, any_policy)) (filter (λ m. not (has es m.0)) ms) else []
+added_by es ms = if has es any_policy
+    then map (λ m. (m.0, any_policy)) (filter (λ m. not (has es m.0)) ms) else []
 
 -- the same, from the layer
 abbrev pub new_links : Layer → List (Label × Label) → Layer
-new_links l ms = if has_label l any_policy then map (λ m. (m.0, any_policy)) (filter (λ m. not (has_label l m.0)) ms) else []
+new_links l ms = if has_label l any_policy
+    then map (λ m. (m.0, any_policy)) (filter (λ m. not (has_label l m.0)) ms) else []
 
 -- the layer after the mappings
 abbrev pub mapped_layer : CertPolicies → Layer → Layer
 mapped_layer c l =
-    if nat_lt 0 c.policy_mapping then l ++ new_links l c.mappings else filter (λ x. not (is_mapped c x.0)) l
+    if nat_lt 0 c.policy_mapping then l ++ new_links l c.mappings
+    else filter (λ x. not (is_mapped c x.0)) l
 
 -- what the labels of a layer expect, from the labels that are mapped
 abbrev pub expectations_by : List Label → List (Label × Label) → List Label → Layer
-expectations_by es ms froms = map (λ m. (m.1, m.0)) (filter (λ m. has es m.0) ms) ++ map (λ p. (p, p)) (filter (λ p. not (has froms p)) es)
+expectations_by es ms froms = map (λ m. (m.1, m.0)) (filter (λ m. has es m.0) ms)
+    ++ map (λ p. (p, p)) (filter (λ p. not (has froms p)) es)
 
 -- the layers hold the paths S
 pub record Holds (S : Path → Type 0) (ls : List Layer) : Type 0 where
@@ -97,7 +104,8 @@ pub record Holds (S : Path → Type 0) (ls : List Layer) : Type 0 where
 abbrev pub AreExpectations : (Label → List Label) → List Layer → Layer → Type 0
 AreExpectations expects ls pairs = (p q : Label) → In (p, q) pairs ↔ (IsEnd ls q × In p (expects q))
 
--- the link leads from a label that is alive, which has a way down to the latest layer, and is not anyPolicy, to anyPolicy
+-- the link leads from a label that is alive, which has a way down to the latest layer, and is not
+-- anyPolicy, to anyPolicy
 abbrev pub is_top : List Label → Label × Label → Bool
 is_top alive x = has alive x.0 && (same x.1 any_policy && not (same x.0 any_policy))
 

@@ -17,4 +17,6 @@ link p q = record { label = p; above = q }
 -- the layer and the expectations that the mappings of a certificate leave
 pub record AreMapped (c : CertPolicies) (l l' : Layer) (pairs : Layer) : Type 0 where
   pub layer : l' ≡ mapped_layer c l
-  pub expectations : (labels : List Label) × ((p : Label) → has labels p ≡ has_label l' p) × ((froms : List Label) × ((p : Label) → has froms p ≡ is_mapped c p) × (pairs ≡ expectations_by labels c.mappings froms))
+  pub expectations : (labels : List Label) × ((p : Label) → has labels p ≡ has_label l' p)
+      × ((froms : List Label) × ((p : Label) → has froms p ≡ is_mapped c p)
+      × (pairs ≡ expectations_by labels c.mappings froms))

@@ -1,6 +1,9 @@
--- Certificate policies as sets of paths of labels (RFC 5280, 6.1.3 (d) and 6.1.4 (b)): no tree, no parents, no pruning.
--- T(i) are the paths of certificate i, and S(i) those after its mappings. A list of certificates has the latest first.
-use Rattle.std.specs.Prelude.{◌≡◌, ◌≢◌, ℕ, zero, suc, Bool, false, not, ◌&&◌, ◌||◌, nat_lt, if◌then◌else◌, List, [], ◌∷◌, map, filter, Option, Some, None, IsTrue, MatchBool, ◌⊎◌}
+-- Certificate policies as sets of paths of labels (RFC 5280, 6.1.3 (d) and 6.1.4 (b)): no tree, no
+-- parents, no pruning. T(i) are the paths of certificate i, and S(i) those after its mappings. A
+-- list of certificates has the latest first.
+use Rattle.std.specs.Prelude.{◌≡◌, ◌≢◌, ℕ, zero, suc, Bool, false, not, ◌&&◌, ◌||◌, nat_lt}
+use Rattle.std.specs.Prelude.{if◌then◌else◌, List, [], ◌∷◌, map, filter, Option, Some, None, IsTrue}
+use Rattle.std.specs.Prelude.{MatchBool, ◌⊎◌}
 use Rattle.std.specs.List.{list_any}
 use Rattle.ts_policy.specs.Labels.{Label, Path, any_policy, same, In, anys}
 
@@ -33,10 +36,11 @@ abbrev pub end_of : Path → Label
 end_of [] = any_policy
 end_of (p ∷ w) = p
 
--- what a path that ends in p expects after the mappings of certificate c: anyPolicy for anyPolicy, the targets of a
--- mapped label, and else the label
+-- what a path that ends in p expects after the mappings of certificate c: anyPolicy for anyPolicy,
+-- the targets of a mapped label, and else the label
 abbrev pub expected_after : CertPolicies → Label → List Label
-expected_after c p = if same p any_policy then any_policy ∷ [] else if is_mapped c p then targets c p else p ∷ []
+expected_after c p = if same p any_policy then any_policy ∷ [] else if is_mapped c p
+    then targets c p else p ∷ []
 
 -- what a path of S(i) that ends in p expects
 abbrev pub expected : List CertPolicies → Label → List Label
@@ -52,8 +56,10 @@ abbrev pub MayFollow : CertPolicies → (Label → List Label) → (Path → Typ
 MayFollow c expects S w p =
     -- (d)(1)(i): p is stated, is not anyPolicy, and w expects it
     (In p (stated c) × (p ≢ any_policy) × In p (expects (end_of w)))
-    -- (d)(1)(ii): p is stated, is not anyPolicy, w ends in anyPolicy, and no path of S(i-1) expects p
-    ⊎ ((In p (stated c) × (p ≢ any_policy) × (end_of w ≡ any_policy) × ((v : Path) → S v → In p (expects (end_of v)) → ⊥))
+    -- (d)(1)(ii): p is stated, is not anyPolicy, w ends in anyPolicy, and no path of S(i-1) expects
+    -- p
+    ⊎ ((In p (stated c) × (p ≢ any_policy) × (end_of w ≡ any_policy)
+    × ((v : Path) → S v → In p (expects (end_of v)) → ⊥))
     -- (d)(2): anyPolicy is stated and counts, and w expects p
     ⊎ (In any_policy (stated c) × IsTrue (any_counts c) × In p (expects (end_of w))))
 
@@ -62,15 +68,18 @@ abbrev pub Taken : CertPolicies → (Label → List Label) → (Path → Type 0)
 Taken c expects S [] = ⊥
 Taken c expects S (p ∷ w) = S w × MayFollow c expects S w p
 
--- 6.1.4 (b)(1), where no node has the label p: p is mapped and ends no path of T(k + 1), which has k + 1 times
--- anyPolicy; the path added is k times anyPolicy and p
+-- 6.1.4 (b)(1), where no node has the label p: p is mapped and ends no path of T(k + 1), which has
+-- k + 1 times anyPolicy; the path added is k times anyPolicy and p
 abbrev pub Added : CertPolicies → ℕ → (Path → Type 0) → Path → Type 0
 Added c k T [] = ⊥
-Added c k T (p ∷ w) = (w ≡ anys k) × IsTrue (is_mapped c p) × T (any_policy ∷ w) × ((v : Path) → T v → end_of v ≢ p)
+Added c k T (p ∷ w) = (w ≡ anys k) × IsTrue (is_mapped c p) × T (any_policy ∷ w)
+    × ((v : Path) → T v → end_of v ≢ p)
 
--- S(k + 1), from T(k + 1): (b)(1) where policy_mapping is above 0, and else (b)(2), by which mapped labels go
+-- S(k + 1), from T(k + 1): (b)(1) where policy_mapping is above 0, and else (b)(2), by which mapped
+-- labels go
 abbrev pub Mapped : CertPolicies → ℕ → (Path → Type 0) → Path → Type 0
-Mapped c k T w = MatchBool (nat_lt 0 c.policy_mapping) (T w ⊎ Added c k T w) (T w × (is_mapped c (end_of w) ≡ false))
+Mapped c k T w = MatchBool (nat_lt 0 c.policy_mapping) (T w ⊎ Added c k T w)
+    (T w × (is_mapped c (end_of w) ≡ false))
 
 -- the number of certificates
 abbrev pub count : List CertPolicies → ℕ

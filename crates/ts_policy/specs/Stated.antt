@@ -1,6 +1,8 @@
--- What an X.509 certificate states of policies (RFC 5280, 4.2.1.4, 4.2.1.5), by the object identifiers alone.
+-- What an X.509 certificate states of policies (RFC 5280, 4.2.1.4, 4.2.1.5), by the object
+-- identifiers alone.
 use Rattle.std.specs.Prelude.{List, [], Option, None, Some, option_map, map}
-use Rattle.ts_ext.specs.declared.known.Known.TheVariants.{CertificatePolicies as certificatePolicies, PolicyMappings as policyMappings}
+use Rattle.ts_ext.specs.declared.known.Known.TheVariants.{CertificatePolicies as certificatePolicies}
+use Rattle.ts_ext.specs.declared.known.Known.TheVariants.{PolicyMappings as policyMappings}
 use Rattle.ts_ext.specs.Policies.{Information, Mapping}
 use Rattle.ts_ext.specs.Reading.{certificate_policies_of, policy_mappings_of}
 use Rattle.ts_cert.specs.Certificate.{Tbs}

@@ -1,11 +1,15 @@
--- The valid policy tree of RFC 5280 as 6.1.3 (d) and 6.1.4 (b) describe it: a list of nodes, each named by its labels
--- from itself up to the root, with the labels that it expects. Nothing but the law on it speaks of this tree.
-use Rattle.std.specs.Prelude.{ℕ, zero, suc, Bool, true, false, not, ◌&&◌, ◌||◌, nat_lt, if◌then◌else◌, List, [], ◌∷◌, ◌++◌, map, filter, Some, None, flat_map}
+-- The valid policy tree of RFC 5280 as 6.1.3 (d) and 6.1.4 (b) describe it: a list of nodes, each
+-- named by its labels from itself up to the root, with the labels that it expects. Nothing but the
+-- law on it speaks of this tree.
+use Rattle.std.specs.Prelude.{ℕ, zero, suc, Bool, true, false, not, ◌&&◌, ◌||◌, nat_lt}
+use Rattle.std.specs.Prelude.{if◌then◌else◌, List, [], ◌∷◌, ◌++◌, map, filter, Some, None, flat_map}
 use Rattle.std.specs.List.{list_any}
 use Rattle.ts_policy.specs.Labels.{Label, Path, any_policy, same, has}
-use Rattle.ts_policy.specs.Paths.{CertPolicies, stated, is_mapped, targets, end_of, any_counts, count}
+use Rattle.ts_policy.specs.Paths.{CertPolicies, stated, is_mapped, targets, end_of, any_counts}
+use Rattle.ts_policy.specs.Paths.{count}
 
--- a node: its valid_policy is the first label of its name, and its depth the number of labels; the root has no label
+-- a node: its valid_policy is the first label of its name, and its depth the number of labels; the
+-- root has no label
 pub record Node : Type 0 where
   pub name : Path
   -- expected_policy_set
@@ -46,12 +50,13 @@ abbrev pub is_child_of : Path → Path → Bool
 is_child_of w [] = false
 is_child_of w (p ∷ v) = same_name v w
 
--- (d)(1): the children that a stated policy other than anyPolicy adds to the nodes of depth i-1: (i) below each that
--- expects it, or (ii), where there is none, below anyPolicy
+-- (d)(1): the children that a stated policy other than anyPolicy adds to the nodes of depth i-1:
+-- (i) below each that expects it, or (ii), where there is none, below anyPolicy
 abbrev pub placed : List Node → Label → List Node
 placed above p =
     if same p any_policy then []
-    else if list_any (λ n. has n.expected p) above then map (child p) (filter (λ n. has n.expected p) above)
+    else if list_any (λ n. has n.expected p) above
+    then map (child p) (filter (λ n. has n.expected p) above)
     else map (child p) (filter (λ n. same (label n) any_policy) above)
 
 -- the same for all stated policies
@@ -61,11 +66,13 @@ placed_all c above = flat_map (placed above) (stated c)
 -- (d)(2): a child of n for each label that n expects and that is not among its children
 abbrev pub missing : List Node → Node → List Node
 missing children n =
-    map (λ p. child p n) (filter (λ p. not (list_any (λ m. same_name (p ∷ n.name) m.name) children)) n.expected)
+    map (λ p. child p n) (filter (λ p. not
+    (list_any (λ m. same_name (p ∷ n.name) m.name) children)) n.expected)
 
 -- (d)(2), where anyPolicy is stated and counts
 abbrev pub filled : CertPolicies → List Node → List Node → List Node
-filled c above children = if has (stated c) any_policy && any_counts c then flat_map (missing children) above else []
+filled c above children = if has (stated c) any_policy && any_counts c
+    then flat_map (missing children) above else []
 
 -- the new nodes of depth k + 1, from those of depth k
 abbrev pub grown : CertPolicies → List Node → List Node
@@ -74,26 +81,31 @@ grown c above = placed_all c above ++ filled c above (placed_all c above)
 -- (d)(3): nodes above depth d without a child go, the deepest first, until there is none
 abbrev pub pruned : ℕ → List Node → List Node
 pruned zero tree = tree
-pruned (suc d) tree = pruned d (filter (λ n. not (is_long d n.name) || list_any (λ m. is_child_of n.name m.name) tree) tree)
+pruned (suc d) tree = pruned d
+    (filter (λ n. not (is_long d n.name) || list_any (λ m. is_child_of n.name m.name) tree) tree)
 
 -- 6.1.3 (d) and (e) at certificate k + 1
 abbrev pub taken : CertPolicies → ℕ → List Node → List Node
-taken c k tree = elim c.policies [ None ↦ [] | Some ps ↦ pruned (suc k) (tree ++ grown c (nodes_at k tree)) ]
+taken c k tree = elim c.policies
+    [ None ↦ [] | Some ps ↦ pruned (suc k) (tree ++ grown c (nodes_at k tree)) ]
 
 -- 6.1.4 (b)(1): a node of depth d whose label is mapped expects the targets
 abbrev pub retargeted : CertPolicies → ℕ → Node → Node
-retargeted c d n = if is_long d n.name && is_mapped c (label n) then record { name = n.name; expected = targets c (label n) } else n
+retargeted c d n = if is_long d n.name && is_mapped c (label n)
+    then record { name = n.name; expected = targets c (label n) } else n
 
--- 6.1.4 (b)(1), where no node of depth k + 1 has the mapped label p but one has anyPolicy: a child p, with the targets, of
--- the node of depth k that has anyPolicy
+-- 6.1.4 (b)(1), where no node of depth k + 1 has the mapped label p but one has anyPolicy: a child
+-- p, with the targets, of the node of depth k that has anyPolicy
 abbrev pub added : CertPolicies → ℕ → List Node → Label → List Node
 added c k tree p =
     if list_any (λ n. same (label n) p) (nodes_at (suc k) tree) then []
     else if list_any (λ n. same (label n) any_policy) (nodes_at (suc k) tree)
-    then map (λ n. record { name = p ∷ n.name; expected = targets c p }) (filter (λ n. same (label n) any_policy) (nodes_at k tree))
+    then map (λ n. record { name = p ∷ n.name; expected = targets c p })
+    (filter (λ n. same (label n) any_policy) (nodes_at k tree))
     else []
 
--- 6.1.4 (b) at certificate k + 1: (1) where policy_mapping is above 0, and else (2), by which nodes of mapped labels go
+-- 6.1.4 (b) at certificate k + 1: (1) where policy_mapping is above 0, and else (2), by which nodes
+-- of mapped labels go
 abbrev pub mapped : CertPolicies → ℕ → List Node → List Node
 mapped c k tree =
     if nat_lt 0 c.policy_mapping

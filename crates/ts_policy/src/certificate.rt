@@ -15,11 +15,12 @@ pub struct Mapping<'a> {
     pub subject_domain: &'a [u8],
 }
 
-/// What certificate i of a path of n certificates states of policies, and the state variables at it (RFC 5280 6.1.2).
+/// What certificate i of a path of n certificates states of policies, and the state variables at it
+/// (RFC 5280 6.1.2).
 #[derive(Drop)]
 pub struct Certificate<'a> {
-    /// The policies of certificatePolicies, each as the content octets of its object identifier; `None` where the
-    /// extension is absent.
+    /// The policies of certificatePolicies, each as the content octets of its object identifier;
+    /// `None` where the extension is absent.
     pub policies: Option<Vec<&'a [u8]>>,
     /// The pairs of policyMappings, none where the extension is absent.
     pub mappings: Vec<Mapping<'a>>,
@@ -34,7 +35,8 @@ pub struct Certificate<'a> {
 }
 
 impl<'a> Certificate<'a> {
-    /// Whether a mapping names anyPolicy, which no certificate may have but the last (RFC 5280 6.1.4 (a)).
+    /// Whether a mapping names anyPolicy, which no certificate may have but the last (RFC 5280
+    /// 6.1.4 (a)).
     pub fn maps_any(&self) -> bool
         ensures { (result ≡ false) ↔ MapsNoAny (policies_in self.now) }
     {

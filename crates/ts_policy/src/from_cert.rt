@@ -25,10 +25,13 @@ impl<'a> Certificate<'a> {
         inhibit_any_policy: u32,
         policy_mapping: u32,
     ) -> Result<Certificate<'a>, AllocError>
-        ensures policies { IfOk result (λ c. (policies_in c).policies ≡ policies_of (cert_in cert.entry).tbsCertificate) }
-        ensures mappings { IfOk result (λ c. (policies_in c).mappings ≡ mappings_of (cert_in cert.entry).tbsCertificate) }
+        ensures policies { IfOk result
+            (λ c. (policies_in c).policies ≡ policies_of (cert_in cert.entry).tbsCertificate) }
+        ensures mappings { IfOk result
+            (λ c. (policies_in c).mappings ≡ mappings_of (cert_in cert.entry).tbsCertificate) }
         ensures self_issued { IfOk result (λ c. IsTrue c.self_issued
-            ↔ (canon_name (cert_in cert.entry).tbsCertificate.issuer ≡ canon_name (cert_in cert.entry).tbsCertificate.subject)) }
+            ↔ (canon_name (cert_in cert.entry).tbsCertificate.issuer
+            ≡ canon_name (cert_in cert.entry).tbsCertificate.subject)) }
         ensures is_last { IfOk result (λ c. c.is_last ≡ is_last) }
         ensures inhibit_any_policy { IfOk result (λ c. c.inhibit_any_policy ≡ inhibit_any_policy) }
         ensures policy_mapping { IfOk result (λ c. c.policy_mapping ≡ policy_mapping) }
@@ -47,7 +50,8 @@ impl<'a> Certificate<'a> {
 }
 
 fn stated_by<'a>(alloc: Global, cert: Cert<'a>) -> Result<Option<Vec<&'a [u8]>>, AllocError>
-    ensures { IfOk result (λ r. option_map (λ v. map (λ p. p.now) v.items) r ≡ policies_of (cert_in cert.entry).tbsCertificate) }
+    ensures { IfOk result (λ r. option_map (λ v. map (λ p. p.now) v.items) r
+        ≡ policies_of (cert_in cert.entry).tbsCertificate) }
 {
     match cert.certificate_policies() {
         Some(policies) => Ok(Some(labels_of(alloc, policies)?)),
@@ -59,7 +63,8 @@ fn labels_of<'a>(
     alloc: Global,
     policies: CertificatePolicies<'a>,
 ) -> Result<Vec<&'a [u8]>, AllocError>
-    ensures { IfOk result (λ v. map (λ p. p.now) v.items ≡ identifiers (information_in policies.entry)) }
+    ensures { IfOk result (λ v. map (λ p. p.now) v.items
+        ≡ identifiers (information_in policies.entry)) }
 {
     let mut labels = Vec::new(alloc);
     for policy in policies.iter() {
@@ -69,7 +74,8 @@ fn labels_of<'a>(
 }
 
 fn mapped_by<'a>(alloc: Global, cert: Cert<'a>) -> Result<Vec<Mapping<'a>>, AllocError>
-    ensures { IfOk result (λ v. map mapping_in v.items ≡ mappings_of (cert_in cert.entry).tbsCertificate) }
+    ensures { IfOk result (λ v. map mapping_in v.items
+        ≡ mappings_of (cert_in cert.entry).tbsCertificate) }
 {
     match cert.policy_mappings() {
         Some(mappings) => {

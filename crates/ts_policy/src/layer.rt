@@ -1,4 +1,5 @@
-//! Layers of labels, one for each certificate, with a link from each label to each label above that it may follow.
+//! Layers of labels, one for each certificate, with a link from each label to each label above that
+//! it may follow.
 
 ghost use Rattle.std.specs.Prelude.{◌≡◌, ◌++◌, not, ◌&&◌, ◌||◌, map, filter, IfOk, List};
 ghost use Rattle.ts_policy.specs.Labels.{Label, any_policy as anyPolicy, same, has, In};
@@ -10,7 +11,8 @@ use crate::certificate::{Certificate, Mapping};
 use crate::labels::{Labels, any_policy, is_any};
 use std::alloc::{AllocError, Global};
 
-/// A label of a layer, and one of the layer above that it follows. Above the first layer stands anyPolicy.
+/// A label of a layer, and one of the layer above that it follows. Above the first layer stands
+/// anyPolicy.
 #[derive(Clone, Copy)]
 pub(crate) struct Link<'a> {
     pub(crate) label: &'a [u8],
@@ -25,7 +27,8 @@ fn link_labels<'a>(alloc: Global, links: &[Link<'a>]) -> Result<Vec<&'a [u8]>, A
 
 /// The labels of a layer, each once.
 pub(crate) fn labels_of<'a>(alloc: Global, links: &[Link<'a>]) -> Result<Labels<'a>, AllocError>
-    ensures { IfOk result (λ labels. (p : Label) → has labels p ≡ layers.has_label (map link_in links.now) p) }
+    ensures { IfOk result (λ labels. (p : Label)
+        → has labels p ≡ layers.has_label (map link_in links.now) p) }
 {
     Ok(Labels::of(link_labels(alloc, links)?))
 }
@@ -37,7 +40,8 @@ fn wanted<'a>(
     stated: &Labels<'a>,
     fills: bool,
 ) -> Result<Vec<Link<'a>>, AllocError>
-    ensures { IfOk result (λ links. links.items ≡ filter (λ x. layers.is_asked fills stated.now (link_in x)) expectations.now) }
+    ensures { IfOk result (λ links. links.items
+        ≡ filter (λ x. layers.is_asked fills stated.now (link_in x)) expectations.now) }
 {
     expectations
         .iter()
@@ -53,7 +57,9 @@ fn unexpected<'a>(
     expected: &Labels<'a>,
     above: &'a [u8],
 ) -> Result<Vec<Link<'a>>, AllocError>
-    ensures { IfOk result (λ links. links.items ≡ map (λ p. link p above.entry) (filter (λ p. not (same p.now anyPolicy) && not (has expected.now p.now)) stated.now)) }
+    ensures { IfOk result (λ links. links.items
+        ≡ map (λ p. link p above.entry)
+        (filter (λ p. not (same p.now anyPolicy) && not (has expected.now p.now)) stated.now)) }
 {
     stated
         .iter()
@@ -63,13 +69,15 @@ fn unexpected<'a>(
         .collect(alloc)
 }
 
-/// The links from what is stated and nothing expects, where anyPolicy is a label of the layer above.
+/// The links from what is stated and nothing expects, where anyPolicy is a label of the layer
+/// above.
 fn unwanted<'a>(
     alloc: Global,
     stated: &[&'a [u8]],
     expected: &Labels<'a>,
 ) -> Result<Vec<Link<'a>>, AllocError>
-    ensures { IfOk result (λ links. map link_in links.items ≡ layers.unwanted_by expected.now (map (λ p. p.now) stated.now)) }
+    ensures { IfOk result (λ links. map link_in links.items
+        ≡ layers.unwanted_by expected.now (map (λ p. p.now) stated.now)) }
 {
     let above = any_policy();
     if expected.contains(above) {
@@ -86,7 +94,8 @@ pub(crate) fn next_layer<'a>(
     stated: &Labels<'a>,
     fills: bool,
 ) -> Result<Vec<Link<'a>>, AllocError>
-    ensures { IfOk result (λ links. map link_in links.items ≡ layers.next_layer (map link_in expectations.now) stated.now fills) }
+    ensures { IfOk result (λ links. map link_in links.items
+        ≡ layers.next_layer (map link_in expectations.now) stated.now fills) }
 {
     let mut links = wanted(alloc, expectations, stated, fills)?;
     let expected = labels_of(alloc, expectations)?;
@@ -101,7 +110,9 @@ fn absent<'a>(
     mappings: &[Mapping<'a>],
     above: &'a [u8],
 ) -> Result<Vec<Link<'a>>, AllocError>
-    ensures { IfOk result (λ links. links.items ≡ map (λ m. link m.issuer_domain above.entry) (filter (λ m. not (has labels.now m.issuer_domain.now)) mappings.now)) }
+    ensures { IfOk result (λ links. links.items
+        ≡ map (λ m. link m.issuer_domain above.entry)
+        (filter (λ m. not (has labels.now m.issuer_domain.now)) mappings.now)) }
 {
     mappings
         .iter()
@@ -120,7 +131,8 @@ fn added<'a>(
     labels: &Labels<'a>,
     mappings: &[Mapping<'a>],
 ) -> Result<Vec<Link<'a>>, AllocError>
-    ensures { IfOk result (λ links. map link_in links.items ≡ layers.added_by labels.now (map mapping_in mappings.now)) }
+    ensures { IfOk result (λ links. map link_in links.items
+        ≡ layers.added_by labels.now (map mapping_in mappings.now)) }
 {
     let above = any_policy();
     if labels.contains(above) {
@@ -136,7 +148,9 @@ fn grown<'a>(
     links: &[Link<'a>],
     mappings: &[Mapping<'a>],
 ) -> Result<Vec<Link<'a>>, AllocError>
-    ensures { IfOk result (λ grown. map link_in grown.items ≡ map link_in links.now ++ layers.new_links (map link_in links.now) (map mapping_in mappings.now)) }
+    ensures { IfOk result (λ grown. map link_in grown.items
+        ≡ map link_in links.now ++ layers.new_links (map link_in links.now)
+        (map mapping_in mappings.now)) }
 {
     let labels = labels_of(alloc, links)?;
     let others = added(alloc, &labels, mappings)?;
@@ -151,7 +165,8 @@ fn unmapped<'a>(
     links: &[Link<'a>],
     mapped: &Labels<'a>,
 ) -> Result<Vec<Link<'a>>, AllocError>
-    ensures { IfOk result (λ left. left.items ≡ filter (λ x. not (has mapped.now x.label.now)) links.now) }
+    ensures { IfOk result (λ left. left.items
+        ≡ filter (λ x. not (has mapped.now x.label.now)) links.now) }
 {
     links
         .iter()
@@ -168,7 +183,8 @@ fn issuer_domains<'a>(alloc: Global, mappings: &[Mapping<'a>]) -> Result<Vec<&'a
 
 /// What a certificate maps.
 fn mapped_by<'a>(alloc: Global, mappings: &[Mapping<'a>]) -> Result<Labels<'a>, AllocError>
-    ensures { IfOk result (λ labels. (p : Label) → has labels p ≡ layers.is_from (map mapping_in mappings.now) p) }
+    ensures { IfOk result (λ labels. (p : Label)
+        → has labels p ≡ layers.is_from (map mapping_in mappings.now) p) }
 {
     Ok(Labels::of(issuer_domains(alloc, mappings)?))
 }
@@ -181,7 +197,8 @@ fn mapped_layer<'a>(
     mapped: &Labels<'a>,
 ) -> Result<Vec<Link<'a>>, AllocError>
     requires { (p : Label) → has mapped.now p ≡ layers.is_from (policies_in cert.now).mappings p }
-    ensures { IfOk result (λ left. map link_in left.items ≡ layers.mapped_layer (policies_in cert.now) (map link_in links.now)) }
+    ensures { IfOk result (λ left. map link_in left.items
+        ≡ layers.mapped_layer (policies_in cert.now) (map link_in links.now)) }
 {
     if 0 < cert.policy_mapping {
         grown(alloc, links, &cert.mappings)
@@ -196,7 +213,9 @@ fn by_mapping<'a>(
     labels: &Labels<'a>,
     mappings: &[Mapping<'a>],
 ) -> Result<Vec<Link<'a>>, AllocError>
-    ensures { IfOk result (λ pairs. pairs.items ≡ map (λ m. link m.subject_domain m.issuer_domain) (filter (λ m. has labels.now m.issuer_domain.now) mappings.now)) }
+    ensures { IfOk result (λ pairs. pairs.items
+        ≡ map (λ m. link m.subject_domain m.issuer_domain)
+        (filter (λ m. has labels.now m.issuer_domain.now) mappings.now)) }
 {
     mappings
         .iter()
@@ -215,7 +234,8 @@ fn by_itself<'a>(
     labels: &[&'a [u8]],
     mapped: &Labels<'a>,
 ) -> Result<Vec<Link<'a>>, AllocError>
-    ensures { IfOk result (λ pairs. pairs.items ≡ map (λ p. link p p) (filter (λ p. not (has mapped.now p.now)) labels.now)) }
+    ensures { IfOk result (λ pairs. pairs.items
+        ≡ map (λ p. link p p) (filter (λ p. not (has mapped.now p.now)) labels.now)) }
 {
     labels
         .iter()
@@ -232,7 +252,8 @@ fn expectations_of<'a>(
     mappings: &[Mapping<'a>],
     mapped: &Labels<'a>,
 ) -> Result<Vec<Link<'a>>, AllocError>
-    ensures { IfOk result (λ pairs. map link_in pairs.items ≡ layers.expectations_by labels.now (map mapping_in mappings.now) mapped.now) }
+    ensures { IfOk result (λ pairs. map link_in pairs.items
+        ≡ layers.expectations_by labels.now (map mapping_in mappings.now) mapped.now) }
 {
     let mut pairs = by_mapping(alloc, labels, mappings)?;
     let others = by_itself(alloc, labels.as_slice(), mapped)?;
@@ -246,7 +267,8 @@ pub(crate) fn map_layer<'a>(
     cert: &Certificate<'a>,
     links: &[Link<'a>],
 ) -> Result<(Vec<Link<'a>>, Vec<Link<'a>>), AllocError>
-    ensures { IfOk result (λ r. AreMapped (policies_in cert.now) (map link_in links.now) (map link_in r.0.items) (map link_in r.1.items)) }
+    ensures { IfOk result (λ r. AreMapped (policies_in cert.now) (map link_in links.now)
+        (map link_in r.0.items) (map link_in r.1.items)) }
 {
     let mapped = mapped_by(alloc, &cert.mappings)?;
     let left = mapped_layer(alloc, cert, links, &mapped)?;

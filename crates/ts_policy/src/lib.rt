@@ -1,7 +1,7 @@
 //! Certificate policies with mappings (RFC 5280 6.1.3 (d), 6.1.4 (b), 6.1.5 (g)).
 //!
-//! A validator hands in, from the trust anchor's side, what each certificate states of policies, and asks after each
-//! whether a policy path is left. At the end it gets the accepted policies.
+//! A validator hands in, from the trust anchor's side, what each certificate states of policies,
+//! and asks after each whether a policy path is left. At the end it gets the accepted policies.
 //!
 //! ```text
 //! let mut policies = Policies::start(alloc)?;
@@ -16,8 +16,9 @@
 //! let accepted = policies.finish(alloc, user)?;
 //! ```
 //!
-//! Contracts see a `Policies` as the certificates that it took and whether the mappings of the latest are applied, and
-//! by these a set of paths of policies (`specs/Paths`), each policy being the content octets of its object identifier.
+//! Contracts see a `Policies` as the certificates that it took and whether the mappings of the
+//! latest are applied, and by these a set of paths of policies (`specs/Paths`), each policy being
+//! the content octets of its object identifier.
 //!
 //! | Call | What is proved of it |
 //! |---|---|
@@ -29,9 +30,10 @@
 //! | [`Policies::finish`] | `accepted`: the accepted policies (`specs/Accepted`); `ascending`: in the order of their octets, each once |
 //! | [`laws::tree_paths`] | the valid policy tree of RFC 5280, with its pruning (`specs/Tree`), has these paths and no node off them |
 //!
-//! There is no limit on the number of paths. They are kept as layers of labels with links between neighbouring layers,
-//! so a certificate costs time and memory by its own policies and mappings and the labels of the layer above, never by
-//! their product. A refusal of memory is answered as `AllocError`, and the `Policies` is then gone.
+//! There is no limit on the number of paths. They are kept as layers of labels with links between
+//! neighbouring layers, so a certificate costs time and memory by its own policies and mappings and
+//! the labels of the layer above, never by their product. A refusal of memory is answered as
+//! `AllocError`, and the `Policies` is then gone.
 #![tactic(auto)]
 
 mod certificate;

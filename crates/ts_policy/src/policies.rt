@@ -1,6 +1,7 @@
 //! The policies of a path.
 
-ghost use Rattle.std.specs.Prelude.{◌≡◌, ◌↔◌, ℕ, true, false, List, ◌∷◌, [], map, filter, ◌&&◌, ◌||◌, IfOk, IsTrue};
+ghost use Rattle.std.specs.Prelude.{◌≡◌, ◌↔◌, ℕ, true, false, List, ◌∷◌, [], map, filter, ◌&&◌};
+ghost use Rattle.std.specs.Prelude.{◌||◌, IfOk, IsTrue};
 ghost use Rattle.std.specs.List.{list_any};
 ghost use Rattle.ts_policy.specs.Labels.{Label, Path, any_policy as anyPolicy, same, In, has};
 ghost use Rattle.ts_policy.specs.Paths.{InT, count, LatestMapsNoAny, any_counts};
@@ -18,7 +19,8 @@ use std::marker::Model;
 
 /// The policies of the certificates of a path that were taken so far, from the trust anchor's side.
 ///
-/// Each call but [`is_empty`](Policies::is_empty) takes the value, so after a refusal of memory there is none.
+/// Each call but [`is_empty`](Policies::is_empty) takes the value, so after a refusal of memory
+/// there is none.
 #[derive(Drop)]
 pub struct Policies<'a> {
     taken: Vec<Certificate<'a>>,
@@ -73,7 +75,8 @@ impl<'a> Policies<'a> {
         cert: Certificate<'a>,
     ) -> Result<Policies<'a>, AllocError>
         requires { self.mapped ≡ true }
-        ensures { IfOk result (λ p. p ≡ record { certificates = policies_in cert.entry ∷ self.entry.certificates; mapped = false }) }
+        ensures { IfOk result (λ p. p ≡ record
+            { certificates = policies_in cert.entry ∷ self.entry.certificates; mapped = false }) }
     {
         let layer = layer_of(alloc, &self.expectations, &cert)?;
         let mut taken = self.taken;
@@ -88,7 +91,8 @@ impl<'a> Policies<'a> {
         })
     }
 
-    /// Applies the mappings of the latest certificate, none of which may name anyPolicy (RFC 5280 6.1.4 (b)).
+    /// Applies the mappings of the latest certificate, none of which may name anyPolicy (RFC 5280
+    /// 6.1.4 (b)).
     ///
     /// # Errors
     ///
@@ -96,7 +100,8 @@ impl<'a> Policies<'a> {
     pub fn map(self, alloc: Global) -> Result<Policies<'a>, AllocError>
         requires open { self.mapped ≡ false }
         requires fine { LatestMapsNoAny self.certificates }
-        ensures { IfOk result (λ p. p ≡ record { certificates = self.entry.certificates; mapped = true }) }
+        ensures { IfOk result (λ p. p ≡ record
+            { certificates = self.entry.certificates; mapped = true }) }
     {
         let taken = self.taken;
         let mut layers = self.layers;
@@ -123,8 +128,8 @@ impl<'a> Policies<'a> {
         is_over(&self.layers)
     }
 
-    /// The accepted policies, ascending by their content octets, each once, for a user who names these (RFC 5280
-    /// 6.1.5 (g)). One who names none, or anyPolicy, accepts any.
+    /// The accepted policies, ascending by their content octets, each once, for a user who names
+    /// these (RFC 5280 6.1.5 (g)). One who names none, or anyPolicy, accepts any.
     ///
     /// # Errors
     ///
@@ -132,7 +137,8 @@ impl<'a> Policies<'a> {
     pub fn finish(self, alloc: Global, user: &[&'a [u8]]) -> Result<Vec<&'a [u8]>, AllocError>
         requires { self.mapped ≡ false }
         ensures accepted { IfOk result (λ found. (p : Label) → In p (map (λ x. x.now) found.items)
-            ↔ IsAccepted (count self.entry.certificates) (InT self.entry.certificates) (map (λ x. x.now) user.now) p) }
+            ↔ IsAccepted (count self.entry.certificates) (InT self.entry.certificates)
+            (map (λ x. x.now) user.now) p) }
         ensures ascending { IfOk result (λ found. AreAscending (map (λ x. x.now) found.items)) }
     {
         let layers = self.layers;
@@ -154,7 +160,8 @@ fn layer_of<'a>(
     expectations: &[Link<'a>],
     cert: &Certificate<'a>,
 ) -> Result<Vec<Link<'a>>, AllocError>
-    ensures { IfOk result (λ links. graph.IsNext (policies_in cert.now) (map link_in expectations.now) (map link_in links.items)) }
+    ensures { IfOk result (λ links. graph.IsNext (policies_in cert.now)
+        (map link_in expectations.now) (map link_in links.items)) }
 {
     let stated = Labels::of(Vec::from_slice(alloc, cert.stated())?);
     let links = next_layer(alloc, expectations, &stated, fills(cert, &stated))?;
@@ -185,7 +192,8 @@ fn tops<'a>(
     links: &[Link<'a>],
     alive: &Labels<'a>,
 ) -> Result<Vec<&'a [u8]>, AllocError>
-    ensures { IfOk result (λ labels. labels.items ≡ map (λ x. x.label) (filter (λ x. graph.is_top alive.now (link_in x)) links.now)) }
+    ensures { IfOk result (λ labels. labels.items
+        ≡ map (λ x. x.label) (filter (λ x. graph.is_top alive.now (link_in x)) links.now)) }
 {
     links
         .iter()
@@ -200,7 +208,8 @@ fn above_alive<'a>(
     links: &[Link<'a>],
     alive: &Labels<'a>,
 ) -> Result<Vec<&'a [u8]>, AllocError>
-    ensures { IfOk result (λ labels. labels.items ≡ map (λ x. x.above) (filter (λ x. has alive.now x.label.now) links.now)) }
+    ensures { IfOk result (λ labels. labels.items
+        ≡ map (λ x. x.above) (filter (λ x. has alive.now x.label.now) links.now)) }
 {
     links
         .iter()
@@ -216,7 +225,8 @@ fn firsts<'a>(
     layers: &[Vec<Link<'a>>],
     ends: Labels<'a>,
 ) -> Result<Vec<&'a [u8]>, AllocError>
-    ensures { IfOk result (λ found. map (λ x. x.now) found.items ≡ graph.firsts (graph.newest (λ v. map link_in v.items) [] layers.now) ends.entry) }
+    ensures { IfOk result (λ found. map (λ x. x.now) found.items
+        ≡ graph.firsts (graph.newest (λ v. map link_in v.items) [] layers.now) ends.entry) }
 {
     let mut found = Vec::new(alloc);
     let mut alive = ends;
@@ -233,7 +243,8 @@ fn firsts<'a>(
 
 /// Whether the user names no policy, or anyPolicy.
 fn accepts_any(user: &[&[u8]]) -> bool
-    ensures { result ≡ (is_none (map (λ x. x.now) user.now) || has (map (λ x. x.now) user.now) anyPolicy) }
+    ensures { result ≡ (is_none (map (λ x. x.now) user.now)
+        || has (map (λ x. x.now) user.now) anyPolicy) }
 {
     user.is_empty() || names_any(user)
 }
@@ -264,7 +275,8 @@ fn chosen<'a>(
     free: bool,
     user: &[&'a [u8]],
 ) -> Result<Vec<&'a [u8]>, AllocError>
-    ensures { IfOk result (λ xs. map (λ x. x.now) xs.items ≡ graph.chosen (map (λ x. x.now) found.entry.items) free (map (λ x. x.now) user.now)) }
+    ensures { IfOk result (λ xs. map (λ x. x.now) xs.items
+        ≡ graph.chosen (map (λ x. x.now) found.entry.items) free (map (λ x. x.now) user.now)) }
 {
     if accepts_any(user) {
         if free {

@@ -1,4 +1,5 @@
--- A proposer in memory, and the state of the rules that it stands for ('Paxos Made Simple' 2.2, 2.5).
+-- A proposer in memory, and the state of the rules that it stands for ('Paxos Made Simple' 2.2,
+-- 2.5).
 use Rattle.std.proofs.Common.{◌≡◌, ℕ, List, Option, Some, None, if◌then◌else◌}
 use Rattle.ts_synod.specs.declared.message.Fact.{Fact}
 use Rattle.ts_synod.specs.declared.message.Vote.{Vote}
@@ -11,13 +12,20 @@ use Rattle.ts_proposer.specs.declared.proposer.State.{State}
 use Rattle.ts_proposer.specs.declared.proposer.Round.{Round}
 
 -- the round of the rules, with these promises if it is in phase 1
-abbrev pub round_with : {C : Type 0} → (ℕ → Option (Option (Vote C))) → Option Round → Option (RuleRound C)
+abbrev pub round_with : {C : Type 0} → (ℕ → Option (Option (Vote C))) → Option Round
+    → Option (RuleRound C)
 round_with promises None = None
-round_with promises (Some r) = Some (record { number = r.number; position = r.position; phase = (if r.is_accepting then Accepting else Preparing promises) })
+round_with promises (Some r) = Some
+    (record {
+      number = r.number;
+      position = r.position;
+      phase = (if r.is_accepting then Accepting else Preparing promises);
+    })
 
 -- the state of the rules, with these promises
 abbrev pub state_with : {C : Type 0} → (ℕ → Option (Option (Vote C))) → State C → ProposerState C
-state_with promises s = record { wanted = s.wanted; round = round_with promises s.round; seen = s.seen }
+state_with promises s = record
+    { wanted = s.wanted; round = round_with promises s.round; seen = s.seen }
 
 -- the state of the rules
 abbrev pub state_of : {C : Type 0} → Proposer C → ProposerState C

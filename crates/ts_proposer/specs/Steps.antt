@@ -17,7 +17,8 @@ use Rattle.ts_proposer.specs.Proposer.{state_of, state_with, used_of}
 -- the state once the change is made
 abbrev pub state_after : {C : Type 0} → Proposer C → Change C → ProposerState C
 state_after p Nothing = state_of p
-state_after p (Collect from taken) = state_with (put (promises_in p.promises) from (Some taken)) p.state
+state_after p (Collect from taken) =
+    state_with (put (promises_in p.promises) from (Some taken)) p.state
 state_after p (Become next) = state_with (λ a. None) next
 
 -- the greatest round used once the change is made
@@ -27,13 +28,15 @@ used_after p (Collect from taken) = used_of p
 used_after p (Become next) = next.used
 
 -- the step keeps, sends and becomes what the rule does
-pub record Makes {C : Type 0} (p : Proposer C) (step : Step C) (rule : ProposerStep C) : Type 0 where
+pub record Makes {C : Type 0} (p : Proposer C) (step : Step C)
+    (rule : ProposerStep C) : Type 0 where
   pub facts : step.facts.items ≡ rule.facts
   pub messages : step.messages.items ≡ rule.messages
   pub state : state_after p step.change ≡ rule.state
 
 -- the step is the rule's, and RoundsExhausted is answered exactly where the rule has none
-abbrev pub Proposes : {C : Type 0} → Proposer C → Result (Step C) ProposeFault → Option (ProposerStep C) → Type 0
+abbrev pub Proposes : {C : Type 0} → Proposer C → Result (Step C) ProposeFault
+    → Option (ProposerStep C) → Type 0
 Proposes p (Ok step) None = ⊥
 Proposes p (Ok step) (Some rule) = Makes p step rule
 Proposes p (Err RoundsExhausted) None = Unit {0}
@@ -47,6 +50,8 @@ HasPlace p Nothing = Unit {0}
 HasPlace p (Collect from taken) = is_some (get nat_cmp p.promises from) ≡ true
 HasPlace p (Become next) = Unit {0}
 
--- the step was made for this proposer as it is: there is a place for its change, and the rounds that it uses are those of its facts
+-- the step was made for this proposer as it is: there is a place for its change, and the rounds
+-- that it uses are those of its facts
 abbrev pub IsLatest : {C : Type 0} → Proposer C → Step C → Type 0
-IsLatest p step = HasPlace p step.change × (used_after p step.change ≡ max (used_of p) (used_round step.facts.items))
+IsLatest p step = HasPlace p step.change
+    × (used_after p step.change ≡ max (used_of p) (used_round step.facts.items))

@@ -31,7 +31,8 @@ pub fn has_majority<C: Command>(
     taken: &Option<Vote<C>>,
 ) -> bool
     requires { nodes ≤ 9 }
-    ensures { result ≡ is_majority nodes (λ a. is_some (put (promises_in promises.now) from (Some taken.now) a)) }
+    ensures { result ≡ is_majority nodes
+        (λ a. is_some (put (promises_in promises.now) from (Some taken.now) a)) }
 {
     let _taken = taken;
     let mut given: u8 = 0;
@@ -50,7 +51,8 @@ fn reported_by<'a, C: Command>(
     taken: &'a Option<Vote<C>>,
     node: u8,
 ) -> Option<&'a Vote<C>>
-    ensures { option_copied result ≡ reported (put (promises_in promises.now) from (Some taken.now) node) }
+    ensures { option_copied result
+        ≡ reported (put (promises_in promises.now) from (Some taken.now) node) }
 {
     if node == from {
         return taken.as_ref();
@@ -70,7 +72,8 @@ pub fn greatest_of<'a, C: Command>(
     taken: &'a Option<Vote<C>>,
 ) -> Option<&'a Vote<C>>
     requires { nodes ≤ 9 }
-    ensures { option_copied result ≡ greatest_reported (put (promises_in promises.now) from (Some taken.now)) nodes }
+    ensures { option_copied result
+        ≡ greatest_reported (put (promises_in promises.now) from (Some taken.now)) nodes }
 {
     let mut greatest: Option<&'a Vote<C>> = None;
     for node in 0..nodes {

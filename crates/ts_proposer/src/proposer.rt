@@ -1,15 +1,20 @@
 //! The proposer and its steps.
 
-ghost use Rattle.std.specs.Prelude.{◌≡◌, ◌<◌, ◌≤◌, ◌++◌, ◌∷◌, [], List, IfOk, OnOk, is_some, true, false, Some, None, max};
+ghost use Rattle.std.specs.Prelude.{◌≡◌, ◌<◌, ◌≤◌, ◌++◌, ◌∷◌, [], List, IfOk, OnOk, is_some, true};
+ghost use Rattle.std.specs.Prelude.{false, Some, None, max};
 ghost use Rattle.std.specs.Option.{option_copied};
 ghost use Rattle.std.specs.Ordering.{nat_cmp};
 ghost use Rattle.std.specs.BTreeMap.{get};
 ghost use Rattle.ts_synod.specs.declared.message.Fact.{Fact};
 ghost use Rattle.ts_synod.specs.Lists.{put};
 ghost use Rattle.ts_synod.specs.Force.{round_used_by};
-ghost use Rattle.ts_synod.specs.Proposer.{Phase, begin_phase_2, begin_round, command_to_propose, count_promises, drop_wanted, greatest_reported, greatest_round, idle, on_busy, on_growth, on_promise, only_state, propose, rounds_are_exhausted};
+ghost use Rattle.ts_synod.specs.Proposer.{Phase, begin_phase_2, begin_round, command_to_propose};
+ghost use Rattle.ts_synod.specs.Proposer.{count_promises, drop_wanted, greatest_reported};
+ghost use Rattle.ts_synod.specs.Proposer.{greatest_round, idle, on_busy, on_growth, on_promise};
+ghost use Rattle.ts_synod.specs.Proposer.{only_state, propose, rounds_are_exhausted};
 ghost use Rattle.ts_proposer.specs.Promises.{promises_in};
-ghost use Rattle.ts_proposer.specs.Proposer.{config_of, state_of, state_with, used_of, StandsFor, Unchanged};
+ghost use Rattle.ts_proposer.specs.Proposer.{config_of, state_of, state_with, used_of, StandsFor};
+ghost use Rattle.ts_proposer.specs.Proposer.{Unchanged};
 ghost use Rattle.ts_proposer.specs.Steps.{IsLatest, Makes, Proposes, state_after};
 
 use crate::promises::{greatest_of, has_majority, has_promised};
@@ -55,7 +60,8 @@ enum Change<C> {
     Become { next: State<C> },
 }
 
-/// What is to be kept on stable storage, what is to be sent after that, and the change of the proposer.
+/// What is to be kept on stable storage, what is to be sent after that, and the change of the
+/// proposer.
 #[derive(Drop)]
 pub struct Step<C> {
     pub facts: Vec<Fact<C>>,
@@ -141,7 +147,9 @@ impl<C: Command> Proposer<C> {
     fn begin_round(&self, position: u32, command: C) -> Result<Step<C>, AllocError>
         requires left { rounds_are_exhausted (used_of self.now) (state_of self.now) ≡ false }
         requires nodes { self.now.nodes ≤ 9 }
-        ensures step { IfOk result (λ step. Makes self.now step (begin_round (config_of self.now) (used_of self.now) (state_of self.now) position command)) }
+        ensures step { IfOk result (λ step. Makes self.now step
+            (begin_round (config_of self.now) (used_of self.now)
+            (state_of self.now) position command)) }
         ensures latest { IfOk result (λ step. IsLatest self.now step) }
     {
         let number = (self.greatest_round() + 1) as u32;
@@ -173,7 +181,9 @@ impl<C: Command> Proposer<C> {
     /// The step that proposes a command at a position, in place of any other.
     pub fn propose(&self, position: u32, command: &C) -> Result<Step<C>, ProposeFault>
         requires { (config_of self.now).nodes ≤ 9 }
-        ensures step { Proposes self.now result (propose (config_of self.now) (used_of self.now) (state_of self.now) position command.now) }
+        ensures step { Proposes self.now result
+            (propose (config_of self.now) (used_of self.now)
+            (state_of self.now) position command.now) }
         ensures latest { IfOk result (λ step. IsLatest self.now step) }
     {
         if self.greatest_round() >= LAST_ROUND {
@@ -233,7 +243,8 @@ impl<C: Command> Proposer<C> {
         ballot: Ballot,
         promised: Ballot,
     ) -> Result<Step<C>, AllocError>
-        ensures step { IfOk result (λ step. Makes self.now step (on_busy (config_of self.now) (state_of self.now) position ballot promised)) }
+        ensures step { IfOk result (λ step. Makes self.now step
+            (on_busy (config_of self.now) (state_of self.now) position ballot promised)) }
         ensures latest { IfOk result (λ step. IsLatest self.now step) }
     {
         if let Some(round) = self.state.round {
@@ -255,10 +266,12 @@ impl<C: Command> Proposer<C> {
         Ok(self.no_step())
     }
 
-    /// The step after the prefix has grown. `next` is where the wanted command can be proposed, if it can.
+    /// The step after the prefix has grown. `next` is where the wanted command can be proposed, if
+    /// it can.
     pub fn on_growth(&self, next: Option<u32>) -> Result<Step<C>, AllocError>
         requires { (config_of self.now).nodes ≤ 9 }
-        ensures step { IfOk result (λ step. Makes self.now step (on_growth (config_of self.now) (used_of self.now) (state_of self.now) next)) }
+        ensures step { IfOk result (λ step. Makes self.now step
+            (on_growth (config_of self.now) (used_of self.now) (state_of self.now) next)) }
         ensures latest { IfOk result (λ step. IsLatest self.now step) }
     {
         let Some(command) = &self.state.wanted else {
@@ -277,7 +290,10 @@ impl<C: Command> Proposer<C> {
     /// The command that the promises of a majority allow, where `from` reports `taken`.
     fn command_to_propose(&self, from: u8, taken: &Option<Vote<C>>) -> Result<Option<C>, AllocError>
         requires { self.now.nodes ≤ 9 }
-        ensures { IfOk result (λ command. command ≡ command_to_propose (greatest_reported (put (promises_in self.now.promises) from (Some taken.now)) self.now.nodes) self.now.state.wanted) }
+        ensures { IfOk result (λ command. command
+            ≡ command_to_propose (greatest_reported
+            (put (promises_in self.now.promises) from (Some taken.now)) self.now.nodes)
+            self.now.state.wanted) }
     {
         match greatest_of(self.nodes, &self.promises, from, taken) {
             Some(vote) => Ok(Some(vote.command.try_copy(self.alloc)?)),
@@ -288,7 +304,10 @@ impl<C: Command> Proposer<C> {
     /// The step that sends Accept with a command.
     fn send_accept(&self, round: Round, command: C) -> Result<Step<C>, AllocError>
         requires { self.now.nodes ≤ 9 }
-        ensures step { IfOk result (λ step. (phase : Phase C) → Makes self.now step (begin_phase_2 (config_of self.now) (state_of self.now) (record { number = round.number; position = round.position; phase = phase }) (Some command))) }
+        ensures step { IfOk result (λ step. (phase : Phase C)
+            → Makes self.now step (begin_phase_2 (config_of self.now) (state_of self.now)
+            (record { number = round.number; position = round.position; phase = phase })
+            (Some command))) }
         ensures latest { IfOk result (λ step. IsLatest self.now step) }
     {
         let next = State {
@@ -322,7 +341,12 @@ impl<C: Command> Proposer<C> {
         taken: &Option<Vote<C>>,
     ) -> Result<Step<C>, AllocError>
         requires { self.now.nodes ≤ 9 }
-        ensures step { IfOk result (λ step. (phase : Phase C) → Makes self.now step (begin_phase_2 (config_of self.now) (state_of self.now) (record { number = round.number; position = round.position; phase = phase }) (command_to_propose (greatest_reported (put (promises_in self.now.promises) from (Some taken.now)) self.now.nodes) self.now.state.wanted))) }
+        ensures step { IfOk result (λ step. (phase : Phase C)
+            → Makes self.now step (begin_phase_2 (config_of self.now) (state_of self.now)
+            (record { number = round.number; position = round.position; phase = phase })
+            (command_to_propose (greatest_reported
+            (put (promises_in self.now.promises) from (Some taken.now)) self.now.nodes)
+            self.now.state.wanted))) }
         ensures latest { IfOk result (λ step. IsLatest self.now step) }
     {
         match self.command_to_propose(from, taken)? {
@@ -353,7 +377,10 @@ impl<C: Command> Proposer<C> {
         requires current { self.now.state.round ≡ Some round }
         requires phase { round.is_accepting ≡ false }
         requires place { is_some (get nat_cmp self.now.promises from) ≡ true }
-        ensures step { IfOk result (λ step. (phase : Phase C) → Makes self.now step (count_promises (config_of self.now) (state_of self.now) (record { number = round.number; position = round.position; phase = phase }) (put (promises_in self.now.promises) from (Some taken)))) }
+        ensures step { IfOk result (λ step. (phase : Phase C)
+            → Makes self.now step (count_promises (config_of self.now) (state_of self.now)
+            (record { number = round.number; position = round.position; phase = phase })
+            (put (promises_in self.now.promises) from (Some taken)))) }
         ensures latest { IfOk result (λ step. IsLatest self.now step) }
     {
         if has_majority(self.nodes, &self.promises, from, &taken) {
@@ -376,7 +403,8 @@ impl<C: Command> Proposer<C> {
         taken: Option<Vote<C>>,
     ) -> Result<Step<C>, AllocError>
         requires { (config_of self.old).nodes ≤ 9 }
-        ensures step { IfOk result (λ step. Makes self.new step (on_promise (config_of self.old) (state_of self.old) from position ballot taken)) }
+        ensures step { IfOk result (λ step. Makes self.new step
+            (on_promise (config_of self.old) (state_of self.old) from position ballot taken)) }
         ensures latest { IfOk result (λ step. IsLatest self.new step) }
         ensures same { Unchanged self.old self.new }
     {

@@ -1,5 +1,6 @@
 -- What is asked of a node: its limits, and its one encoding.
-use Rattle.std.specs.Prelude.{◌≡◌, ◌&&◌, ℕ, Bool, true, nat_le, is_some, List, [], ◌∷◌, ◌++◌, length, Option, Some, None, IfSome}
+use Rattle.std.specs.Prelude.{◌≡◌, ◌&&◌, ℕ, Bool, true, nat_le, is_some, List, [], ◌∷◌, ◌++◌}
+use Rattle.std.specs.Prelude.{length, Option, Some, None, IfSome}
 use Rattle.std.specs.List.{flat_map, list_all}
 use Rattle.std.specs.Int.{to_be_bytes, w16, w32, w64, cast_unsigned}
 use Rattle.std.specs.Int.RustNames.{FitsSigned}
@@ -24,14 +25,17 @@ is_position (Some k) = nat_le k 1000000
 
 -- at most 64 subtrees, whose lengths two octets hold
 abbrev pub are_subtrees : List (List ℕ) → Bool
-are_subtrees subtrees = nat_le (length subtrees) 64 && list_all (λ s. nat_le (length s) 65535) subtrees
+are_subtrees subtrees = nat_le (length subtrees) 64
+    && list_all (λ s. nat_le (length s) 65535) subtrees
 
 abbrev pub are_terms : Terms → Bool
-are_terms t = is_position t.k && nat_le (length t.user_policies) 32 && are_subtrees t.permitted_subtrees && are_subtrees t.excluded_subtrees
+are_terms t = is_position t.k && nat_le (length t.user_policies) 32
+    && are_subtrees t.permitted_subtrees && are_subtrees t.excluded_subtrees
 
 -- at least one certificate, and at most so many, each of at most 65,536 octets
 abbrev pub are_certificates : ℕ → List (List ℕ) → Bool
-are_certificates most certificates = nat_le 1 (length certificates) && nat_le (length certificates) most && list_all (λ c. nat_le (length c) 65536) certificates
+are_certificates most certificates = nat_le 1 (length certificates)
+    && nat_le (length certificates) most && list_all (λ c. nat_le (length c) 65536) certificates
 
 -- a chain has at most 16 certificates, a search a leaf and a pool of at most 32
 abbrev pub is_target : Target → Bool
@@ -43,9 +47,12 @@ is_within q = are_terms q.terms && is_target q.target
 
 -- ---- encoding
 
--- bit 0 explicit policy, 1 inhibit mapping, 2 inhibit anyPolicy, 3 hard, 4 k present, 5 purpose present, 6 use deltas
+-- bit 0 explicit policy, 1 inhibit mapping, 2 inhibit anyPolicy, 3 hard, 4 k present, 5 purpose
+-- present, 6 use deltas
 abbrev pub flags_octet : Flags → Bool → Bool → ℕ
-flags_octet f k purpose = bits (f.explicit_policy ∷ f.inhibit_policy_mapping ∷ f.inhibit_any_policy ∷ f.hard ∷ k ∷ purpose ∷ f.use_deltas ∷ [])
+flags_octet f k purpose = bits
+    (f.explicit_policy ∷ f.inhibit_policy_mapping ∷ f.inhibit_any_policy ∷ f.hard ∷ k ∷ purpose
+    ∷ f.use_deltas ∷ [])
 
 -- an octet of their number, and the contents octets of each
 abbrev pub policies_encoding : List (List ℕ) → List ℕ

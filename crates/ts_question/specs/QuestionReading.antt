@@ -1,12 +1,14 @@
 -- A question read from front to back.
-use Rattle.std.specs.Prelude.{ℕ, zero, suc, ◌==◌, ◌&&◌, ◌/◌, ◌%◌, Bool, nat_le, nat_lt, List, length, Option, Some, None}
+use Rattle.std.specs.Prelude.{ℕ, zero, suc, ◌==◌, ◌&&◌, ◌/◌, ◌%◌, Bool, nat_le, nat_lt, List}
+use Rattle.std.specs.Prelude.{length, Option, Some, None}
 use Rattle.std.specs.Int.{w16, w32, w64, cast_signed}
 use Rattle.ts_der.specs.ObjectIdentifier.{is_oid}
 use Rattle.ts_question.specs.declared.terms.Presence.{Presence}
 use Rattle.ts_question.specs.declared.terms.Terms.{Terms}
 use Rattle.ts_question.specs.declared.question.Target.{Target}
 use Rattle.ts_question.specs.declared.question.Target.TheVariants.{Chain, Search}
-use Rattle.ts_question.specs.Reading.{◌>>=◌, provided, octet_at, number_at, octets_at, blob8_at, blob16_at, blob32_at, optional_at, many_at}
+use Rattle.ts_question.specs.Reading.{◌>>=◌, provided, octet_at, number_at, octets_at, blob8_at}
+use Rattle.ts_question.specs.Reading.{blob16_at, blob32_at, optional_at, many_at}
 use Rattle.ts_question.specs.Question.{Asked}
 
 unfoldable pub position_at : List ℕ → Option (ℕ × List ℕ)

@@ -1,5 +1,7 @@
--- Reading from front to back: a value and the octets after it, or none where the octets are cut or out of range.
-use Rattle.std.specs.Prelude.{◌≡◌, ◌==◌, ℕ, zero, suc, Bool, List, [], ◌∷◌, length, take, drop, Option, Some, None, Result, Ok, Err, nat_lt, if◌then◌else◌}
+-- Reading from front to back: a value and the octets after it, or none where the octets are cut or
+-- out of range.
+use Rattle.std.specs.Prelude.{◌≡◌, ◌==◌, ℕ, zero, suc, Bool, List, [], ◌∷◌, length, take, drop}
+use Rattle.std.specs.Prelude.{Option, Some, None, Result, Ok, Err, nat_lt, if◌then◌else◌}
 use Rattle.std.specs.Int.{Width, w16, w32, byte_len, from_be_bytes}
 use Rattle.ts_question.specs.declared.fault.ReadFault.{ReadFault}
 use Rattle.ts_question.specs.declared.fault.ReadFault.TheVariants as faults
@@ -28,7 +30,8 @@ octet_at [] = None
 octet_at (octet ∷ rest) = Some (octet, rest)
 
 abbrev pub number_at : Width → List ℕ → Option (ℕ × List ℕ)
-number_at w octets = if nat_lt (length octets) (byte_len w) then None else Some (from_be_bytes w (take (byte_len w) octets), drop (byte_len w) octets)
+number_at w octets = if nat_lt (length octets) (byte_len w) then None
+    else Some (from_be_bytes w (take (byte_len w) octets), drop (byte_len w) octets)
 
 -- so many octets
 abbrev pub octets_at : ℕ → List ℕ → Option (List ℕ × List ℕ)
@@ -50,11 +53,14 @@ blob32_at octets = do
   octets_at n.0 n.1
 
 -- a part that is here only where a flag says so
-unfoldable pub optional_at : {A : Type 0} → (List ℕ → Option (A × List ℕ)) → Bool → List ℕ → Option (Option A × List ℕ)
-optional_at part there octets = if there then (part octets >>= λ x. Some (Some x.0, x.1)) else Some (None, octets)
+unfoldable pub optional_at : {A : Type 0} → (List ℕ → Option (A × List ℕ)) → Bool → List ℕ
+    → Option (Option A × List ℕ)
+optional_at part there octets = if there then (part octets >>= λ x. Some (Some x.0, x.1))
+    else Some (None, octets)
 
 -- so many items, one after another
-unfoldable pub many_at : {A : Type 0} → (List ℕ → Option (A × List ℕ)) → ℕ → List ℕ → Option (List A × List ℕ)
+unfoldable pub many_at : {A : Type 0} → (List ℕ → Option (A × List ℕ)) → ℕ → List ℕ
+    → Option (List A × List ℕ)
 many_at item zero octets = Some ([], octets)
 many_at item (suc n) octets = do
   first ← item octets

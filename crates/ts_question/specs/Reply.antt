@@ -1,12 +1,22 @@
 -- What a node answers: its ranges, and its one encoding.
-use Rattle.std.specs.Prelude.{◌≡◌, ◌==◌, ◌&&◌, ◌-◌, ℕ, Bool, true, not, nat_le, nat_lt, List, [], ◌∷◌, ◌++◌, length, slice_index}
+use Rattle.std.specs.Prelude.{◌≡◌, ◌==◌, ◌&&◌, ◌-◌, ℕ, Bool, true, not, nat_le, nat_lt, List, []}
+use Rattle.std.specs.Prelude.{◌∷◌, ◌++◌, length, slice_index}
 use Rattle.std.specs.List.{flat_map, list_all, list_any}
 use Rattle.std.specs.Int.{to_be_bytes, w32}
 use Rattle.ts_der.specs.ObjectIdentifier.{is_oid}
 use Rattle.ts_question.specs.declared.reason.Reason.{Reason}
-use Rattle.ts_question.specs.declared.reason.Reason.TheVariants.{AnchorPurpose, Signature, TooEarly, Expired, Revoked, Undetermined, IssuerName, UnsupportedConstraint, NotPermitted, Excluded, PolicyRequired, MapsAny, NotCa, PathLength, KeyUsage, CriticalExtension, FinalPolicy, Purpose}
+use Rattle.ts_question.specs.declared.reason.Reason.TheVariants.{AnchorPurpose, Signature, TooEarly}
+use Rattle.ts_question.specs.declared.reason.Reason.TheVariants.{Expired, Revoked, Undetermined}
+use Rattle.ts_question.specs.declared.reason.Reason.TheVariants.{IssuerName, UnsupportedConstraint}
+use Rattle.ts_question.specs.declared.reason.Reason.TheVariants.{NotPermitted, Excluded}
+use Rattle.ts_question.specs.declared.reason.Reason.TheVariants.{PolicyRequired, MapsAny, NotCa}
+use Rattle.ts_question.specs.declared.reason.Reason.TheVariants.{PathLength, KeyUsage}
+use Rattle.ts_question.specs.declared.reason.Reason.TheVariants.{CriticalExtension, FinalPolicy}
+use Rattle.ts_question.specs.declared.reason.Reason.TheVariants.{Purpose}
 use Rattle.ts_question.specs.declared.reply.Reply.{Reply}
-use Rattle.ts_question.specs.declared.reply.Reply.TheVariants.{Valid, Invalid, Found, NoPath, SearchLimit, NotYet, Malformed, NoAnchor, Limit}
+use Rattle.ts_question.specs.declared.reply.Reply.TheVariants.{Valid, Invalid, Found, NoPath}
+use Rattle.ts_question.specs.declared.reply.Reply.TheVariants.{SearchLimit, NotYet, Malformed}
+use Rattle.ts_question.specs.declared.reply.Reply.TheVariants.{NoAnchor, Limit}
 use Rattle.ts_question.specs.Parts.{blob8}
 
 -- a reply, and the number of commands after which the store was looked at
@@ -26,7 +36,8 @@ is_distinct (place ∷ places) = not (list_any (λ p. p == place) places) && is_
 
 -- distinct, and the last is 1, the leaf
 abbrev pub are_places : List ℕ → Bool
-are_places places = nat_le (length places) 255 && slice_index places (length places - 1) == 1 && is_distinct places
+are_places places = nat_le (length places) 255 && slice_index places (length places - 1) == 1
+    && is_distinct places
 
 -- their number fits four octets
 abbrev pub are_countable : List (List ℕ) → Bool

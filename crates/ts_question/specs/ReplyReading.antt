@@ -2,10 +2,20 @@
 use Rattle.std.specs.Prelude.{ℕ, ◌==◌, nat_lt, List, [], ◌∷◌, Option, Some, if◌then◌else◌}
 use Rattle.std.specs.Int.{w32}
 use Rattle.ts_question.specs.declared.reason.Reason.{Reason}
-use Rattle.ts_question.specs.declared.reason.Reason.TheVariants.{AnchorPurpose, Signature, TooEarly, Expired, Revoked, Undetermined, IssuerName, UnsupportedConstraint, NotPermitted, Excluded, PolicyRequired, MapsAny, NotCa, PathLength, KeyUsage, CriticalExtension, FinalPolicy, Purpose}
+use Rattle.ts_question.specs.declared.reason.Reason.TheVariants.{AnchorPurpose, Signature, TooEarly}
+use Rattle.ts_question.specs.declared.reason.Reason.TheVariants.{Expired, Revoked, Undetermined}
+use Rattle.ts_question.specs.declared.reason.Reason.TheVariants.{IssuerName, UnsupportedConstraint}
+use Rattle.ts_question.specs.declared.reason.Reason.TheVariants.{NotPermitted, Excluded}
+use Rattle.ts_question.specs.declared.reason.Reason.TheVariants.{PolicyRequired, MapsAny, NotCa}
+use Rattle.ts_question.specs.declared.reason.Reason.TheVariants.{PathLength, KeyUsage}
+use Rattle.ts_question.specs.declared.reason.Reason.TheVariants.{CriticalExtension, FinalPolicy}
+use Rattle.ts_question.specs.declared.reason.Reason.TheVariants.{Purpose}
 use Rattle.ts_question.specs.declared.reply.Reply.{Reply}
-use Rattle.ts_question.specs.declared.reply.Reply.TheVariants.{Valid, Invalid, Found, NoPath, SearchLimit, NotYet, Malformed, NoAnchor, Limit}
-use Rattle.ts_question.specs.Reading.{◌>>=◌, provided, octet_at, number_at, octets_at, blob8_at, many_at, lookup}
+use Rattle.ts_question.specs.declared.reply.Reply.TheVariants.{Valid, Invalid, Found, NoPath}
+use Rattle.ts_question.specs.declared.reply.Reply.TheVariants.{SearchLimit, NotYet, Malformed}
+use Rattle.ts_question.specs.declared.reply.Reply.TheVariants.{NoAnchor, Limit}
+use Rattle.ts_question.specs.Reading.{◌>>=◌, provided, octet_at, number_at, octets_at, blob8_at}
+use Rattle.ts_question.specs.Reading.{many_at, lookup}
 use Rattle.ts_question.specs.QuestionReading.{position_at, oid_at}
 use Rattle.ts_question.specs.Reply.{Answered, answered, are_places, is_place}
 
@@ -16,8 +26,10 @@ accepted_at octets = do
 
 -- the reasons that say nothing beside their number
 abbrev pub plain_reasons : List (ℕ × Reason)
-plain_reasons = (1, AnchorPurpose) ∷ (2, Signature) ∷ (3, TooEarly) ∷ (4, Expired) ∷ (6, Undetermined) ∷ (7, IssuerName) ∷ (8, UnsupportedConstraint)
-    ∷ (9, NotPermitted) ∷ (10, Excluded) ∷ (11, PolicyRequired) ∷ (12, MapsAny) ∷ (13, NotCa) ∷ (14, PathLength) ∷ (15, KeyUsage) ∷ (17, FinalPolicy) ∷ (18, Purpose) ∷ []
+plain_reasons = (1, AnchorPurpose) ∷ (2, Signature) ∷ (3, TooEarly) ∷ (4, Expired)
+    ∷ (6, Undetermined) ∷ (7, IssuerName) ∷ (8, UnsupportedConstraint)
+    ∷ (9, NotPermitted) ∷ (10, Excluded) ∷ (11, PolicyRequired) ∷ (12, MapsAny) ∷ (13, NotCa)
+    ∷ (14, PathLength) ∷ (15, KeyUsage) ∷ (17, FinalPolicy) ∷ (18, Purpose) ∷ []
 
 abbrev pub with_rest : List ℕ → Reason → Option (Reason × List ℕ)
 with_rest rest reason = Some (reason, rest)
@@ -78,7 +90,9 @@ bare reply octets = Some (reply, octets)
 
 -- how the fields after each tag are read
 abbrev pub readers : ℕ → List (ℕ × (List ℕ → Option (Reply × List ℕ)))
-readers k = (1, valid_at) ∷ (2, invalid_at) ∷ (3, found_at) ∷ (4, bare NoPath) ∷ (5, bare SearchLimit) ∷ (6, not_yet_at k) ∷ (7, malformed_at) ∷ (8, bare NoAnchor) ∷ (9, limit_at) ∷ []
+readers k = (1, valid_at) ∷ (2, invalid_at) ∷ (3, found_at) ∷ (4, bare NoPath)
+    ∷ (5, bare SearchLimit) ∷ (6, not_yet_at k) ∷ (7, malformed_at) ∷ (8, bare NoAnchor)
+    ∷ (9, limit_at) ∷ []
 
 unfoldable pub reply_at : ℕ → ℕ → List ℕ → Option (Reply × List ℕ)
 reply_at k tag octets = lookup tag (readers k) >>= λ read. read octets

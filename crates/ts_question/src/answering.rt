@@ -20,7 +20,8 @@ impl Answer {
     /// # Errors
     ///
     /// `OutOfLimits` exactly where k is above 1,000,000, the position of `Invalid` is not 1 to 16, the places of `Found` are
-    /// more than 255, not distinct or don't end in 1, the prefix of `NotYet` is not below k, or there are 2^32 policies.
+    /// more than 255, not distinct or don't end in 1, the prefix of `NotYet` is not below k, or
+    /// there are 2^32 policies.
     pub fn new(k: u32, reply: Reply) -> Result<Answer, OutOfLimits>
         ensures { let answered : Answered = record { k = k; reply = reply } in
             MatchResult result (λ a. (a ≡ answered) × Fits a) (λ _. is_answer answered ≡ false) }
@@ -32,7 +33,8 @@ impl Answer {
         Ok(Answer { k, reply })
     }
 
-    /// The number of commands after which the store was looked at; for `NotYet` the number that was asked for.
+    /// The number of commands after which the store was looked at; for `NotYet` the number that was
+    /// asked for.
     pub fn k(&self) -> u32
         ensures { result ≡ self.now.k }
     {
@@ -63,7 +65,8 @@ impl Answer {
         // What is read is encoded so.
         ensures found { IfOk result (λ read. IfSome read (λ a. Fits a × (octets.now ≡ encoding a))) }
         // What is encoded so is read.
-        ensures only { (a : Answered) → Fits a → octets.now ≡ encoding a → IfOk result (λ read. read ≡ Some a) }
+        ensures only { (a : Answered) → Fits a → octets.now ≡ encoding a
+            → IfOk result (λ read. read ≡ Some a) }
     {
         match reply_reading::whole_answer(alloc, octets) {
             Ok((k, reply)) => Ok(Some(Answer { k, reply })),

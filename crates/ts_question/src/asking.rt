@@ -1,6 +1,7 @@
 //! Questions are made, read and written.
 
-ghost use Rattle.std.specs.Prelude.{◌≡◌, ◌++◌, ◌∷◌, true, false, map, Some, Ok, IfOk, IfSome, OnOk, MatchResult};
+ghost use Rattle.std.specs.Prelude.{◌≡◌, ◌++◌, ◌∷◌, true, false, map, Some, Ok, IfOk, IfSome, OnOk};
+ghost use Rattle.std.specs.Prelude.{MatchResult};
 ghost use Rattle.ts_question.specs.Question.{Asked, is_within, encoding, Fits};
 ghost use Rattle.ts_question.specs.declared.question.Target.TheVariants.{Chain, Search};
 
@@ -28,8 +29,8 @@ fn checked(terms: Terms, target: Target) -> Result<Question, OutOfLimits>
 }
 
 impl Question {
-    /// Whether a chain is valid under the anchor whose certificate has this SHA-256 digest. The certificates stand from the one
-    /// that the anchor issued to the last.
+    /// Whether a chain is valid under the anchor whose certificate has this SHA-256 digest. The
+    /// certificates stand from the one that the anchor issued to the last.
     ///
     /// # Errors
     ///
@@ -39,7 +40,8 @@ impl Question {
         anchor: [u8; 32],
         certificates: Vec<Vec<u8>>,
     ) -> Result<Question, OutOfLimits>
-        ensures { let asked : Asked = record { terms = terms; target = Chain anchor (map (λ c. c.items) certificates.items) } in
+        ensures { let asked : Asked = record
+            { terms = terms; target = Chain anchor (map (λ c. c.items) certificates.items) } in
             MatchResult result (λ q. (q ≡ asked) × Fits q) (λ _. is_within asked ≡ false) }
     {
         let certificates = OctetStrings::new(certificates);
@@ -56,7 +58,8 @@ impl Question {
     ///
     /// `OutOfLimits` exactly where the question is outside its limits.
     pub fn search(terms: Terms, certificates: Vec<Vec<u8>>) -> Result<Question, OutOfLimits>
-        ensures { let asked : Asked = record { terms = terms; target = Search (map (λ c. c.items) certificates.items) } in
+        ensures { let asked : Asked = record
+            { terms = terms; target = Search (map (λ c. c.items) certificates.items) } in
             MatchResult result (λ q. (q ≡ asked) × Fits q) (λ _. is_within asked ≡ false) }
     {
         let certificates = OctetStrings::new(certificates);
@@ -87,7 +90,8 @@ impl Question {
         // What is read is encoded so.
         ensures found { IfOk result (λ read. IfSome read (λ q. Fits q × (octets.now ≡ encoding q))) }
         // What is encoded so is read.
-        ensures only { (q : Asked) → Fits q → octets.now ≡ encoding q → IfOk result (λ read. read ≡ Some q) }
+        ensures only { (q : Asked) → Fits q → octets.now ≡ encoding q
+            → IfOk result (λ read. read ≡ Some q) }
     {
         match reading::question(alloc, octets) {
             Ok((terms, target)) => Ok(Some(Question { terms, target })),

@@ -2,16 +2,21 @@
 
 ghost use Rattle.std.specs.Prelude.{◌≡◌, ℕ, List};
 ghost use Rattle.ts_question.specs.Question.{Asked, encoding, Fits};
-ghost use Rattle.ts_question.specs.Reply.{Answered, encoding as answer_encoding, Fits as AnswerFits};
+ghost use Rattle.ts_question.specs.Reply.{Answered, encoding as answer_encoding};
+ghost use Rattle.ts_question.specs.Reply.{Fits as AnswerFits};
 
 /// No two questions have one encoding, and no two lists of octets are one question's.
 pub fn one_question()
-    ensures question { (q other : Asked) → Fits q → Fits other → encoding q ≡ encoding other → q ≡ other }
-    ensures octets { (octets others : List ℕ) (q : Asked) → octets ≡ encoding q → others ≡ encoding q → octets ≡ others }
+    ensures question { (q other : Asked) → Fits q → Fits other → encoding q ≡ encoding other
+        → q ≡ other }
+    ensures octets { (octets others : List ℕ) (q : Asked) → octets ≡ encoding q
+        → others ≡ encoding q → octets ≡ others }
 {}
 
 /// No two answers have one encoding, and no two lists of octets are one answer's.
 pub fn one_answer()
-    ensures answer { (a other : Answered) → AnswerFits a → AnswerFits other → answer_encoding a ≡ answer_encoding other → a ≡ other }
-    ensures octets { (octets others : List ℕ) (a : Answered) → octets ≡ answer_encoding a → others ≡ answer_encoding a → octets ≡ others }
+    ensures answer { (a other : Answered) → AnswerFits a → AnswerFits other
+        → answer_encoding a ≡ answer_encoding other → a ≡ other }
+    ensures octets { (octets others : List ℕ) (a : Answered) → octets ≡ answer_encoding a
+        → others ≡ answer_encoding a → octets ≡ others }
 {}

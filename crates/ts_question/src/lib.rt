@@ -1,4 +1,5 @@
-//! What is asked of a node about a chain of certificates, and what it answers: plain values, each with one encoding.
+//! What is asked of a node about a chain of certificates, and what it answers: plain values, each
+//! with one encoding.
 //!
 //! ```text
 //! let question = Question::chain(terms, anchor, certificates)?;   // OutOfLimits exactly outside the limits
@@ -8,11 +9,13 @@
 //! let octets = answer.octets(alloc)?;
 //! ```
 //!
-//! Numbers are big endian. A question is 01 for a chain or 02 for a search; eight octets of the moment; an octet of flags (bit 0
-//! explicit policy, 1 inhibit mapping, 2 inhibit anyPolicy, 3 hard, 4 k is present, 5 a purpose is present, 6 use deltas); four
-//! octets of k; the purpose after an octet of its length; an octet of the number of user policies, and each like the purpose; two
-//! octets of the number of permitted subtrees, and each after two octets of its length; the excluded ones like them; of a chain the
-//! 32 octets of the anchor's id; and an octet of the number of certificates, and each after four octets of its length.
+//! Numbers are big endian. A question is 01 for a chain or 02 for a search; eight octets of the
+//! moment; an octet of flags (bit 0 explicit policy, 1 inhibit mapping, 2 inhibit anyPolicy, 3
+//! hard, 4 k is present, 5 a purpose is present, 6 use deltas); four octets of k; the purpose after
+//! an octet of its length; an octet of the number of user policies, and each like the purpose; two
+//! octets of the number of permitted subtrees, and each after two octets of its length; the
+//! excluded ones like them; of a chain the 32 octets of the anchor's id; and an octet of the number
+//! of certificates, and each after four octets of its length.
 //!
 //! An answer is four octets of k, an octet of the reply's tag, and its fields (`specs/Reply`).
 //!
@@ -25,8 +28,8 @@
 //! | [`laws::one_question`], [`laws::one_answer`] | no two values have one encoding, and no two lists of octets are one value's |
 //! | [`parts`] | numbers and octets at the front of others, lent; each gives what its reading (`specs/Reading`) gives |
 //!
-//! DER is not looked into, except that policies, purposes and extensions are object identifiers. Memory that is refused is answered
-//! as `AllocError`.
+//! DER is not looked into, except that policies, purposes and extensions are object identifiers.
+//! Memory that is refused is answered as `AllocError`.
 #![tactic(auto)]
 
 mod answering;

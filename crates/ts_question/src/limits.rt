@@ -2,7 +2,8 @@
 
 ghost use Rattle.std.specs.Prelude.{◌≡◌, nat_le, length};
 ghost use Rattle.std.specs.List.{list_all};
-ghost use Rattle.ts_question.specs.Question.{is_position, are_subtrees, are_terms, are_certificates, is_target, TermsFit, TargetFits};
+ghost use Rattle.ts_question.specs.Question.{is_position, are_subtrees, are_terms};
+ghost use Rattle.ts_question.specs.Question.{are_certificates, is_target, TermsFit, TargetFits};
 
 use crate::lists::OctetStrings;
 use crate::question::Target;

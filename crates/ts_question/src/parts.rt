@@ -1,8 +1,10 @@
-//! Parts at the front of octets. Each call gives the part and lends the octets after it; `Form` where they are cut.
+//! Parts at the front of octets. Each call gives the part and lends the octets after it; `Form`
+//! where they are cut.
 
 ghost use Rattle.std.specs.Prelude.{◌≡◌, Ok};
 ghost use Rattle.std.specs.Int.{w16, w32, w64};
-ghost use Rattle.ts_question.specs.Reading.{Gives, octet_at, number_at, octets_at, blob8_at, blob16_at, blob32_at};
+ghost use Rattle.ts_question.specs.Reading.{Gives, octet_at, number_at, octets_at, blob8_at};
+ghost use Rattle.ts_question.specs.Reading.{blob16_at, blob32_at};
 
 use crate::fault::ReadFault;
 

@@ -4,8 +4,9 @@ use crate::lists::OctetStrings;
 use crate::terms::Terms;
 use std::marker::Model;
 
-/// A question is outside its limits: k above 1,000,000, more than 32 user policies, more than 64 subtrees of a kind or one of
-/// more than 65,535 octets, no certificate, more than 16 of a chain or 33 of a search, or one of more than 65,536 octets.
+/// A question is outside its limits: k above 1,000,000, more than 32 user policies, more than 64
+/// subtrees of a kind or one of more than 65,535 octets, no certificate, more than 16 of a chain or
+/// 33 of a search, or one of more than 65,536 octets.
 #[derive(Clone, Copy, Debug, PartialEq, Eq)]
 pub struct OutOfLimits;
 

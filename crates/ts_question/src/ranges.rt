@@ -2,7 +2,8 @@
 
 ghost use Rattle.std.specs.Prelude.{◌≡◌, ◌==◌, ◌-◌, ◌<◌, nat_lt, true, length, slice_index};
 ghost use Rattle.std.specs.List.{list_any};
-ghost use Rattle.ts_question.specs.Reply.{is_distinct, are_places, are_countable, is_place, is_reply, DetailFits, FieldsFit};
+ghost use Rattle.ts_question.specs.Reply.{is_distinct, are_places, are_countable, is_place};
+ghost use Rattle.ts_question.specs.Reply.{is_reply, DetailFits, FieldsFit};
 
 use crate::lists::Oids;
 use crate::reading::MAX_CHAIN;

@@ -2,9 +2,13 @@
 
 ghost use Rattle.std.specs.Prelude.{◌≡◌, ◌<◌, true, false, MatchOption};
 ghost use Rattle.ts_der.specs.ObjectIdentifier.{is_oid};
-ghost use Rattle.ts_question.specs.Reading.{Gives, whole, octets_at, many_at, optional_at, blob16_at};
+ghost use Rattle.ts_question.specs.Reading.{Gives, whole, octets_at, many_at, optional_at};
+ghost use Rattle.ts_question.specs.Reading.{blob16_at};
 ghost use Rattle.ts_question.specs.Question.{Asked};
-ghost use Rattle.ts_question.specs.QuestionReading.{bit, position_at, oid_at, certificate_at, presence_at, policies_at, subtrees_at, certificates_at, terms_at, target_at, question_at};
+ghost use Rattle.ts_question.specs.QuestionReading.{bit, position_at, oid_at, certificate_at};
+ghost use Rattle.ts_question.specs.QuestionReading.{presence_at, policies_at, subtrees_at};
+ghost use Rattle.ts_question.specs.QuestionReading.{certificates_at, terms_at, target_at};
+ghost use Rattle.ts_question.specs.QuestionReading.{question_at};
 
 use crate::fault::ReadFault;
 use crate::lists::{OctetStrings, Oids};
@@ -42,9 +46,11 @@ pub(crate) fn position(octets: &[u8]) -> Result<(u32, &[u8]), ReadFault>
     Ok((k, rest))
 }
 
-/// The object identifier that these contents octets are. `None` exactly where they are those of none (X.690 8.19).
+/// The object identifier that these contents octets are. `None` exactly where they are those of
+/// none (X.690 8.19).
 pub fn identifier(content: &[u8]) -> Option<OidRef<'_>>
-    ensures { MatchOption result (is_oid content.now ≡ false) (λ oid. (oid.content.now ≡ content.now) × (is_oid content.now ≡ true)) }
+    ensures { MatchOption result (is_oid content.now ≡ false)
+        (λ oid. (oid.content.now ≡ content.now) × (is_oid content.now ≡ true)) }
 {
     let element = Element {
         tag: OBJECT_IDENTIFIER,
@@ -295,7 +301,8 @@ fn target(alloc: Global, kind: u8, octets: &[u8]) -> Result<(Target, &[u8]), Rea
 /// The terms and the certificates of the question that the octets are.
 #[tactic(auto, unfolding(crate::specs::QuestionReading::question_at))]
 pub(crate) fn question(alloc: Global, octets: &[u8]) -> Result<(Terms, Target), ReadFault>
-    ensures { Gives (λ (x : Terms × Target). record { terms = x.0; target = x.1 }) result (whole (question_at octets.now)) }
+    ensures { Gives (λ (x : Terms × Target). record { terms = x.0; target = x.1 }) result
+        (whole (question_at octets.now)) }
 {
     let (kind, rest) = octet(octets)?;
     let (terms, rest) = terms(alloc, rest)?;

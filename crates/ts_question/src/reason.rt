@@ -5,8 +5,8 @@ ghost use Rattle.ts_question.specs.Reply.{number_of};
 
 use ts_der::Oid;
 
-/// The condition that a certificate of the chain does not meet (RFC 5280 6.1.3 to 6.1.5), in the order in which they
-/// are judged.
+/// The condition that a certificate of the chain does not meet (RFC 5280 6.1.3 to 6.1.5), in the
+/// order in which they are judged.
 #[derive(Debug, Drop)]
 pub enum Reason {
     /// The anchor is not trusted for the purpose that is asked.

@@ -21,7 +21,8 @@ pub enum Reply {
     /// This chain is valid.
     Found {
         anchor: [u8; 32],
-        /// The places in the question of the chain's certificates, from the anchor's side. The leaf has place 1.
+        /// The places in the question of the chain's certificates, from the anchor's side. The leaf
+        /// has place 1.
         places: Places,
         policies: Oids,
     },
@@ -48,7 +49,8 @@ pub enum Reply {
     Limit,
 }
 
-/// A reply, and the number of commands after which the store was looked at, each field in its range.
+/// A reply, and the number of commands after which the store was looked at, each field in its
+/// range.
 #[derive(Debug, Drop)]
 pub struct Answer {
     pub(crate) k: u32,

@@ -3,7 +3,9 @@
 ghost use Rattle.std.specs.Prelude.{◌≡◌};
 ghost use Rattle.ts_question.specs.Reading.{Gives, whole, lookup};
 ghost use Rattle.ts_question.specs.Reply.{answered};
-ghost use Rattle.ts_question.specs.ReplyReading.{plain_reasons, accepted_at, detail_at, reason_at, valid_at, invalid_at, found_at, not_yet_at, malformed_at, limit_at, reply_at, answer_at};
+ghost use Rattle.ts_question.specs.ReplyReading.{plain_reasons, accepted_at, detail_at, reason_at};
+ghost use Rattle.ts_question.specs.ReplyReading.{valid_at, invalid_at, found_at, not_yet_at};
+ghost use Rattle.ts_question.specs.ReplyReading.{malformed_at, limit_at, reply_at, answer_at};
 
 use crate::fault::ReadFault;
 use crate::lists::{Oids, Places};

@@ -2,7 +2,8 @@
 
 ghost use Rattle.std.specs.Prelude.{◌≡◌, ◌++◌, true, ℕ, OnOk};
 ghost use Rattle.ts_question.specs.Parts.{blob8};
-ghost use Rattle.ts_question.specs.Reply.{are_places, are_countable, is_reply, reason_encoding, accepted_encoding, tag_of, fields};
+ghost use Rattle.ts_question.specs.Reply.{are_places, are_countable, is_reply, reason_encoding};
+ghost use Rattle.ts_question.specs.Reply.{accepted_encoding, tag_of, fields};
 
 use crate::lists::{Oids, Places};
 use crate::reason::Reason;

@@ -38,7 +38,8 @@ pub struct Terms {
     pub purpose: Option<Oid>,
     /// The policies that the user accepts (6.1.1 (c)), a set in any order; none stands for any.
     pub user_policies: Oids,
-    /// The subtrees in which names have to lie (6.1.1 (h)), each a GeneralSubtree in DER, which is not looked into.
+    /// The subtrees in which names have to lie (6.1.1 (h)), each a GeneralSubtree in DER, which is
+    /// not looked into.
     pub permitted_subtrees: OctetStrings,
     /// The subtrees in which no name may lie (6.1.1 (i)).
     pub excluded_subtrees: OctetStrings,

@@ -1,10 +1,14 @@
 //! Questions are written.
 
-ghost use Rattle.std.specs.Prelude.{◌≡◌, ◌≤◌, ◌<◌, ◌^◌, ◌++◌, ◌∷◌, ◌+◌, ◌*◌, cond, length, map, nat_le, is_some, true, OnOk};
+ghost use Rattle.std.specs.Prelude.{◌≡◌, ◌≤◌, ◌<◌, ◌^◌, ◌++◌, ◌∷◌, ◌+◌, ◌*◌, cond, length, map};
+ghost use Rattle.std.specs.Prelude.{nat_le, is_some, true, OnOk};
 ghost use Rattle.std.specs.List.{flat_map, list_all};
 ghost use Rattle.ts_question.specs.Parts.{blob8, blob16, blob32, optional};
 ghost use Rattle.std.specs.Int.{to_be_bytes, cast_unsigned, w32, w64};
-ghost use Rattle.ts_question.specs.Question.{flags_octet, is_position, are_subtrees, are_terms, are_certificates, is_target, policies_encoding, subtrees_encoding, certificates_encoding, terms_encoding, kind_of, target_encoding};
+ghost use Rattle.ts_question.specs.Question.{flags_octet, is_position, are_subtrees, are_terms};
+ghost use Rattle.ts_question.specs.Question.{are_certificates, is_target, policies_encoding};
+ghost use Rattle.ts_question.specs.Question.{subtrees_encoding, certificates_encoding};
+ghost use Rattle.ts_question.specs.Question.{terms_encoding, kind_of, target_encoding};
 
 use crate::lists::{OctetStrings, Oids};
 use crate::question::Target;
@@ -53,7 +57,8 @@ fn push_blob16(out: &mut Vec<u8>, octets: &[u8]) -> Result<(), AllocError>
 
 fn push_subtrees_of(out: &mut Vec<u8>, subtrees: &[Vec<u8>]) -> Result<(), AllocError>
     requires { list_all (λ s. nat_le (length s) 65535) (map (λ s. s.items) subtrees.now) ≡ true }
-    ensures { OnOk result (out.new.items ≡ out.old.items ++ flat_map blob16 (map (λ s. s.items) subtrees.now)) }
+    ensures { OnOk result (out.new.items
+        ≡ out.old.items ++ flat_map blob16 (map (λ s. s.items) subtrees.now)) }
 {
     for subtree in subtrees {
         push_blob16(out, subtree.as_slice())?;
@@ -80,8 +85,10 @@ pub fn push_blob32(out: &mut Vec<u8>, octets: &[u8]) -> Result<(), AllocError>
 }
 
 fn push_certificates_of(out: &mut Vec<u8>, certificates: &[Vec<u8>]) -> Result<(), AllocError>
-    requires { list_all (λ c. nat_le (length c) 65536) (map (λ c. c.items) certificates.now) ≡ true }
-    ensures { OnOk result (out.new.items ≡ out.old.items ++ flat_map blob32 (map (λ c. c.items) certificates.now)) }
+    requires { list_all (λ c. nat_le (length c) 65536) (map (λ c. c.items) certificates.now)
+        ≡ true }
+    ensures { OnOk result (out.new.items
+        ≡ out.old.items ++ flat_map blob32 (map (λ c. c.items) certificates.now)) }
 {
     for certificate in certificates {
         push_blob32(out, certificate.as_slice())?;
@@ -139,7 +146,8 @@ fn push_purpose(out: &mut Vec<u8>, purpose: &Option<Oid>) -> Result<(), AllocErr
 
 /// Writes the moment, the flags, k and the purpose.
 fn push_inputs(out: &mut Vec<u8>, terms: &Terms) -> Result<(), AllocError>
-    ensures { OnOk result (out.new.items ≡ out.old.items ++ (to_be_bytes w64 (cast_unsigned w64 terms.now.moment)
+    ensures { OnOk result (out.new.items
+        ≡ out.old.items ++ (to_be_bytes w64 (cast_unsigned w64 terms.now.moment)
         ++ (flags_octet terms.now.flags (is_some terms.now.k) (is_some terms.now.purpose)
         ∷ (optional (to_be_bytes w32) terms.now.k ++ optional blob8 terms.now.purpose)))) }
 {
@@ -154,8 +162,10 @@ fn push_inputs(out: &mut Vec<u8>, terms: &Terms) -> Result<(), AllocError>
 /// Writes the policies and the subtrees.
 fn push_lists(out: &mut Vec<u8>, terms: &Terms) -> Result<(), AllocError>
     requires { are_terms terms.now ≡ true }
-    ensures { OnOk result (out.new.items ≡ out.old.items ++ (policies_encoding terms.now.user_policies
-        ++ (subtrees_encoding terms.now.permitted_subtrees ++ subtrees_encoding terms.now.excluded_subtrees))) }
+    ensures { OnOk result (out.new.items
+        ≡ out.old.items ++ (policies_encoding terms.now.user_policies
+        ++ (subtrees_encoding terms.now.permitted_subtrees
+        ++ subtrees_encoding terms.now.excluded_subtrees))) }
 {
     push_policies(out, &terms.user_policies)?;
     push_subtrees(out, &terms.permitted_subtrees)?;

@@ -1,5 +1,7 @@
--- The facts that a rewrite copies: those that make up the force of a list ('Paxos Made Simple' 2.5), and no others.
-use Rattle.std.specs.Prelude.{◌==◌, if◌then◌else◌, ℕ, zero, suc, max, List, [], ◌∷◌, ◌++◌, Option, Some, None}
+-- The facts that a rewrite copies: those that make up the force of a list ('Paxos Made Simple'
+-- 2.5), and no others.
+use Rattle.std.specs.Prelude.{◌==◌, if◌then◌else◌, ℕ, zero, suc, max, List, [], ◌∷◌, ◌++◌, Option}
+use Rattle.std.specs.Prelude.{Some, None}
 use Rattle.ts_synod.specs.Force.{used_round, taken_vote, learned_command}
 use Rattle.ts_synod.specs.declared.message.Fact.{Fact}
 use Rattle.ts_synod.specs.declared.message.Fact.TheVariants.{Used, Promised, Took, Chosen}
@@ -47,7 +49,8 @@ learned_fact p (Some c) = Chosen p c ∷ []
 
 -- at a position: the greatest promise, the vote of the greatest ballot, and the command learned
 abbrev pub facts_at : {C : Type 0} → ℕ → List (Fact C) → List (Fact C)
-facts_at p facts = promise_fact p (greatest_promise p facts) ++ (vote_fact p (taken_vote p facts) ++ learned_fact p (learned_command p facts))
+facts_at p facts = promise_fact p (greatest_promise p facts)
+    ++ (vote_fact p (taken_vote p facts) ++ learned_fact p (learned_command p facts))
 
 -- those of n positions from one on
 abbrev pub facts_from : {C : Type 0} → ℕ → ℕ → List (Fact C) → List (Fact C)

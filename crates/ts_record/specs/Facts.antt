@@ -1,5 +1,6 @@
 -- Facts, how they are encoded, and which have an encoding. A command's encoding is its codec's.
-use Rattle.std.specs.Prelude.{◌≡◌, ◌≤◌, ◌<◌, ◌^◌, ◌%◌, ℕ, List, ◌∷◌, ◌++◌, length, map, drop, Option, MatchOption}
+use Rattle.std.specs.Prelude.{◌≡◌, ◌≤◌, ◌<◌, ◌^◌, ◌%◌, ℕ, List, ◌∷◌, ◌++◌, length, map, drop}
+use Rattle.std.specs.Prelude.{Option, MatchOption}
 use Rattle.std.specs.List.{flat_map, AllByRecursion}
 use Rattle.std.specs.Int.{to_be_bytes, w32, w64}
 use Rattle.ts_journal.specs.Images.{Member, Opens}
@@ -13,8 +14,10 @@ blob octets = to_be_bytes w32 (length octets) ++ octets
 -- a kind octet, and the fields
 abbrev pub encoding : {C : Type 0} → (C → List ℕ) → Fact C → List ℕ
 encoding octets (Used round) = 1 ∷ to_be_bytes w32 round
-encoding octets (Promised position ballot) = 2 ∷ (to_be_bytes w32 position ++ to_be_bytes w64 ballot)
-encoding octets (Took position ballot command) = 3 ∷ (to_be_bytes w32 position ++ (to_be_bytes w64 ballot ++ blob (octets command)))
+encoding octets (Promised position ballot) =
+    2 ∷ (to_be_bytes w32 position ++ to_be_bytes w64 ballot)
+encoding octets (Took position ballot command) =
+    3 ∷ (to_be_bytes w32 position ++ (to_be_bytes w64 ballot ++ blob (octets command)))
 encoding octets (Chosen position command) = 4 ∷ (to_be_bytes w32 position ++ blob (octets command))
 
 -- the facts of a body, one after the other
@@ -46,7 +49,8 @@ pub record IsBlob (octets : List ℕ) : Type 0 where
 abbrev pub Fits : {C : Type 0} → (C → List ℕ) → Fact C → Type 0
 Fits octets (Used round) = IsRound round
 Fits octets (Promised position ballot) = IsPosition position × IsBallot ballot
-Fits octets (Took position ballot command) = IsPosition position × IsBallot ballot × IsBlob (octets command)
+Fits octets (Took position ballot command) =
+    IsPosition position × IsBallot ballot × IsBlob (octets command)
 Fits octets (Chosen position command) = IsPosition position × IsBlob (octets command)
 
 abbrev pub AllFit : {C : Type 0} → (C → List ℕ) → List (Fact C) → Type 0
@@ -57,7 +61,8 @@ abbrev pub bodies_of : {C : Type 0} → (C → List ℕ) → List (List (Fact C)
 bodies_of octets groups = map (encodings octets) groups
 
 -- these bodies hold these facts
-pub record AreFacts {C : Type 0} (octets : C → List ℕ) (bodies : List (List ℕ)) (facts : List (Fact C)) : Type 0 where
+pub record AreFacts {C : Type 0} (octets : C → List ℕ) (bodies : List (List ℕ))
+    (facts : List (Fact C)) : Type 0 where
   pub groups : List (List (Fact C))
   pub fit : AllByRecursion (AllFit octets) groups
   pub encoded : bodies_of octets groups ≡ bodies
@@ -65,12 +70,14 @@ pub record AreFacts {C : Type 0} (octets : C → List ℕ) (bodies : List (List 
 
 -- no fact begins here
 abbrev pub NoFact : {C : Type 0} → (C → List ℕ) → List ℕ → Type 0
-NoFact {C} octets rest = (fact : Fact C) (after : List ℕ) → Fits octets fact → rest ≡ encoding octets fact ++ after → ⊥
+NoFact {C} octets rest = (fact : Fact C) (after : List ℕ) → Fits octets fact
+    → rest ≡ encoding octets fact ++ after → ⊥
 
 -- the fact that begins here, and the length of its octets; or no fact begins here
 abbrev pub Begins : {C : Type 0} → (C → List ℕ) → List ℕ → Option (Fact C × ℕ) → Type 0
 Begins octets rest found = MatchOption found (NoFact octets rest)
-    (λ read. Fits octets read.0 × (1 ≤ read.1) × (read.1 ≤ length rest) × (rest ≡ encoding octets read.0 ++ drop read.1 rest))
+    (λ read. Fits octets read.0 × (1 ≤ read.1) × (read.1 ≤ length rest)
+    × (rest ≡ encoding octets read.0 ++ drop read.1 rest))
 
 -- the same after the octet of its kind
 abbrev pub FactOrNot : {C : Type 0} → (C → List ℕ) → ℕ → List ℕ → Option (Fact C × ℕ) → Type 0
@@ -78,4 +85,5 @@ FactOrNot octets kind fields found = Begins octets (kind ∷ fields) found
 
 -- the pair of images opens to these facts, as the record of this member
 abbrev pub OpensTo : {C : Type 0} → (C → List ℕ) → Member → List (Fact C) → List ℕ → List ℕ → Type 0
-OpensTo octets member facts a b = (bodies : List (List ℕ)) × Opens member bodies a b × AreFacts octets bodies facts
+OpensTo octets member facts a b =
+    (bodies : List (List ℕ)) × Opens member bodies a b × AreFacts octets bodies facts

@@ -1,5 +1,5 @@
--- What a record keeps: its disks, in the order in which they were given, and its facts; whose it is; which disk is in use, and its
--- generation; and how far a rewrite is.
+-- What a record keeps: its disks, in the order in which they were given, and its facts; whose it
+-- is; which disk is in use, and its generation; and how far a rewrite is.
 use Rattle.std.specs.Prelude.{ℕ, List, Bool}
 use Rattle.ts_disk.specs.Disk.{State}
 use Rattle.ts_journal.specs.Images.{Member}
@@ -26,13 +26,23 @@ member kept = record { node = kept.node; nodes = kept.nodes }
 
 -- all but its disks
 abbrev pub course : {D C : Type 0} → Kept D C → Course C
-course kept = record { facts = kept.facts; swapped = kept.swapped; generation = kept.generation; rewrite = kept.rewrite }
+course kept = record {
+  facts = kept.facts;
+  swapped = kept.swapped;
+  generation = kept.generation;
+  rewrite = kept.rewrite;
+}
 
 abbrev pub rewrite_of : {D C : Type 0} → Ledger D C → Rewrite C
 rewrite_of c = rewrite_at c.journal.stage c.copy.items c.done
 
 abbrev pub course_of : {D C : Type 0} → Ledger D C → Course C
-course_of c = record { facts = c.facts.items; swapped = c.journal.swapped; generation = c.journal.generation; rewrite = rewrite_of c }
+course_of c = record {
+  facts = c.facts.items;
+  swapped = c.journal.swapped;
+  generation = c.journal.generation;
+  rewrite = rewrite_of c;
+}
 
 abbrev pub kept_of : {D C : Type 0} → Ledger D C → Bool → Kept D C
 kept_of c broken = record {
@@ -49,4 +59,5 @@ kept_of c broken = record {
 
 -- the journal holds bodies of the facts, and a rewrite is as far as it says
 abbrev pub Keeps : {D C : Type 0} → (D → State) → (C → List ℕ) → Ledger D C → Type 0
-Keeps state octets c = (bodies copied : List (List ℕ)) × Holds state bodies copied c.journal × AreFacts octets bodies c.facts.items × IsUnderWay octets c.facts.items copied (rewrite_of c)
+Keeps state octets c = (bodies copied : List (List ℕ)) × Holds state bodies copied c.journal
+    × AreFacts octets bodies c.facts.items × IsUnderWay octets c.facts.items copied (rewrite_of c)

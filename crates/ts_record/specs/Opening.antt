@@ -7,7 +7,9 @@ use Rattle.ts_disk.specs.Disk.{State}
 use Rattle.ts_record.specs.Blocks.{version_2, IsUnreadable}
 use Rattle.ts_record.specs.Record.{EitherFailed}
 use Rattle.ts_record.specs.declared.fault.Fault.{Fault}
-use Rattle.ts_record.specs.declared.fault.Fault.TheVariants.{Memory, DiskFailed, Broken, GenerationsExhausted, NotFormatted, OldVersion, Damaged}
+use Rattle.ts_record.specs.declared.fault.Fault.TheVariants.{Memory, DiskFailed, Broken}
+use Rattle.ts_record.specs.declared.fault.Fault.TheVariants.{GenerationsExhausted, NotFormatted}
+use Rattle.ts_record.specs.declared.fault.Fault.TheVariants.{OldVersion, Damaged}
 
 -- the first eight octets of a record of version 1
 abbrev pub BeginsOld : List ℕ → Type 0
@@ -27,8 +29,8 @@ IsRefused a b NotFormatted = Unchosen a b × (IsOld a b → ⊥)
 IsRefused a b OldVersion = Unchosen a b × IsOld a b
 IsRefused a b (Damaged at) = ⊥
 
--- Each fault that an open answers, and where it comes from: the device failed; no disk is in use; or something on the disk in
--- use can't be read.
+-- Each fault that an open answers, and where it comes from: the device failed; no disk is in use;
+-- or something on the disk in use can't be read.
 abbrev pub IsFault : {C : Type 0} → (C → List ℕ) → State → State → State → State → Fault → Type 0
 IsFault octets old_a old_b new_a new_b Memory = Unit {0}
 IsFault octets old_a old_b new_a new_b DiskFailed = EitherFailed old_a old_b new_a new_b
@@ -36,8 +38,12 @@ IsFault octets old_a old_b new_a new_b Broken = ⊥
 IsFault octets old_a old_b new_a new_b GenerationsExhausted = ⊥
 IsFault octets old_a old_b new_a new_b NotFormatted = IsRefused old_a.read old_b.read NotFormatted
 IsFault octets old_a old_b new_a new_b OldVersion = IsRefused old_a.read old_b.read OldVersion
-IsFault octets old_a old_b new_a new_b (Damaged at) = (choice : Choice) × IsChosen choice old_a.read old_b.read × IsUnreadable octets version_2 (cond choice.swapped old_b.read old_a.read) at
+IsFault octets old_a old_b new_a new_b (Damaged at) = (choice : Choice)
+    × IsChosen choice old_a.read old_b.read
+    × IsUnreadable octets version_2 (cond choice.swapped old_b.read old_a.read) at
 
--- at every moment of a call each pair of images that a crash may leave is one that it could leave before the call
+-- at every moment of a call each pair of images that a crash may leave is one that it could leave
+-- before the call
 abbrev pub NothingNew : State → State → State → State → Type 0
-NothingNew old_a old_b new_a new_b = EveryPair (λ a b. old_a.may_leave a × old_b.may_leave b) old_a old_b new_a new_b
+NothingNew old_a old_b new_a new_b =
+    EveryPair (λ a b. old_a.may_leave a × old_b.may_leave b) old_a old_b new_a new_b

@@ -8,7 +8,11 @@ use Rattle.ts_record.specs.Compacted.{greatest_promise, promise_fact, vote_fact,
 
 -- what facts say of a position
 abbrev pub place_of : {C : Type 0} → ℕ → List (Fact C) → Place C
-place_of p facts = record { promised = greatest_promise p facts; taken = taken_vote p facts; learned = learned_command p facts }
+place_of p facts = record {
+  promised = greatest_promise p facts;
+  taken = taken_vote p facts;
+  learned = learned_command p facts;
+}
 
 -- what they say of n positions from one on
 abbrev pub places : {C : Type 0} → ℕ → ℕ → List (Fact C) → List (Place C)
@@ -18,13 +22,24 @@ places from (suc n) facts = place_of from facts ∷ places (suc from) n facts
 -- a place with one more fact, which is about its position
 abbrev pub with_fact : {C : Type 0} → Place C → Fact C → Place C
 with_fact place (Used r) = place
-with_fact place (Promised p b) = record { promised = max place.promised b; taken = place.taken; learned = place.learned }
-with_fact place (Took p b c) = record { promised = place.promised; taken = greater_vote place.taken (Some (record { ballot = b; command = c })); learned = place.learned }
-with_fact place (Chosen p c) = record { promised = place.promised; taken = place.taken; learned = first_some place.learned (Some c) }
+with_fact place (Promised p b) = record
+    { promised = max place.promised b; taken = place.taken; learned = place.learned }
+with_fact place (Took p b c) = record {
+  promised = place.promised;
+  taken = greater_vote place.taken
+      (Some (record { ballot = b; command = c }));
+  learned = place.learned;
+}
+with_fact place (Chosen p c) = record {
+  promised = place.promised;
+  taken = place.taken;
+  learned = first_some place.learned (Some c);
+}
 
 -- the facts of a place
 abbrev pub facts_of : {C : Type 0} → ℕ → Place C → List (Fact C)
-facts_of p place = promise_fact p place.promised ++ (vote_fact p place.taken ++ learned_fact p place.learned)
+facts_of p place = promise_fact p place.promised
+    ++ (vote_fact p place.taken ++ learned_fact p place.learned)
 
 -- the facts of places from a position on
 abbrev pub facts_of_all : {C : Type 0} → ℕ → List (Place C) → List (Fact C)

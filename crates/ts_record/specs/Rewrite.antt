@@ -1,5 +1,6 @@
 -- How far a rewrite of a record is, and what each of its steps does.
-use Rattle.std.specs.Prelude.{◌≡◌, ◌≢◌, ◌⊎◌, ◌≤◌, ◌+◌, ◌++◌, ℕ, Bool, true, false, cond, List, length, take}
+use Rattle.std.specs.Prelude.{◌≡◌, ◌≢◌, ◌⊎◌, ◌≤◌, ◌+◌, ◌++◌, ℕ, Bool, true, false, cond, List}
+use Rattle.std.specs.Prelude.{length, take}
 use Rattle.std.specs.List.{AllByRecursion}
 use Rattle.ts_journal.specs.declared.journal.Stage.{Stage}
 use Rattle.ts_journal.specs.declared.journal.Stage.TheVariants.{Live, Closed, Begun, Copying}
@@ -10,8 +11,8 @@ use Rattle.ts_record.specs.declared.progress.Progress.TheVariants.{Working, Swit
 use Rattle.ts_record.specs.Compacted.{compacted}
 use Rattle.ts_record.specs.Facts.{encoding, Fits, AreFacts}
 
--- None is begun; the other disk is shut, and these facts are to be copied; or its header is written, and so many of them
--- are copied.
+-- None is begun; the other disk is shut, and these facts are to be copied; or its header is
+-- written, and so many of them are copied.
 pub data Rewrite (C : Type 0) : Type 0 where
   idle : Rewrite C
   begun : List (Fact C) → Rewrite C
@@ -36,8 +37,8 @@ IsLast idle = ⊥
 IsLast (begun list) = ⊥
 IsLast (copying list done) = done ≡ length list
 
--- What a step finds and leaves but for the two disks: the facts, whether the second disk is in use, its generation, and how far
--- the rewrite is.
+-- What a step finds and leaves but for the two disks: the facts, whether the second disk is in use,
+-- its generation, and how far the rewrite is.
 pub record Course (C : Type 0) : Type 0 where
   pub facts : List (Fact C)
   pub swapped : Bool
@@ -46,18 +47,29 @@ pub record Course (C : Type 0) : Type 0 where
 
 -- the same course but for how far the rewrite is
 abbrev pub on : {C : Type 0} → Course C → Rewrite C → Course C
-on old rewrite = record { facts = old.facts; swapped = old.swapped; generation = old.generation; rewrite = rewrite }
+on old rewrite = record {
+  facts = old.facts;
+  swapped = old.swapped;
+  generation = old.generation;
+  rewrite = rewrite;
+}
 
 -- the copied facts are the record's, on the other disk, of the next generation
 abbrev pub switched : {C : Type 0} → Course C → List (Fact C) → Course C
-switched old list = record { facts = list; swapped = cond old.swapped false true; generation = old.generation + 1; rewrite = idle }
+switched old list = record {
+  facts = list;
+  swapped = cond old.swapped false true;
+  generation = old.generation + 1;
+  rewrite = idle;
+}
 
--- One step: the facts that make up the force of all are to be copied; none is copied yet; one more is copied; or, where none is
--- left, the copied facts are the record's.
+-- One step: the facts that make up the force of all are to be copied; none is copied yet; one more
+-- is copied; or, where none is left, the copied facts are the record's.
 abbrev pub StepsFrom : {C : Type 0} → Rewrite C → Course C → Progress → Course C → Type 0
 StepsFrom idle old answer new = (answer ≡ Working) × (new ≡ on old (begun (compacted old.facts)))
 StepsFrom (begun list) old answer new = (answer ≡ Working) × (new ≡ on old (copying list 0))
-StepsFrom (copying list done) old answer new = ((done ≢ length list) × (answer ≡ Working) × (new ≡ on old (copying list (done + 1))))
+StepsFrom (copying list done) old answer new =
+    ((done ≢ length list) × (answer ≡ Working) × (new ≡ on old (copying list (done + 1))))
     ⊎ ((done ≡ length list) × (answer ≡ Switched) × (new ≡ switched old list))
 
 abbrev pub Steps : {C : Type 0} → Course C → Progress → Course C → Type 0
@@ -68,7 +80,11 @@ abbrev pub IsReady : {C : Type 0} → (C → List ℕ) → Fact C → Type 0
 IsReady octets fact = Fits octets fact × (length (encoding octets fact) ≤ 4194500)
 
 -- the facts to be copied are of the force of all, and those copied stand on the other disk
-abbrev pub IsUnderWay : {C : Type 0} → (C → List ℕ) → List (Fact C) → List (List ℕ) → Rewrite C → Type 0
+abbrev pub IsUnderWay : {C : Type 0} → (C → List ℕ) → List (Fact C) → List (List ℕ) → Rewrite C
+    → Type 0
 IsUnderWay octets facts copied idle = Unit {0}
-IsUnderWay octets facts copied (begun list) = SameForce list facts × AllByRecursion (IsReady octets) list
-IsUnderWay octets facts copied (copying list done) = SameForce list facts × AllByRecursion (IsReady octets) list × (done ≤ length list) × AreFacts octets copied (take done list)
+IsUnderWay octets facts copied (begun list) =
+    SameForce list facts × AllByRecursion (IsReady octets) list
+IsUnderWay octets facts copied (copying list done) = SameForce list facts
+    × AllByRecursion (IsReady octets) list × (done ≤ length list)
+    × AreFacts octets copied (take done list)

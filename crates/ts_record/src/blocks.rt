@@ -1,5 +1,6 @@
 // The blocks of an image are read.
-ghost use Rattle.std.specs.Prelude.{◌≡◌, ◌≤◌, ◌<◌, ◌+◌, ◌^◌, ◌⊎◌, ◌++◌, ◌∷◌, ℕ, List, length, drop, IfOk, IfErr, IfSome, IfNone, MatchOption};
+ghost use Rattle.std.specs.Prelude.{◌≡◌, ◌≤◌, ◌<◌, ◌+◌, ◌^◌, ◌⊎◌, ◌++◌, ◌∷◌, ℕ, List, length, drop};
+ghost use Rattle.std.specs.Prelude.{IfOk, IfErr, IfSome, IfNone, MatchOption};
 ghost use Rattle.std.specs.Int.{to_be_bytes, w32};
 ghost use Rattle.ts_synod.specs.declared.message.Fact.{Fact};
 ghost use Rattle.ts_record.specs.declared.fault.Fault.TheVariants.{Memory, Damaged};
@@ -14,8 +15,10 @@ use ts_synod::Fact;
 // The length of a body that begins here.
 fn length_at(layout: Layout, rest: &[u8]) -> Option<usize>
     requires { layout.longest_body < 2 ^ 32 }
-    ensures { MatchOption result ((n : ℕ) (after : List ℕ) → IsLength layout n → rest.now ≡ to_be_bytes w32 n ++ after → ⊥)
-        (λ n. IsLength layout n × (rest.now ≡ to_be_bytes w32 n ++ drop 4 rest.now) × (4 ≤ length rest.now)) }
+    ensures { MatchOption result ((n : ℕ) (after : List ℕ) → IsLength layout n
+        → rest.now ≡ to_be_bytes w32 n ++ after → ⊥)
+        (λ n. IsLength layout n × (rest.now ≡ to_be_bytes w32 n ++ drop 4 rest.now)
+        × (4 ≤ length rest.now)) }
 {
     let size = u32_at(rest)? as usize;
     if size < 1 || layout.longest_body < size {
@@ -39,8 +42,10 @@ pub(crate) fn read_blocks<C: Codec>(
 ) -> Result<Contents<C>, Fault>
     requires long { layout.first_gate ≤ length octets.now }
     requires short { layout.longest_body < 2 ^ 32 }
-    ensures read { IfOk result (λ contents. IsRead C.octets layout octets.now contents.facts.items contents.end) }
-    ensures fault { IfErr result (λ fault. (fault ≡ Memory) ⊎ ((at : ℕ) × (fault ≡ Damaged at) × IsUnreadable C.octets layout octets.now at)) }
+    ensures read { IfOk result (λ contents. IsRead C.octets layout octets.now contents.facts.items
+        contents.end) }
+    ensures fault { IfErr result (λ fault. (fault ≡ Memory)
+        ⊎ ((at : ℕ) × (fault ≡ Damaged at) × IsUnreadable C.octets layout octets.now at)) }
 {
     let mut facts = Vec::new(alloc);
     let mut at = layout.first_gate;

@@ -18,10 +18,13 @@ pub trait Codec: Drop {
 
     /// Reads a command from all of the octets. `None` exactly where they are not the octets of one.
     fn read(alloc: Global, source: &[u8]) -> Result<Option<Self>, AllocError>
-        ensures found { IfOk result (λ read. IfSome read (λ command. (1 ≤ length (octets command)) × (source.now ≡ octets command))) }
-        ensures none { IfOk result (λ read. IfNone read ((command : Self) → 1 ≤ length (octets command) → source.now ≡ octets command → ⊥)) };
+        ensures found { IfOk result (λ read. IfSome read
+            (λ command. (1 ≤ length (octets command)) × (source.now ≡ octets command))) }
+        ensures none { IfOk result (λ read. IfNone read
+            ((command : Self) → 1 ≤ length (octets command) → source.now ≡ octets command → ⊥)) };
 
     /// No two commands have one encoding. It does nothing.
     fn one_encoding()
-        ensures { (command other : Self) → 1 ≤ length (octets command) → octets command ≡ octets other → command ≡ other };
+        ensures { (command other : Self) → 1 ≤ length (octets command)
+            → octets command ≡ octets other → command ≡ other };
 }

@@ -79,7 +79,8 @@ fn take_vote<C: Codec>(
     ballot: Ballot,
     command: &C,
 ) -> Result<(), AllocError>
-    ensures { OnOk result (taken.new ≡ greater_vote taken.old (Some (record { ballot = ballot; command = command.now }))) }
+    ensures { OnOk result (taken.new
+        ≡ greater_vote taken.old (Some (record { ballot = ballot; command = command.now }))) }
 {
     let is_less = match taken {
         Some(vote) => vote.ballot < ballot,
@@ -126,7 +127,8 @@ fn table_of<C: Codec>(
     last: u32,
 ) -> Result<Vec<Place<C>>, AllocError>
     requires { last ≡ last_position facts.now }
-    ensures { IfOk result (λ table. table.items ≡ places 0 (suc (last_position facts.now)) facts.now) }
+    ensures { IfOk result (λ table. table.items
+        ≡ places 0 (suc (last_position facts.now)) facts.now) }
 {
     let mut table = empty_places(alloc, last as usize + 1)?;
     for fact in facts {
@@ -185,7 +187,8 @@ fn listed<C: Codec>(
     Ok(out)
 }
 
-// The facts that make up the force of these, in time that is linear in them and in the last position.
+// The facts that make up the force of these, in time that is linear in them and in the last
+// position.
 pub(crate) fn compact<C: Codec>(
     alloc: Global,
     facts: &[Fact<C>],

@@ -1,6 +1,7 @@
 // Where the blocks of an image begin, and how long they may be.
 
-/// Where the first gate of an image is, and how many octets a body may have, by the record's version.
+/// Where the first gate of an image is, and how many octets a body may have, by the record's
+/// version.
 #[derive(Clone, Copy)]
 pub(crate) struct Layout {
     pub first_gate: usize,

@@ -1,5 +1,6 @@
 // A record while facts are appended to it, and while it is rewritten.
-ghost use Rattle.std.specs.Prelude.{◌≡◌, ◌≢◌, ◌≤◌, ◌<◌, ◌⊎◌, ◌++◌, ◌+◌, ◌^◌, ◌∷◌, [], ℕ, List, true, false, length, cond, IfOk, OnOk, OnErr, IfErr, IsErrOf};
+ghost use Rattle.std.specs.Prelude.{◌≡◌, ◌≢◌, ◌≤◌, ◌<◌, ◌⊎◌, ◌++◌, ◌+◌, ◌^◌, ◌∷◌, [], ℕ, List};
+ghost use Rattle.std.specs.Prelude.{true, false, length, cond, IfOk, OnOk, OnErr, IfErr, IsErrOf};
 ghost use Rattle.ts_journal.specs.Settled.{EveryMoment, member_in, OneFailed};
 ghost use Rattle.ts_journal.specs.declared.journal.Stage.TheVariants.{Live, Closed, Begun, Copying};
 ghost use Rattle.ts_record.specs.declared.fault.Fault.TheVariants.{Memory, DiskFailed};
@@ -8,7 +9,8 @@ ghost use Rattle.ts_record.specs.Compacted.{compacted};
 ghost use Rattle.ts_record.specs.Facts.{AllFit, encodings};
 ghost use Rattle.ts_record.specs.Kept.{Keeps, rewrite_of, course_of};
 ghost use Rattle.ts_record.specs.Record.{OpensToFrom, OpensToForce, ToBeforeOrAfter};
-ghost use Rattle.ts_record.specs.Rewrite.{idle, begun, copying, with_more, on, switched, IsLast, Steps};
+ghost use Rattle.ts_record.specs.Rewrite.{idle, begun, copying, with_more, on, switched, IsLast};
+ghost use Rattle.ts_record.specs.Rewrite.{Steps};
 
 use crate::compacted::compact;
 use crate::writing::{copies, copies_if, entry_of, entry_of_one, move_behind};
@@ -33,13 +35,17 @@ fn shut<D: Disk, C: Codec>(alloc: Global, c: &mut Ledger<D, C>) -> Result<(), Fa
     requires idle { (c.old.journal.stage ≡ Live) ⊎ (c.old.journal.stage ≡ Closed) }
     requires not_last { c.old.journal.generation + 1 < 2 ^ 64 }
     ensures keeps { OnOk result (Keeps D.state C.octets c.new) }
-    ensures course { OnOk result (course_of c.new ≡ on (course_of c.old) (begun (compacted c.old.facts.items))) }
+    ensures course { OnOk result (course_of c.new
+        ≡ on (course_of c.old) (begun (compacted c.old.facts.items))) }
     ensures refused { OnErr result (course_of c.new ≡ course_of c.old) }
     ensures owner { member_in c.new.journal ≡ member_in c.old.journal }
-    ensures moments { EveryMoment D.state (OpensToFrom C.octets (member_in c.old.journal) c.old.journal.swapped c.old.facts.items) c.old.journal c.new.journal }
+    ensures moments { EveryMoment D.state
+        (OpensToFrom C.octets (member_in c.old.journal) c.old.journal.swapped c.old.facts.items)
+        c.old.journal c.new.journal }
     ensures facts { c.new.facts ≡ c.old.facts }
     ensures memory { IsErrOf result Fault.Memory → c.new ≡ c.old }
-    ensures fault { IfErr result (λ fault. (fault ≡ Memory) ⊎ ((fault ≡ DiskFailed) × OneFailed D.state c.old.journal c.new.journal)) }
+    ensures fault { IfErr result (λ fault. (fault ≡ Memory)
+        ⊎ ((fault ≡ DiskFailed) × OneFailed D.state c.old.journal c.new.journal)) }
 {
     let copy = compact(alloc, &c.facts)?;
     c.journal.shut()?;
@@ -52,12 +58,16 @@ fn begin<D: Disk, C: Codec>(c: &mut Ledger<D, C>) -> Result<(), Fault>
     requires keeps { Keeps D.state C.octets c.old }
     requires begun { c.old.journal.stage ≡ Begun }
     ensures keeps { OnOk result (Keeps D.state C.octets c.new) }
-    ensures course { OnOk result (course_of c.new ≡ on (course_of c.old) (copying c.old.copy.items 0)) }
+    ensures course { OnOk result (course_of c.new
+        ≡ on (course_of c.old) (copying c.old.copy.items 0)) }
     ensures refused { OnErr result (course_of c.new ≡ course_of c.old) }
     ensures owner { member_in c.new.journal ≡ member_in c.old.journal }
-    ensures moments { EveryMoment D.state (OpensToFrom C.octets (member_in c.old.journal) c.old.journal.swapped c.old.facts.items) c.old.journal c.new.journal }
+    ensures moments { EveryMoment D.state
+        (OpensToFrom C.octets (member_in c.old.journal) c.old.journal.swapped c.old.facts.items)
+        c.old.journal c.new.journal }
     ensures facts { c.new.facts ≡ c.old.facts }
-    ensures fault { IfErr result (λ fault. (fault ≡ DiskFailed) × OneFailed D.state c.old.journal c.new.journal) }
+    ensures fault { IfErr result (λ fault. (fault ≡ DiskFailed)
+        × OneFailed D.state c.old.journal c.new.journal) }
 {
     c.journal.begin()?;
     c.done = 0;
@@ -70,13 +80,17 @@ fn copy<D: Disk, C: Codec>(alloc: Global, c: &mut Ledger<D, C>) -> Result<(), Fa
     requires copying { c.old.journal.stage ≡ Copying }
     requires left { c.old.done < length c.old.copy.items }
     ensures keeps { OnOk result (Keeps D.state C.octets c.new) }
-    ensures course { OnOk result (course_of c.new ≡ on (course_of c.old) (copying c.old.copy.items (c.old.done + 1))) }
+    ensures course { OnOk result (course_of c.new
+        ≡ on (course_of c.old) (copying c.old.copy.items (c.old.done + 1))) }
     ensures refused { OnErr result (course_of c.new ≡ course_of c.old) }
     ensures owner { member_in c.new.journal ≡ member_in c.old.journal }
-    ensures moments { EveryMoment D.state (OpensToFrom C.octets (member_in c.old.journal) c.old.journal.swapped c.old.facts.items) c.old.journal c.new.journal }
+    ensures moments { EveryMoment D.state
+        (OpensToFrom C.octets (member_in c.old.journal) c.old.journal.swapped c.old.facts.items)
+        c.old.journal c.new.journal }
     ensures facts { c.new.facts ≡ c.old.facts }
     ensures memory { IsErrOf result Fault.Memory → c.new ≡ c.old }
-    ensures fault { IfErr result (λ fault. (fault ≡ Memory) ⊎ ((fault ≡ DiskFailed) × OneFailed D.state c.old.journal c.new.journal)) }
+    ensures fault { IfErr result (λ fault. (fault ≡ Memory)
+        ⊎ ((fault ≡ DiskFailed) × OneFailed D.state c.old.journal c.new.journal)) }
 {
     let octets = entry_of_one(alloc, &c.copy[c.done])?;
     c.journal.copy(&octets)?;
@@ -93,9 +107,12 @@ fn switch<D: Disk, C: Codec>(alloc: Global, c: &mut Ledger<D, C>) -> Result<(), 
     ensures course { OnOk result (course_of c.new ≡ switched (course_of c.old) c.old.copy.items) }
     ensures refused { OnErr result (course_of c.new ≡ course_of c.old) }
     ensures owner { member_in c.new.journal ≡ member_in c.old.journal }
-    ensures moments { EveryMoment D.state (OpensToForce C.octets (member_in c.old.journal) c.old.facts.items) c.old.journal c.new.journal }
+    ensures moments { EveryMoment D.state
+        (OpensToForce C.octets (member_in c.old.journal) c.old.facts.items) c.old.journal
+        c.new.journal }
     ensures facts { IfErr result (λ fault. c.new.facts ≡ c.old.facts) }
-    ensures fault { IfErr result (λ fault. (fault ≡ DiskFailed) × OneFailed D.state c.old.journal c.new.journal) }
+    ensures fault { IfErr result (λ fault. (fault ≡ DiskFailed)
+        × OneFailed D.state c.old.journal c.new.journal) }
 {
     c.journal.switch()?;
     c.facts = std::mem::replace(&mut c.copy, Vec::new(alloc));
@@ -113,11 +130,17 @@ pub(crate) fn step<D: Disk, C: Codec>(
     ensures steps { IfOk result (λ answer. Steps (course_of c.old) answer (course_of c.new)) }
     ensures refused { OnErr result (course_of c.new ≡ course_of c.old) }
     ensures owner { member_in c.new.journal ≡ member_in c.old.journal }
-    ensures moments { EveryMoment D.state (OpensToForce C.octets (member_in c.old.journal) c.old.facts.items) c.old.journal c.new.journal }
-    ensures from { (IsLast (rewrite_of c.old) → ⊥) → EveryMoment D.state (OpensToFrom C.octets (member_in c.old.journal) c.old.journal.swapped c.old.facts.items) c.old.journal c.new.journal }
+    ensures moments { EveryMoment D.state
+        (OpensToForce C.octets (member_in c.old.journal) c.old.facts.items) c.old.journal
+        c.new.journal }
+    ensures from { (IsLast (rewrite_of c.old) → ⊥)
+        → EveryMoment D.state (OpensToFrom C.octets
+        (member_in c.old.journal) c.old.journal.swapped c.old.facts.items) c.old.journal
+        c.new.journal }
     ensures facts { IfErr result (λ fault. c.new.facts ≡ c.old.facts) }
     ensures memory { IsErrOf result Fault.Memory → c.new ≡ c.old }
-    ensures fault { IfErr result (λ fault. (fault ≡ Memory) ⊎ ((fault ≡ DiskFailed) × OneFailed D.state c.old.journal c.new.journal)) }
+    ensures fault { IfErr result (λ fault. (fault ≡ Memory)
+        ⊎ ((fault ≡ DiskFailed) × OneFailed D.state c.old.journal c.new.journal)) }
 {
     match c.journal.stage {
         Stage::Live | Stage::Closed => shut(alloc, c)?,
@@ -150,10 +173,15 @@ pub(crate) fn append<D: Disk, C: Codec>(
     ensures generation { c.new.journal.generation ≡ c.old.journal.generation }
     ensures refused { OnErr result (course_of c.new ≡ course_of c.old) }
     ensures owner { member_in c.new.journal ≡ member_in c.old.journal }
-    ensures moments { EveryMoment D.state (ToBeforeOrAfter C.octets (member_in c.old.journal) c.old.journal.swapped c.old.facts.items facts.now) c.old.journal c.new.journal }
+    ensures moments { EveryMoment D.state
+        (ToBeforeOrAfter C.octets (member_in c.old.journal) c.old.journal.swapped
+        c.old.facts.items facts.now) c.old.journal c.new.journal }
     ensures facts { IfErr result (λ fault. c.new.facts.items ≡ c.old.facts.items) }
-    ensures memory { IsErrOf result Fault.Memory → (c.new.journal ≡ c.old.journal) × (c.new.copy.items ≡ c.old.copy.items) × (c.new.done ≡ c.old.done) }
-    ensures fault { IfErr result (λ fault. (fault ≡ Memory) ⊎ ((fault ≡ DiskFailed) × OneFailed D.state c.old.journal c.new.journal)) }
+    ensures memory { IsErrOf result Fault.Memory
+        → (c.new.journal ≡ c.old.journal) × (c.new.copy.items ≡ c.old.copy.items)
+        × (c.new.done ≡ c.old.done) }
+    ensures fault { IfErr result (λ fault. (fault ≡ Memory)
+        ⊎ ((fault ≡ DiskFailed) × OneFailed D.state c.old.journal c.new.journal)) }
 {
     let is_rewritten = matches!(c.journal.stage, Stage::Begun | Stage::Copying);
     let octets = entry_of(alloc, facts)?;

@@ -18,8 +18,8 @@
 //! | `Record::facts`, `node`, `nodes`, `is_broken`, `close` | the facts; whose record it is; whether a device failed; the two disks |
 //! | `Codec` | a command's octets; one encoding, both ways |
 //!
-//! A pair of images opens to at most one list of facts, as the record of one node (`only`). That a record is sound between two calls is the invariant of
-//! its type, and no call requires it.
+//! A pair of images opens to at most one list of facts, as the record of one node (`only`). That a
+//! record is sound between two calls is the invariant of its type, and no call requires it.
 #![tactic(auto)]
 
 mod blocks;

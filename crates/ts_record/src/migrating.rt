@@ -1,11 +1,13 @@
 // A record of version 1 becomes one of version 2.
-ghost use Rattle.std.specs.Prelude.{◌≡◌, ◌≢◌, ◌≤◌, ◌+◌, ◌⊎◌, ◌++◌, ◌∷◌, [], ℕ, List, true, false, length, take, drop, MatchOption, MatchResult, IfOk, IfErr};
+ghost use Rattle.std.specs.Prelude.{◌≡◌, ◌≢◌, ◌≤◌, ◌+◌, ◌⊎◌, ◌++◌, ◌∷◌, [], ℕ, List, true, false};
+ghost use Rattle.std.specs.Prelude.{length, take, drop, MatchOption, MatchResult, IfOk, IfErr};
 ghost use Rattle.ts_disk.specs.Disk.{DeviceFailed, EveryImage};
 ghost use Rattle.ts_journal.specs.Images.{Member, IsFresh, AnyPair, EveryPair};
 ghost use Rattle.ts_synod.specs.declared.message.Fact.{Fact};
 ghost use Rattle.ts_record.specs.declared.fault.Fault.TheVariants.{Memory, DiskFailed};
 ghost use Rattle.ts_record.specs.Blocks.{version_1, IsRead};
-ghost use Rattle.ts_record.specs.Old.{old_head, IsOldOf, OpensOld, AllFactsOrNone, IsMigrationFault};
+ghost use Rattle.ts_record.specs.Old.{old_head, IsOldOf, OpensOld, AllFactsOrNone};
+ghost use Rattle.ts_record.specs.Old.{IsMigrationFault};
 ghost use Rattle.ts_record.specs.Record.{OpensToFrom};
 
 use crate::blocks::{Contents, read_blocks};
@@ -47,9 +49,12 @@ struct OldRecord<C> {
 }
 
 fn read_old<C: Codec>(alloc: Global, octets: &[u8]) -> Result<OldRecord<C>, Fault>
-    ensures owner { IfOk result (λ old. IsOldOf (record { node = old.node; nodes = old.nodes }) octets.now) }
-    ensures read { IfOk result (λ old. IsRead C.octets version_1 octets.now old.contents.facts.items old.contents.end) }
-    ensures fault { IfErr result (λ fault. (fault ≢ DiskFailed) × IsMigrationFault C.octets octets.now ⊥ fault) }
+    ensures owner { IfOk result (λ old. IsOldOf
+        (record { node = old.node; nodes = old.nodes }) octets.now) }
+    ensures read { IfOk result (λ old. IsRead C.octets version_1 octets.now
+        old.contents.facts.items old.contents.end) }
+    ensures fault { IfErr result (λ fault. (fault ≢ DiskFailed)
+        × IsMigrationFault C.octets octets.now ⊥ fault) }
 {
     let Some((node, nodes)) = old_owner(octets) else {
         return Err(Fault::NotFormatted);
@@ -74,31 +79,42 @@ fn count<C>(facts: &[Fact<C>]) -> Result<u32, Fault>
 }
 
 impl<D: Disk, C: Codec> Record<D, C> {
-    /// Writes the bodies of a record of version 1, one for one, as a record on two other disks, and answers the number of their
-    /// facts. The old disk is read and not written.
+    /// Writes the bodies of a record of version 1, one for one, as a record on two other disks, and
+    /// answers the number of their facts. The old disk is read and not written.
     ///
     /// # Errors
     ///
     /// `NotFormatted` where the old disk has no header of version 1, `Damaged` where what follows it can't be read, and memory that is
-    /// refused: the two disks are as they were. `DiskFailed`: they hold no record, if they held none.
+    /// refused: the two disks are as they were. `DiskFailed`: they hold no record, if they held
+    /// none.
     pub fn migrate(alloc: Global, old: &mut D, a: &mut D, b: &mut D) -> Result<u32, Fault>
-        // Where the old disk opens to facts, each pair of images opens to them afterwards, as the record of the same member, from the
-        // first disk; or memory or a device failed.
-        ensures opens { (owner : Member) (facts : List (Fact C)) → OpensOld C.octets owner facts (D.state old.old).read
+        // Where the old disk opens to facts, each pair of images opens to them afterwards, as the
+        // record of the same member, from the first disk; or memory or a device failed.
+        ensures opens { (owner : Member) (facts : List (Fact C))
+            → OpensOld C.octets owner facts (D.state old.old).read
             → MatchResult result
-            (λ count. (count ≡ length facts) × AnyPair (OpensToFrom C.octets owner false facts) (D.state a.new) (D.state b.new))
+            (λ count. (count ≡ length facts)
+            × AnyPair (OpensToFrom C.octets owner false facts) (D.state a.new) (D.state b.new))
             (λ fault. (fault ≡ Memory) ⊎ (fault ≡ DiskFailed)) }
-        ensures old { IfOk result (λ count. (owner : Member) × (facts : List (Fact C)) × OpensOld C.octets owner facts (D.state old.old).read) }
-        // On fresh disks each pair of images opens to all of the facts or is no record, at every moment.
-        ensures moments { (owner : Member) (facts : List (Fact C)) → OpensOld C.octets owner facts (D.state old.old).read
+        ensures old { IfOk result (λ count. (owner : Member) × (facts : List (Fact C))
+            × OpensOld C.octets owner facts (D.state old.old).read) }
+        // On fresh disks each pair of images opens to all of the facts or is no record, at every
+        // moment.
+        ensures moments { (owner : Member) (facts : List (Fact C))
+            → OpensOld C.octets owner facts (D.state old.old).read
             → IsFresh (D.state a.old) → IsFresh (D.state b.old)
-            → EveryPair (AllFactsOrNone C.octets facts) (D.state a.old) (D.state b.old) (D.state a.new) (D.state b.new) }
+            → EveryPair (AllFactsOrNone C.octets facts) (D.state a.old) (D.state b.old)
+            (D.state a.new) (D.state b.new) }
         // The old disk stays, and a crash leaves nothing of it that it could not leave before.
         ensures same { (D.state old.new).read ≡ (D.state old.old).read }
-        ensures unwritten { EveryImage (D.state old.old).may_leave (D.state old.old) (D.state old.new) }
+        ensures unwritten { EveryImage (D.state old.old).may_leave (D.state old.old)
+            (D.state old.new) }
         ensures fault { IfErr result (IsMigrationFault C.octets (D.state old.old).read
-            (DeviceFailed (D.state old.old) (D.state old.new) ⊎ DeviceFailed (D.state a.old) (D.state a.new) ⊎ DeviceFailed (D.state b.old) (D.state b.new))) }
-        ensures untouched { IfErr result (λ fault. fault ≢ DiskFailed → (a.new ≡ a.old) × (b.new ≡ b.old)) }
+            (DeviceFailed (D.state old.old) (D.state old.new)
+            ⊎ DeviceFailed (D.state a.old) (D.state a.new)
+            ⊎ DeviceFailed (D.state b.old) (D.state b.new))) }
+        ensures untouched { IfErr result
+            (λ fault. fault ≢ DiskFailed → (a.new ≡ a.old) × (b.new ≡ b.old)) }
     {
         C::one_encoding();
         let octets = old.read(alloc)?;

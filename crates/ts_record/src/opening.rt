@@ -1,8 +1,11 @@
 // A record is opened from what two disks hold.
-ghost use Rattle.std.specs.Prelude.{◌≡◌, ◌≢◌, ◌≤◌, ◌⊎◌, ◌++◌, ◌∷◌, [], ℕ, List, true, false, length, take, cond, IfOk, OnOk, IfErr};
+ghost use Rattle.std.specs.Prelude.{◌≡◌, ◌≢◌, ◌≤◌, ◌⊎◌, ◌++◌, ◌∷◌, [], ℕ, List, true, false};
+ghost use Rattle.std.specs.Prelude.{length, take, cond, IfOk, OnOk, IfErr};
 ghost use Rattle.ts_disk.specs.Disk.{IsDurable, DeviceFailed};
 ghost use Rattle.ts_journal.specs.Choice.{IsChosen, Unchosen};
-ghost use Rattle.ts_record.specs.declared.fault.Fault.TheVariants.{Memory, DiskFailed, NotFormatted, OldVersion, Damaged};
+ghost use Rattle.ts_record.specs.declared.fault.Fault.TheVariants.{Memory, DiskFailed};
+ghost use Rattle.ts_record.specs.declared.fault.Fault.TheVariants.{NotFormatted, OldVersion};
+ghost use Rattle.ts_record.specs.declared.fault.Fault.TheVariants.{Damaged};
 ghost use Rattle.ts_record.specs.Blocks.{version_2, IsRead};
 ghost use Rattle.ts_record.specs.Opening.{BeginsOld, IsRefused, IsFault, NothingNew};
 ghost use Rattle.ts_record.specs.Record.{EitherFailed};
@@ -63,10 +66,13 @@ pub(crate) fn opened<D: Disk, C: Codec>(
     ensures moments { NothingNew (D.state a.old) (D.state b.old) (D.state a.new) (D.state b.new) }
     ensures same_a { (D.state a.new).read ≡ (D.state a.old).read }
     ensures same_b { (D.state b.new).read ≡ (D.state b.old).read }
-    ensures chosen { IfOk result (λ found. IsChosen found.choice (D.state a.old).read (D.state b.old).read) }
-    ensures read { IfOk result (λ found. IsRead C.octets version_2 (cond found.choice.swapped (D.state b.old).read (D.state a.old).read)
+    ensures chosen { IfOk result (λ found. IsChosen found.choice (D.state a.old).read
+        (D.state b.old).read) }
+    ensures read { IfOk result (λ found. IsRead C.octets version_2
+        (cond found.choice.swapped (D.state b.old).read (D.state a.old).read)
         found.contents.facts.items found.contents.end) }
-    ensures fault { IfErr result (λ fault. IsFault C.octets (D.state a.old) (D.state b.old) (D.state a.new) (D.state b.new) fault) }
+    ensures fault { IfErr result (λ fault. IsFault C.octets (D.state a.old) (D.state b.old)
+        (D.state a.new) (D.state b.new) fault) }
 {
     a.sync()?;
     b.sync()?;

@@ -1,7 +1,10 @@
 // Facts are read from a body.
-ghost use Rattle.std.specs.Prelude.{◌≡◌, ◌⊎◌, ◌≤◌, ◌<◌, ◌+◌, ◌^◌, ◌++◌, ◌∷◌, [], ℕ, List, length, drop, take, MatchOption, MatchResult, IfSome, IfOk, OnOk, Option, true, false};
+ghost use Rattle.std.specs.Prelude.{◌≡◌, ◌⊎◌, ◌≤◌, ◌<◌, ◌+◌, ◌^◌, ◌++◌, ◌∷◌, [], ℕ, List, length};
+ghost use Rattle.std.specs.Prelude.{drop, take, MatchOption, MatchResult, IfSome, IfOk, OnOk};
+ghost use Rattle.std.specs.Prelude.{Option, true, false};
 ghost use Rattle.std.specs.Int.{to_be_bytes, w32, w64};
-ghost use Rattle.ts_record.specs.Facts.{IsPosition, IsRound, IsBallot, IsBlob, blob, encoding, encodings, Fits, AllFit, Begins, FactOrNot};
+ghost use Rattle.ts_record.specs.Facts.{IsPosition, IsRound, IsBallot, IsBlob, blob, encoding};
+ghost use Rattle.ts_record.specs.Facts.{encodings, Fits, AllFit, Begins, FactOrNot};
 ghost use Rattle.ts_synod.specs.declared.message.Fact.{Fact};
 
 use crate::Codec;
@@ -9,7 +12,8 @@ use std::alloc::{AllocError, Global};
 use ts_synod::Fact;
 
 pub(crate) fn u32_at(rest: &[u8]) -> Option<u32>
-    ensures found { MatchOption result (length rest.now < 4) (λ n. rest.now ≡ to_be_bytes w32 n ++ drop 4 rest.now) }
+    ensures found { MatchOption result (length rest.now < 4)
+        (λ n. rest.now ≡ to_be_bytes w32 n ++ drop 4 rest.now) }
     ensures range { IfSome result (λ n. n < 2 ^ 32) }
 {
     if rest.len() < 4 {
@@ -19,7 +23,8 @@ pub(crate) fn u32_at(rest: &[u8]) -> Option<u32>
 }
 
 fn u64_at(rest: &[u8]) -> Option<u64>
-    ensures found { MatchOption result (length rest.now < 8) (λ n. rest.now ≡ to_be_bytes w64 n ++ drop 8 rest.now) }
+    ensures found { MatchOption result (length rest.now < 8)
+        (λ n. rest.now ≡ to_be_bytes w64 n ++ drop 8 rest.now) }
     ensures range { IfSome result (λ n. n < 2 ^ 64) }
 {
     if rest.len() < 8 {
@@ -31,7 +36,8 @@ fn u64_at(rest: &[u8]) -> Option<u64>
 }
 
 fn round_at(rest: &[u8]) -> Option<u32>
-    ensures { MatchOption result ((n : ℕ) (after : List ℕ) → IsRound n → rest.now ≡ to_be_bytes w32 n ++ after → ⊥)
+    ensures { MatchOption result ((n : ℕ) (after : List ℕ) → IsRound n
+        → rest.now ≡ to_be_bytes w32 n ++ after → ⊥)
         (λ n. IsRound n × (rest.now ≡ to_be_bytes w32 n ++ drop 4 rest.now)) }
 {
     let round = u32_at(rest)?;
@@ -42,7 +48,8 @@ fn round_at(rest: &[u8]) -> Option<u32>
 }
 
 fn position_at(rest: &[u8]) -> Option<u32>
-    ensures { MatchOption result ((n : ℕ) (after : List ℕ) → IsPosition n → rest.now ≡ to_be_bytes w32 n ++ after → ⊥)
+    ensures { MatchOption result ((n : ℕ) (after : List ℕ) → IsPosition n
+        → rest.now ≡ to_be_bytes w32 n ++ after → ⊥)
         (λ n. IsPosition n × (rest.now ≡ to_be_bytes w32 n ++ drop 4 rest.now)) }
 {
     let position = u32_at(rest)?;
@@ -53,7 +60,8 @@ fn position_at(rest: &[u8]) -> Option<u32>
 }
 
 fn ballot_at(rest: &[u8]) -> Option<u64>
-    ensures { MatchOption result ((n : ℕ) (after : List ℕ) → IsBallot n → rest.now ≡ to_be_bytes w64 n ++ after → ⊥)
+    ensures { MatchOption result ((n : ℕ) (after : List ℕ) → IsBallot n
+        → rest.now ≡ to_be_bytes w64 n ++ after → ⊥)
         (λ n. IsBallot n × (rest.now ≡ to_be_bytes w64 n ++ drop 8 rest.now)) }
 {
     let ballot = u64_at(rest)?;
@@ -65,8 +73,10 @@ fn ballot_at(rest: &[u8]) -> Option<u64>
 
 // The length of the blob that begins here.
 fn blob_at(rest: &[u8]) -> Option<usize>
-    ensures { MatchOption result ((octets after : List ℕ) → IsBlob octets → rest.now ≡ blob octets ++ after → ⊥)
-        (λ n. (n < 2 ^ 32) × (4 + n ≤ length rest.now) × (rest.now ≡ to_be_bytes w32 n ++ drop 4 rest.now)) }
+    ensures { MatchOption result ((octets after : List ℕ) → IsBlob octets
+        → rest.now ≡ blob octets ++ after → ⊥)
+        (λ n. (n < 2 ^ 32) × (4 + n ≤ length rest.now)
+        × (rest.now ≡ to_be_bytes w32 n ++ drop 4 rest.now)) }
 {
     let size = u32_at(rest)? as usize;
     if rest.len() - 4 < size {
@@ -78,8 +88,10 @@ fn blob_at(rest: &[u8]) -> Option<usize>
 // The command of a blob that begins here, and the length of both.
 fn command_at<C: Codec>(alloc: Global, rest: &[u8]) -> Result<Option<(C, usize)>, AllocError>
     ensures { IfOk result (λ found. MatchOption found
-        ((command : C) (after : List ℕ) → IsBlob (C.octets command) → rest.now ≡ blob (C.octets command) ++ after → ⊥)
-        (λ read. IsBlob (C.octets read.0) × (read.1 ≤ length rest.now) × (4 ≤ read.1) × (rest.now ≡ blob (C.octets read.0) ++ drop read.1 rest.now))) }
+        ((command : C) (after : List ℕ) → IsBlob (C.octets command)
+        → rest.now ≡ blob (C.octets command) ++ after → ⊥)
+        (λ read. IsBlob (C.octets read.0) × (read.1 ≤ length rest.now) × (4 ≤ read.1)
+        × (rest.now ≡ blob (C.octets read.0) ++ drop read.1 rest.now))) }
 {
     let Some(size) = blob_at(rest) else {
         return Ok(None);
@@ -114,7 +126,8 @@ fn vote_at<C: Codec>(alloc: Global, rest: &[u8]) -> Result<Option<(u64, C, usize
     ensures { IfOk result (λ found. MatchOption found
         ((ballot : ℕ) (command : C) (after : List ℕ) → IsBallot ballot → IsBlob (C.octets command)
         → rest.now ≡ to_be_bytes w64 ballot ++ blob (C.octets command) ++ after → ⊥)
-        (λ read. IsBallot read.0 × IsBlob (C.octets read.1) × (read.2 ≤ length rest.now) × (12 ≤ read.2)
+        (λ read. IsBallot read.0 × IsBlob (C.octets read.1) × (read.2 ≤ length rest.now)
+        × (12 ≤ read.2)
         × (rest.now ≡ to_be_bytes w64 read.0 ++ blob (C.octets read.1) ++ drop read.2 rest.now))) }
 {
     let Some(ballot) = ballot_at(rest) else {
@@ -174,16 +187,18 @@ fn fact_at<C: Codec>(alloc: Global, rest: &[u8]) -> Result<Option<(Fact<C>, usiz
     }
 }
 
-/// Reads the facts of a whole body after those that are there. False where the body is not a list of facts;
-/// then what is there after those has no meaning.
+/// Reads the facts of a whole body after those that are there. False where the body is not a list
+/// of facts; then what is there after those has no meaning.
 pub(crate) fn read_facts<C: Codec>(
     alloc: Global,
     body: &[u8],
     facts: &mut Vec<Fact<C>>,
 ) -> Result<bool, AllocError>
-    ensures found { IfOk result (λ found. found ≡ true → (more : List (Fact C)) × AllFit C.octets more
+    ensures found { IfOk result (λ found. found ≡ true
+        → (more : List (Fact C)) × AllFit C.octets more
         × (body.now ≡ encodings C.octets more) × (facts.new.items ≡ facts.old.items ++ more)) }
-    ensures none { IfOk result (λ found. found ≡ false → (more : List (Fact C)) → AllFit C.octets more → body.now ≡ encodings C.octets more → ⊥) }
+    ensures none { IfOk result (λ found. found ≡ false → (more : List (Fact C))
+        → AllFit C.octets more → body.now ≡ encodings C.octets more → ⊥) }
 {
     C::one_encoding();
     let mut rest = body;

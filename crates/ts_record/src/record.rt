@@ -1,8 +1,11 @@
 // A record of facts on two disks.
-ghost use Rattle.std.specs.Prelude.{◌≡◌, ◌≤◌, ◌⊎◌, ◌++◌, ◌∷◌, [], ◌^◌, ◌+◌, ℕ, List, false, true, length, IfOk, OnOk, OnErr, IfErr, MatchResult, IsErrOf, drop, cond};
+ghost use Rattle.std.specs.Prelude.{◌≡◌, ◌≤◌, ◌⊎◌, ◌++◌, ◌∷◌, [], ◌^◌, ◌+◌, ℕ, List, false, true};
+ghost use Rattle.std.specs.Prelude.{length, IfOk, OnOk, OnErr, IfErr, MatchResult, IsErrOf, drop};
+ghost use Rattle.std.specs.Prelude.{cond};
 ghost use Rattle.ts_disk.specs.Disk.{IsDurable, DeviceFailed};
 ghost use Rattle.ts_journal.specs.Images.{head, Member, AnyPair, EveryPair};
-ghost use Rattle.ts_record.specs.declared.fault.Fault.TheVariants.{Memory, DiskFailed, Broken, GenerationsExhausted};
+ghost use Rattle.ts_record.specs.declared.fault.Fault.TheVariants.{Memory, DiskFailed, Broken};
+ghost use Rattle.ts_record.specs.declared.fault.Fault.TheVariants.{GenerationsExhausted};
 ghost use Rattle.ts_record.specs.Facts.{AllFit, encodings, OpensTo};
 ghost use Rattle.ts_journal.specs.Choice.{header_of_owner, IsLive, IsOther, IsChosen};
 ghost use Rattle.ts_journal.specs.declared.choice.Choice.{Choice};
@@ -61,7 +64,8 @@ fn record_of<D: Disk, C: Codec>(
     requires other { IsOther found.choice.stage found.choice.owner.generation (D.state spare).read }
     requires durable { IsDurable (D.state current) }
     requires still { IsDurable (D.state spare) }
-    requires read { IsRead C.octets version_2 (D.state current).read found.contents.facts.items found.contents.end }
+    requires read { IsRead C.octets version_2
+        (D.state current).read found.contents.facts.items found.contents.end }
     ensures a { result.a ≡ cond found.choice.swapped spare current }
     ensures b { result.b ≡ cond found.choice.swapped current spare }
     ensures facts { result.facts ≡ found.contents.facts.items }
@@ -71,7 +75,8 @@ fn record_of<D: Disk, C: Codec>(
     ensures nodes { result.nodes ≡ found.choice.owner.nodes }
     ensures generation { result.generation ≡ found.choice.owner.generation }
     ensures rewrite { result.rewrite ≡ idle }
-    ensures opens { AnyPair (OpensToFrom C.octets (member result) result.swapped result.facts) (D.state result.a) (D.state result.b) }
+    ensures opens { AnyPair (OpensToFrom C.octets (member result) result.swapped result.facts)
+        (D.state result.a) (D.state result.b) }
 {
     let Found { choice, contents } = found;
     let Contents { facts, end } = contents;
@@ -98,51 +103,67 @@ fn record_of<D: Disk, C: Codec>(
 }
 
 impl<D: Disk, C: Codec> Record<D, C> {
-    /// Writes an empty record of a node on two disks, and syncs both. The first is live, of generation 1; the second
-    /// is shut, of generation 0.
+    /// Writes an empty record of a node on two disks, and syncs both. The first is live, of
+    /// generation 1; the second is shut, of generation 0.
     pub fn format(a: &mut D, b: &mut D, node: u8, nodes: u8) -> Result<(), Fault>
         requires node_from { 1 ≤ node }
         requires node_to { node ≤ nodes }
         requires nodes_to { nodes ≤ 9 }
         ensures first { OnOk result ((D.state a.new).read ≡
-            head (record { node = node; nodes = nodes; generation = 1 }) ++ (1 ∷ 0 ∷ drop 26 (D.state a.old).read)) }
+            head (record { node = node; nodes = nodes; generation = 1 })
+            ++ (1 ∷ 0 ∷ drop 26 (D.state a.old).read)) }
         ensures second { OnOk result ((D.state b.new).read ≡
-            head (record { node = node; nodes = nodes; generation = 0 }) ++ (0 ∷ 0 ∷ drop 26 (D.state b.old).read)) }
+            head (record { node = node; nodes = nodes; generation = 0 })
+            ++ (0 ∷ 0 ∷ drop 26 (D.state b.old).read)) }
         // Each pair of images that a crash may leave opens to no facts.
-        ensures opens { OnOk result (AnyPair (OpensTo C.octets (record { node = node; nodes = nodes }) []) (D.state a.new) (D.state b.new)) }
-        ensures fault { IfErr result (λ fault. (fault ≡ DiskFailed) × EitherFailed (D.state a.old) (D.state b.old) (D.state a.new) (D.state b.new)) }
+        ensures opens { OnOk result (AnyPair
+            (OpensTo C.octets (record { node = node; nodes = nodes }) []) (D.state a.new)
+            (D.state b.new)) }
+        ensures fault { IfErr result (λ fault. (fault ≡ DiskFailed)
+            × EitherFailed (D.state a.old) (D.state b.old) (D.state a.new) (D.state b.new)) }
     {
         format(a, b, node, nodes)?;
         Ok(())
     }
 
-    /// Opens the record on two disks, which are synced and read first. Refused, it gives the disks back.
+    /// Opens the record on two disks, which are synced and read first. Refused, it gives the disks
+    /// back.
     pub fn open(alloc: Global, a: D, b: D) -> Result<Record<D, C>, Refused<D>>
         // Each pair of images that a crash may leave opens to the facts, from the disk in use.
-        ensures opens { IfOk result (λ opened. AnyPair (OpensToFrom C.octets (member opened) opened.swapped opened.facts) (D.state opened.a) (D.state opened.b)) }
+        ensures opens { IfOk result (λ opened. AnyPair
+            (OpensToFrom C.octets (member opened) opened.swapped opened.facts) (D.state opened.a)
+            (D.state opened.b)) }
         // The disk in use is the one of the greatest generation among those that are live.
-        ensures chosen { IfOk result (λ opened. (choice : Choice) × IsChosen choice (D.state a).read (D.state b).read
+        ensures chosen { IfOk result (λ opened. (choice : Choice)
+            × IsChosen choice (D.state a).read (D.state b).read
             × (opened.swapped ≡ choice.swapped) × (opened.generation ≡ choice.owner.generation)) }
         // The record is that of the node in its header, one of 1 to 9 nodes.
-        ensures owner { IfOk result (λ opened. (choice : Choice) × IsChosen choice (D.state a).read (D.state b).read
+        ensures owner { IfOk result (λ opened. (choice : Choice)
+            × IsChosen choice (D.state a).read (D.state b).read
             × (opened.node ≡ choice.owner.node) × (opened.nodes ≡ choice.owner.nodes)) }
-        ensures member { IfOk result (λ opened. (1 ≤ opened.node) × (opened.node ≤ opened.nodes) × (opened.nodes ≤ 9)) }
+        ensures member { IfOk result (λ opened. (1 ≤ opened.node) × (opened.node ≤ opened.nodes)
+            × (opened.nodes ≤ 9)) }
         // No rewrite is begun: one that was not switched is forgotten.
         ensures idle { IfOk result (λ opened. opened.rewrite ≡ idle) }
         ensures whole { IfOk result (λ opened. opened.broken ≡ false) }
         // What a read gives stays.
         ensures same { MatchResult result
-            (λ opened. ((D.state opened.a).read ≡ (D.state a).read) × ((D.state opened.b).read ≡ (D.state b).read))
-            (λ refused. ((D.state refused.a).read ≡ (D.state a).read) × ((D.state refused.b).read ≡ (D.state b).read)) }
-        // Where what is read opens to facts as the record of a member, these are the record's, and it is that member's; or memory or
-        // a device failed.
-        ensures only { (owner : Member) (facts : List (Fact C)) → OpensTo C.octets owner facts (D.state a).read (D.state b).read
-            → MatchResult result (λ opened. (opened.facts ≡ facts) × (member opened ≡ owner)) (λ refused. (refused.fault ≡ Memory) ⊎ (refused.fault ≡ DiskFailed)) }
+            (λ opened. ((D.state opened.a).read ≡ (D.state a).read)
+            × ((D.state opened.b).read ≡ (D.state b).read))
+            (λ refused. ((D.state refused.a).read ≡ (D.state a).read)
+            × ((D.state refused.b).read ≡ (D.state b).read)) }
+        // Where what is read opens to facts as the record of a member, these are the record's, and
+        // it is that member's; or memory or a device failed.
+        ensures only { (owner : Member) (facts : List (Fact C))
+            → OpensTo C.octets owner facts (D.state a).read (D.state b).read
+            → MatchResult result (λ opened. (opened.facts ≡ facts) × (member opened ≡ owner))
+            (λ refused. (refused.fault ≡ Memory) ⊎ (refused.fault ≡ DiskFailed)) }
         // At every moment of the call a crash leaves nothing that it could not leave before.
         ensures moments { MatchResult result
             (λ opened. NothingNew (D.state a) (D.state b) (D.state opened.a) (D.state opened.b))
             (λ refused. NothingNew (D.state a) (D.state b) (D.state refused.a) (D.state refused.b)) }
-        ensures fault { IfErr result (λ refused. IsFault C.octets (D.state a) (D.state b) (D.state refused.a) (D.state refused.b) refused.fault) }
+        ensures fault { IfErr result (λ refused. IsFault C.octets (D.state a) (D.state b)
+            (D.state refused.a) (D.state refused.b) refused.fault) }
     {
         let mut a = a;
         let mut b = b;
@@ -207,8 +228,8 @@ impl<D: Disk, C: Codec> Record<D, C> {
         }
     }
 
-    /// Keeps facts, all of them or none, by four calls of the disk in use. Memory is reserved before the first of
-    /// them. Of no facts it makes no call.
+    /// Keeps facts, all of them or none, by four calls of the disk in use. Memory is reserved
+    /// before the first of them. Of no facts it makes no call.
     pub fn append(&mut self, alloc: Global, facts: &[Fact<C>]) -> Result<(), Fault>
         requires fit { AllFit C.octets facts.now }
         requires short { length (encodings C.octets facts.now) ≤ 4194500 }
@@ -225,19 +246,27 @@ impl<D: Disk, C: Codec> Record<D, C> {
         // At a fault the facts stay, and so do the disk in use, its generation and the rewrite.
         ensures refused { OnErr result (course self.new ≡ course self.old) }
 
-        // At every moment each pair of images opens to the facts before, or to those and all of the new ones, and from the
-        // disk in use.
+        // At every moment each pair of images opens to the facts before, or to those and all of the
+        // new ones, and from the disk in use.
         ensures moments { self.old.broken ≡ false
-            → EveryPair (ToBeforeOrAfter C.octets (member self.old) self.old.swapped self.old.facts facts.now) (D.state self.old.a) (D.state self.old.b) (D.state self.new.a) (D.state self.new.b) }
+            → EveryPair (ToBeforeOrAfter C.octets
+            (member self.old) self.old.swapped self.old.facts facts.now) (D.state self.old.a)
+            (D.state self.old.b) (D.state self.new.a) (D.state self.new.b) }
 
         // Afterwards each pair of images opens to the facts, from the disk in use.
-        ensures opens { OnOk result (AnyPair (OpensToFrom C.octets (member self.new) self.new.swapped self.new.facts) (D.state self.new.a) (D.state self.new.b)) }
+        ensures opens { OnOk result (AnyPair
+            (OpensToFrom C.octets (member self.new) self.new.swapped self.new.facts)
+            (D.state self.new.a) (D.state self.new.b)) }
 
-        ensures fault { IfErr result (λ fault. (fault ≡ Memory) ⊎ (fault ≡ DiskFailed) ⊎ (fault ≡ Broken)) }
+        ensures fault { IfErr result (λ fault. (fault ≡ Memory) ⊎ (fault ≡ DiskFailed)
+            ⊎ (fault ≡ Broken)) }
         ensures memory { IsErrOf result Fault.Memory → self.new ≡ self.old }
-        ensures failed { IsErrOf result Fault.DiskFailed → (self.new.broken ≡ true) × (self.new.facts ≡ self.old.facts)
-            × EitherFailed (D.state self.old.a) (D.state self.old.b) (D.state self.new.a) (D.state self.new.b) }
-        ensures broken { IsErrOf result Fault.Broken → (self.old.broken ≡ true) × (self.new ≡ self.old) }
+        ensures failed { IsErrOf result Fault.DiskFailed
+            → (self.new.broken ≡ true) × (self.new.facts ≡ self.old.facts)
+            × EitherFailed (D.state self.old.a) (D.state self.old.b) (D.state self.new.a)
+            (D.state self.new.b) }
+        ensures broken { IsErrOf result Fault.Broken
+            → (self.old.broken ≡ true) × (self.new ≡ self.old) }
         ensures stays { self.old.broken ≡ true → IsErrOf result Fault.Broken }
         ensures whole { OnOk result (self.new.broken ≡ false) }
     {
@@ -252,10 +281,11 @@ impl<D: Disk, C: Codec> Record<D, C> {
         answer
     }
 
-    /// Makes one step of a rewrite of the record on its other disk. The first decides what is copied, closes that disk's live gate
-    /// where it is open, and syncs; the second writes its header, of the next generation; then each copies a fact, as a body
-    /// of its own; and the last one opens the live gate, so that the record is on that disk. Facts may be appended between two
-    /// steps, and are copied too. Memory is reserved before the first device call.
+    /// Makes one step of a rewrite of the record on its other disk. The first decides what is
+    /// copied, closes that disk's live gate where it is open, and syncs; the second writes its
+    /// header, of the next generation; then each copies a fact, as a body of its own; and the last
+    /// one opens the live gate, so that the record is on that disk. Facts may be appended between
+    /// two steps, and are copied too. Memory is reserved before the first device call.
     pub fn compact(&mut self, alloc: Global) -> Result<Progress, Fault>
         ensures steps { IfOk result (λ answer. Steps (course self.old) answer (course self.new)) }
 
@@ -266,26 +296,38 @@ impl<D: Disk, C: Codec> Record<D, C> {
 
         // At every moment each pair of images opens to facts of the same force.
         ensures moments { self.old.broken ≡ false
-            → EveryPair (OpensToForce C.octets (member self.old) self.old.facts) (D.state self.old.a) (D.state self.old.b) (D.state self.new.a) (D.state self.new.b) }
+            → EveryPair (OpensToForce C.octets (member self.old) self.old.facts)
+            (D.state self.old.a) (D.state self.old.b) (D.state self.new.a)
+            (D.state self.new.b) }
 
         // Before the last step each pair opens to the facts, from the disk in use.
         ensures from { self.old.broken ≡ false → (IsLast self.old.rewrite → ⊥)
-            → EveryPair (OpensToFrom C.octets (member self.old) self.old.swapped self.old.facts) (D.state self.old.a) (D.state self.old.b) (D.state self.new.a) (D.state self.new.b) }
+            → EveryPair (OpensToFrom C.octets (member self.old) self.old.swapped self.old.facts)
+            (D.state self.old.a) (D.state self.old.b) (D.state self.new.a)
+            (D.state self.new.b) }
 
         // Afterwards each pair of images opens to the facts, from the disk in use.
-        ensures opens { OnOk result (AnyPair (OpensToFrom C.octets (member self.new) self.new.swapped self.new.facts) (D.state self.new.a) (D.state self.new.b)) }
+        ensures opens { OnOk result (AnyPair
+            (OpensToFrom C.octets (member self.new) self.new.swapped self.new.facts)
+            (D.state self.new.a) (D.state self.new.b)) }
 
         // The facts to be copied are of the force of all.
         ensures force { OnOk result (SameForce self.new.facts self.old.facts) }
 
-        ensures fault { IfErr result (λ fault. (fault ≡ Memory) ⊎ (fault ≡ DiskFailed) ⊎ (fault ≡ Broken) ⊎ (fault ≡ GenerationsExhausted)) }
+        ensures fault { IfErr result (λ fault. (fault ≡ Memory) ⊎ (fault ≡ DiskFailed)
+            ⊎ (fault ≡ Broken) ⊎ (fault ≡ GenerationsExhausted)) }
         ensures memory { IsErrOf result Fault.Memory → self.new ≡ self.old }
-        ensures failed { IsErrOf result Fault.DiskFailed → (self.new.broken ≡ true) × (self.new.facts ≡ self.old.facts)
-            × EitherFailed (D.state self.old.a) (D.state self.old.b) (D.state self.new.a) (D.state self.new.b) }
-        ensures broken { IsErrOf result Fault.Broken → (self.old.broken ≡ true) × (self.new ≡ self.old) }
+        ensures failed { IsErrOf result Fault.DiskFailed
+            → (self.new.broken ≡ true) × (self.new.facts ≡ self.old.facts)
+            × EitherFailed (D.state self.old.a) (D.state self.old.b) (D.state self.new.a)
+            (D.state self.new.b) }
+        ensures broken { IsErrOf result Fault.Broken
+            → (self.old.broken ≡ true) × (self.new ≡ self.old) }
         ensures stays { self.old.broken ≡ true → IsErrOf result Fault.Broken }
-        ensures exhausted { IsErrOf result Fault.GenerationsExhausted → (self.old.generation + 1 ≡ 2 ^ 64) × (self.new ≡ self.old) }
-        ensures last { self.old.broken ≡ false → self.old.generation + 1 ≡ 2 ^ 64 → IsErrOf result Fault.GenerationsExhausted }
+        ensures exhausted { IsErrOf result Fault.GenerationsExhausted
+            → (self.old.generation + 1 ≡ 2 ^ 64) × (self.new ≡ self.old) }
+        ensures last { self.old.broken ≡ false → self.old.generation + 1 ≡ 2 ^ 64
+            → IsErrOf result Fault.GenerationsExhausted }
         ensures whole { OnOk result (self.new.broken ≡ false) }
     {
         if self.broken {

@@ -1,6 +1,7 @@
--- The two passes, list by list, so that each list is looked at once in a pass, whatever points the certificate has (in private
--- clauses).
-use Rattle.std.specs.Prelude.{ℕ, ◌&&◌, not, nat_lt, Bool, List, [], ◌∷◌, Option, Some, None, option_map, if◌then◌else◌}
+-- The two passes, list by list, so that each list is looked at once in a pass, whatever points the
+-- certificate has (in private clauses).
+use Rattle.std.specs.Prelude.{ℕ, ◌&&◌, not, nat_lt, Bool, List, [], ◌∷◌, Option, Some, None}
+use Rattle.std.specs.Prelude.{option_map, if◌then◌else◌}
 use Rattle.std.specs.List.{position_from}
 use Rattle.ts_ext.specs.declared.reason_set.ReasonSet.{ReasonSet}
 use Rattle.ts_ext.specs.NamedBits.{no_reasons}
@@ -14,11 +15,13 @@ use Rattle.ts_revoke.specs.Decision.{revoking, decided}
 use Rattle.ts_revoke.specs.Listed.{listed}
 use Rattle.ts_revoke.specs.Question.{Question}
 use Rattle.ts_revoke.specs.Reasons.{union, intersection, is_all, is_within}
-use Rattle.ts_revoke.specs.Usable.{serves, is_named, reasons_in, scope_reasons, mask_of, is_usable, is_own, all_points, issuer_point}
+use Rattle.ts_revoke.specs.Usable.{serves, is_named, reasons_in, scope_reasons, mask_of, is_usable}
+use Rattle.ts_revoke.specs.Usable.{is_own, all_points, issuer_point}
 
 -- ---- pass 1
 
--- the reasons of the points that pass 1 may take, and whether a list of this scope is for one of them; no name is looked at
+-- the reasons of the points that pass 1 may take, and whether a list of this scope is for one of
+-- them; no name is looked at
 abbrev pub offered_by : Point → ReasonSet
 offered_by p = if is_own p then reasons_in p.reasons else no_reasons
 
@@ -59,7 +62,8 @@ earlier (Some a) (Some b) = if nat_lt b.place a.place then Some b else Some a
 
 -- what one list finds, and the reasons that it is for
 unfoldable pub found_by : Question → List Point → CertificateList → Option Found
-found_by q points l = if serves q l then at_place (first_reached (scope_of l) 0 points) (revoking (listed q l)) else None
+found_by q points l = if serves q l
+    then at_place (first_reached (scope_of l) 0 points) (revoking (listed q l)) else None
 
 unfoldable pub reasons_by : Question → List Point → CertificateList → ReasonSet
 reasons_by q points l = if serves q l then reached_reasons (scope_of l) points else no_reasons
@@ -71,7 +75,8 @@ found_after q points best (l ∷ ls) = found_after q points (earlier best (found
 
 abbrev pub reasons_after : Question → List Point → ReasonSet → List CertificateList → ReasonSet
 reasons_after q points reasons [] = reasons
-reasons_after q points reasons (l ∷ ls) = reasons_after q points (union reasons (reasons_by q points l)) ls
+reasons_after q points reasons (l ∷ ls) =
+    reasons_after q points (union reasons (reasons_by q points l)) ls
 
 -- ---- pass 2
 
@@ -95,7 +100,8 @@ or_revoked None other = other
 
 abbrev pub status_after : Question → Point → ReasonSet → ReasonSet → List CertificateList → Status
 status_after q p covered reasons [] = end_of reasons
-status_after q p covered reasons (l ∷ ls) = or_revoked (revoked_at q p covered l) (status_after q p covered (union reasons (reasons_at q p covered l)) ls)
+status_after q p covered reasons (l ∷ ls) = or_revoked (revoked_at q p covered l)
+    (status_after q p covered (union reasons (reasons_at q p covered l)) ls)
 
 -- ---- both passes
 
@@ -103,4 +109,5 @@ abbrev pub by_list : Question → Status
 by_list q =
     let points = all_points q.certificate in
     let reasons = reasons_after q points no_reasons q.lists in
-    decided (option_map (λ (f : Found). f.reason) (found_after q points None q.lists)) reasons (status_after q (issuer_point q.certificate) reasons reasons q.lists)
+    decided (option_map (λ (f : Found). f.reason) (found_after q points None q.lists)) reasons
+    (status_after q (issuer_point q.certificate) reasons reasons q.lists)

@@ -19,4 +19,5 @@ IsLooked q l (Searched reason) = (serves q l ≡ true) × (reason ≡ revoking (
 
 -- what a table holds is true of the list at the same place; beyond its end nothing is known
 abbrev pub AreLooked : Question → List Crl → List Looked → Type 0
-AreLooked q lists table = (i : ℕ) (d : Crl) → i < length lists → IsLooked q (crl_in (get_or lists i d)) (get_or table i NotYet)
+AreLooked q lists table = (i : ℕ) (d : Crl) → i < length lists
+    → IsLooked q (crl_in (get_or lists i d)) (get_or table i NotYet)

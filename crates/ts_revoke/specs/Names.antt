@@ -1,8 +1,11 @@
--- When two names are shared (RFC 5280 6.3.3 (b) (2) (i)): directory names that are the same, other forms of equal octets.
+-- When two names are shared (RFC 5280 6.3.3 (b) (2) (i)): directory names that are the same, other
+-- forms of equal octets.
 use Rattle.std.specs.Prelude.{Bool, false, List}
 use Rattle.std.specs.List.{list_any}
 use Rattle.std.specs.Str.{bytes_eq}
-use Rattle.ts_name.specs.General.{GeneralName, otherName, rfc822Name, dNSName, x400Address, directoryName, ediPartyName, uniformResourceIdentifier, iPAddress, registeredID}
+use Rattle.ts_name.specs.General.{GeneralName, otherName, rfc822Name, dNSName, x400Address}
+use Rattle.ts_name.specs.General.{directoryName, ediPartyName, uniformResourceIdentifier, iPAddress}
+use Rattle.ts_name.specs.General.{registeredID}
 use Rattle.ts_name.specs.Sameness.{is_same_name}
 
 -- whether two general names are one

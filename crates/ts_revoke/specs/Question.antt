@@ -8,8 +8,9 @@ use Rattle.ts_crl.specs.List.{CertificateList}
 abbrev pub Check : Type 0
 Check = List ℕ → Key → List ℕ → List ℕ → Bool
 
--- the certificate; the key that signed it, and the keyUsage of its issuer's certificate, where that states one; the moment; the
--- check of signatures; the complete CRLs and the delta CRLs at hand, each in order; whether delta CRLs are used (use-deltas)
+-- the certificate; the key that signed it, and the keyUsage of its issuer's certificate, where that
+-- states one; the moment; the check of signatures; the complete CRLs and the delta CRLs at hand,
+-- each in order; whether delta CRLs are used (use-deltas)
 pub record Question : Type 0 where
   pub certificate : Certificate
   pub key : Key

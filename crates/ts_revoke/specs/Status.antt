@@ -21,9 +21,13 @@ pairs_among q p lists = map (pair_of q p) (filter (is_usable q p) lists)
 abbrev pub pairs_at : Question → Point → List Pair
 pairs_at q p = pairs_among q p q.lists
 
--- those of the certificate's own points, in order, and those of the point that is named by its issuer
+-- those of the certificate's own points, in order, and those of the point that is named by its
+-- issuer
 abbrev pub pairs_of : Question → Pairs
-pairs_of q = record { own = flat_map (pairs_at q) (own_points q.certificate); issuer = pairs_at q (issuer_point q.certificate) }
+pairs_of q = record {
+  own = flat_map (pairs_at q) (own_points q.certificate);
+  issuer = pairs_at q (issuer_point q.certificate);
+}
 
 abbrev pub status_of : Question → Status
 status_of q = status (pairs_of q)

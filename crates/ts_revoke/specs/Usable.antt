@@ -1,8 +1,11 @@
--- The pairs of a distribution point and a CRL that may be used for a certificate (RFC 5280 6.3.3 (a) to (g), in this profile).
-use Rattle.std.specs.Prelude.{ℤ, ◌&&◌, ◌||◌, not, int_le, Bool, true, false, List, [], ◌∷◌, filter, Option, Some, None, is_none, unwrap_or}
+-- The pairs of a distribution point and a CRL that may be used for a certificate (RFC 5280 6.3.3
+-- (a) to (g), in this profile).
+use Rattle.std.specs.Prelude.{ℤ, ◌&&◌, ◌||◌, not, int_le, Bool, true, false, List, [], ◌∷◌, filter}
+use Rattle.std.specs.Prelude.{Option, Some, None, is_none, unwrap_or}
 use Rattle.ts_name.specs.General.{directoryName}
 use Rattle.ts_name.specs.Sameness.{is_same_name}
-use Rattle.ts_ext.specs.declared.known.Known.TheVariants.{CrlDistributionPoints, BasicConstraints as BasicConstraintsOf}
+use Rattle.ts_ext.specs.declared.known.Known.TheVariants.{CrlDistributionPoints}
+use Rattle.ts_ext.specs.declared.known.Known.TheVariants.{BasicConstraints as BasicConstraintsOf}
 use Rattle.ts_ext.specs.declared.basic_constraints.BasicConstraints.{BasicConstraints}
 use Rattle.ts_ext.specs.declared.reason_set.ReasonSet.{ReasonSet}
 use Rattle.ts_ext.specs.NamedBits.{bit, flag_number}
@@ -30,7 +33,8 @@ is_at_or_after moment (Some t) = int_le moment t.moment
 
 -- nextUpdate is at or after the moment (6.3.3 (a)), and thisUpdate at or before it (this profile)
 abbrev pub is_current : ℤ → CertificateList → Bool
-is_current moment l = int_le l.tbsCertList.thisUpdate.moment moment && is_at_or_after moment l.tbsCertList.nextUpdate
+is_current moment l = int_le l.tbsCertList.thisUpdate.moment moment
+    && is_at_or_after moment l.tbsCertList.nextUpdate
 
 -- the issuer's certificate, where it states a keyUsage, has cRLSign (6.3.3 (f))
 abbrev pub may_sign : Option (List Bool) → Bool
@@ -49,14 +53,17 @@ says_ca (Some b) = b.ca
 abbrev pub is_ca : Certificate → Bool
 is_ca c = says_ca (stated BasicConstraintsOf basic_constraints_of c.tbsCertificate)
 
--- an issuing distribution point, where there is one, has onlyContainsAttributeCerts FALSE, onlyContainsUserCerts TRUE only for
--- a certificate that is not a CA's, and onlyContainsCACerts TRUE only for one that is (6.3.3 (b) (2) (ii) to (iv))
+-- an issuing distribution point, where there is one, has onlyContainsAttributeCerts FALSE,
+-- onlyContainsUserCerts TRUE only for a certificate that is not a CA's, and onlyContainsCACerts
+-- TRUE only for one that is (6.3.3 (b) (2) (ii) to (iv))
 abbrev pub covers : Bool → Option ListScope → Bool
 covers ca None = true
 covers ca (Some s) =
-    not s.onlyContainsAttributeCerts && ((not s.onlyContainsUserCerts || not ca) && (not s.onlyContainsCACerts || ca))
+    not s.onlyContainsAttributeCerts
+    && ((not s.onlyContainsUserCerts || not ca) && (not s.onlyContainsCACerts || ca))
 
--- all that is asked of a CRL, at whatever distribution point: a delta CRL is used with a complete one alone (5.2.4)
+-- all that is asked of a CRL, at whatever distribution point: a delta CRL is used with a complete
+-- one alone (5.2.4)
 unfoldable pub serves : Question → CertificateList → Bool
 serves q l =
     not (is_delta l)
@@ -68,7 +75,8 @@ serves q l =
 
 -- ---- the CRL and the distribution point
 
--- an issuing distribution point that has a name shares one with the distribution point (6.3.3 (b) (2) (i))
+-- an issuing distribution point that has a name shares one with the distribution point (6.3.3 (b)
+-- (2) (i))
 abbrev pub name_shared : Option PointName → Option PointName → Bool
 name_shared None point = true
 name_shared (Some (fullName names)) (Some (fullName others)) = share names others
@@ -87,8 +95,8 @@ abbrev pub scope_reasons : Option ListScope → ReasonSet
 scope_reasons None = all_reasons
 scope_reasons (Some s) = reasons_in s.onlySomeReasons
 
--- the mask of a pair: the intersection of onlySomeReasons and the point's reasons, one of them where the other is absent,
--- all-reasons where both are (6.3.3 (d))
+-- the mask of a pair: the intersection of onlySomeReasons and the point's reasons, one of them
+-- where the other is absent, all-reasons where both are (6.3.3 (d))
 abbrev pub mask_of : Point → Option ListScope → ReasonSet
 mask_of p scope = intersection (scope_reasons scope) (reasons_in p.reasons)
 
@@ -111,4 +119,9 @@ own_points c = filter is_own (all_points c)
 
 -- the one of pass 2: named by the certificate's issuer, without reasons (6.3.3, the last paragraph)
 abbrev pub issuer_point : Certificate → Point
-issuer_point c = record { distributionPoint = Some (fullName (directoryName c.tbsCertificate.issuer ∷ [])); reasons = None; cRLIssuer = None }
+issuer_point c = record {
+  distributionPoint = Some
+      (fullName (directoryName c.tbsCertificate.issuer ∷ []));
+  reasons = None;
+  cRLIssuer = None;
+}

@@ -8,6 +8,7 @@ use ts_sig::WorkingKey;
 pub struct Issuer<'a> {
     /// The key that signed the certificate.
     pub key: WorkingKey<'a>,
-    /// The keyUsage that the issuer's certificate states (RFC 5280 4.2.1.3); of a trust anchor none.
+    /// The keyUsage that the issuer's certificate states (RFC 5280 4.2.1.3); of a trust anchor
+    /// none.
     pub key_usage: Option<KeyUsage<'a>>,
 }

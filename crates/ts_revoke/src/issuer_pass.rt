@@ -4,7 +4,8 @@ ghost use Rattle.std.specs.Prelude.{◌≡◌, map, option_map};
 ghost use Rattle.ts_ext.specs.NameViews.{point_name_in, issuing_point_in};
 ghost use Rattle.ts_cert.specs.CertView.{cert_in};
 ghost use Rattle.ts_crl.specs.ListView.{crl_in};
-ghost use Rattle.ts_revoke.specs.ByList.{is_taken as is_taken_at, revoked_at, reasons_at, status_after};
+ghost use Rattle.ts_revoke.specs.ByList.{is_taken as is_taken_at, revoked_at, reasons_at};
+ghost use Rattle.ts_revoke.specs.ByList.{status_after};
 ghost use Rattle.ts_revoke.specs.Looked.{IsLooked, AreLooked};
 ghost use Rattle.ts_revoke.specs.Usable.{name_shared, is_named, issuer_point};
 ghost use Rattle.ts_revoke.specs.View.{question_in};
@@ -22,7 +23,8 @@ use ts_sig::SignatureCheck;
 
 /// Whether a name, if a CRL has one, is the certificate's issuer among others.
 fn is_shared(name: &Option<PointName<'_>>, cert: &Cert<'_>) -> bool
-    ensures { result ≡ name_shared (option_map point_name_in name.now) (issuer_point (cert_in cert.now)).distributionPoint }
+    ensures { result ≡ name_shared (option_map point_name_in name.now)
+        (issuer_point (cert_in cert.now)).distributionPoint }
 {
     match name {
         None => true,
@@ -33,7 +35,8 @@ fn is_shared(name: &Option<PointName<'_>>, cert: &Cert<'_>) -> bool
 
 /// Whether a CRL of this scope is for the point that is named by the certificate's issuer.
 fn is_for_issuer(cert: &Cert<'_>, scope: &Option<IssuingDistributionPoint<'_>>) -> bool
-    ensures { result ≡ is_named (issuer_point (cert_in cert.now)) (option_map issuing_point_in scope.now) }
+    ensures { result ≡ is_named (issuer_point (cert_in cert.now))
+        (option_map issuing_point_in scope.now) }
 {
     match scope {
         Some(scope) => is_shared(&scope.name, cert),
@@ -41,8 +44,8 @@ fn is_for_issuer(cert: &Cert<'_>, scope: &Option<IssuingDistributionPoint<'_>>) 
     }
 }
 
-/// Whether pass 2 uses a CRL, when these reasons are covered. The names come last, so that only a signed CRL has its names
-/// compared.
+/// Whether pass 2 uses a CRL, when these reasons are covered. The names come last, so that only a
+/// signed CRL has its names compared.
 #[tactic(auto, unfolding(crate::specs::ByList::is_taken))]
 fn is_taken<S: SignatureCheck>(
     looked: Looked,
@@ -52,7 +55,8 @@ fn is_taken<S: SignatureCheck>(
     covered: ReasonSet,
 ) -> bool
     requires known { IsLooked (question_in q.now (S.accepts check.now)) (crl_in crl.now) looked }
-    ensures { result ≡ is_taken_at (question_in q.now (S.accepts check.now)) (issuer_point (cert_in q.now.cert.now)) covered (crl_in crl.now) }
+    ensures { result ≡ is_taken_at (question_in q.now (S.accepts check.now))
+        (issuer_point (cert_in q.now.cert.now)) covered (crl_in crl.now) }
 {
     let scope = crl.scope();
     !is_within(mask_without_reasons(&scope), covered)
@@ -70,8 +74,10 @@ fn said_by<S: SignatureCheck>(
     covered: ReasonSet,
 ) -> (Option<u8>, ReasonSet)
     requires known { IsLooked (question_in q.now (S.accepts check.now)) (crl_in crl.now) looked }
-    ensures revoked { result.0 ≡ revoked_at (question_in q.now (S.accepts check.now)) (issuer_point (cert_in q.now.cert.now)) covered (crl_in crl.now) }
-    ensures reasons { result.1 ≡ reasons_at (question_in q.now (S.accepts check.now)) (issuer_point (cert_in q.now.cert.now)) covered (crl_in crl.now) }
+    ensures revoked { result.0 ≡ revoked_at (question_in q.now (S.accepts check.now))
+        (issuer_point (cert_in q.now.cert.now)) covered (crl_in crl.now) }
+    ensures reasons { result.1 ≡ reasons_at (question_in q.now (S.accepts check.now))
+        (issuer_point (cert_in q.now.cert.now)) covered (crl_in crl.now) }
 {
     if !is_taken(looked, crl, q, check, covered) {
         return (None, ReasonSet::none());
@@ -89,8 +95,11 @@ pub(crate) fn issuer_pass<S: SignatureCheck>(
     covered: ReasonSet,
     table: &[Looked],
 ) -> Status
-    requires looked { AreLooked (question_in q.now (S.accepts check.now)) q.now.crls.now.lists.now table.now }
-    ensures { result ≡ status_after (question_in q.now (S.accepts check.now)) (issuer_point (cert_in q.now.cert.now)) covered covered (map crl_in q.now.crls.now.lists.now) }
+    requires looked { AreLooked (question_in q.now (S.accepts check.now)) q.now.crls.now.lists.now
+        table.now }
+    ensures { result ≡ status_after (question_in q.now (S.accepts check.now))
+        (issuer_point (cert_in q.now.cert.now)) covered covered
+        (map crl_in q.now.crls.now.lists.now) }
 {
     let mut reasons = covered;
     for (place, crl) in q.crls.lists.iter().enumerate() {

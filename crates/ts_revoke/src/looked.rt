@@ -1,4 +1,5 @@
-//! What a question has learned of a CRL, so that neither its signature nor its entries are asked twice.
+//! What a question has learned of a CRL, so that neither its signature nor its entries are asked
+//! twice.
 
 ghost use Rattle.std.specs.Prelude.{◌≡◌, get_or, set};
 ghost use Rattle.ts_crl.specs.ListView.{crl_in};
@@ -29,7 +30,8 @@ pub(crate) enum Looked {
     Searched(Option<u8>),
 }
 
-/// Of how many CRLs it is kept, the first ones: as many as a store holds. Of those that come after them it is found out again.
+/// Of how many CRLs it is kept, the first ones: as many as a store holds. Of those that come after
+/// them it is found out again.
 pub(crate) const KEPT: usize = 1_024;
 
 /// What is known of the CRL at a place.
@@ -69,7 +71,8 @@ pub(crate) fn serves_as<S: SignatureCheck>(
     }
 }
 
-/// The reason for which a CRL that serves revokes, if for any. Its entries are searched only where that is not known.
+/// The reason for which a CRL that serves revokes, if for any. Its entries are searched only where
+/// that is not known.
 pub(crate) fn revoking_as<S: SignatureCheck>(
     looked: Looked,
     crl: &Crl<'_>,
@@ -77,7 +80,8 @@ pub(crate) fn revoking_as<S: SignatureCheck>(
     check: &S,
 ) -> Option<u8>
     requires known { IsLooked (question_in q.now (S.accepts check.now)) (crl_in crl.now) looked }
-    ensures { result ≡ revoking_of (listed_of (question_in q.now (S.accepts check.now)) (crl_in crl.now)) }
+    ensures { result ≡ revoking_of
+        (listed_of (question_in q.now (S.accepts check.now)) (crl_in crl.now)) }
 {
     match looked {
         Looked::Searched(reason) => reason,

@@ -43,7 +43,8 @@ fn is_same_form(name: &General<'_>, other: &General<'_>) -> bool
 
 /// Whether a name is among those within an element.
 fn is_among<'a>(name: &General<'_>, others: Element<'a>) -> bool
-    ensures { result ≡ list_any (is_same_general (general_in name.now)) (items_at general_of (inside (now others.entry))) }
+    ensures { result ≡ list_any (is_same_general (general_in name.now))
+        (items_at general_of (inside (now others.entry))) }
 {
     for other in SequenceItems::<'a, General<'a>>::within(others) {
         if is_same_form(name, &other) {
@@ -55,7 +56,8 @@ fn is_among<'a>(name: &General<'_>, others: Element<'a>) -> bool
 
 /// Whether some name within the first element is among those within the second.
 pub(crate) fn share<'a>(names: Element<'a>, others: Element<'_>) -> bool
-    ensures { result ≡ share_of (items_at general_of (inside (now names.entry))) (items_at general_of (inside (now others.entry))) }
+    ensures { result ≡ share_of (items_at general_of (inside (now names.entry)))
+        (items_at general_of (inside (now others.entry))) }
 {
     for name in SequenceItems::<'a, General<'a>>::within(names) {
         if is_among(&name, others) {
@@ -67,7 +69,8 @@ pub(crate) fn share<'a>(names: Element<'a>, others: Element<'_>) -> bool
 
 /// Whether a distinguished name is among the names within an element.
 pub(crate) fn holds_directory_name<'a>(name: Name<'_>, names: Element<'a>) -> bool
-    ensures { result ≡ list_any (λ n. is_same_general n (directoryName (rdns_in name.entry))) (items_at general_of (inside (now names.entry))) }
+    ensures { result ≡ list_any (λ n. is_same_general n (directoryName (rdns_in name.entry)))
+        (items_at general_of (inside (now names.entry))) }
 {
     let wanted = General::DirectoryName(name);
     for other in SequenceItems::<'a, General<'a>>::within(names) {

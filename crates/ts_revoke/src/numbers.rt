@@ -2,7 +2,8 @@
 
 ghost use Rattle.std.specs.Prelude.{◌≡◌, option_map};
 ghost use Rattle.ts_crl.specs.ListView.{crl_in};
-ghost use Rattle.ts_revoke.specs.Numbers.{lies_between as lies_between_of, continues as continues_list};
+ghost use Rattle.ts_revoke.specs.Numbers.{lies_between as lies_between_of};
+ghost use Rattle.ts_revoke.specs.Numbers.{continues as continues_list};
 
 use ts_crl::{Crl, is_lower_number};
 use ts_ext::CrlNumber;
@@ -13,7 +14,9 @@ fn lies_between(
     number: Option<CrlNumber<'_>>,
     newer: Option<CrlNumber<'_>>,
 ) -> bool
-    ensures { result ≡ lies_between_of (option_map (λ n. n.octets.now) base.entry) (option_map (λ n. n.octets.now) number.entry) (option_map (λ n. n.octets.now) newer.entry) }
+    ensures { result ≡ lies_between_of (option_map (λ n. n.octets.now) base.entry)
+        (option_map (λ n. n.octets.now) number.entry)
+        (option_map (λ n. n.octets.now) newer.entry) }
 {
     match (base, number, newer) {
         (Some(base), Some(number), Some(newer)) => {

@@ -5,7 +5,9 @@ ghost use Rattle.ts_ext.specs.NamedBits.{no_reasons};
 ghost use Rattle.ts_ext.specs.NameViews.{points_in};
 ghost use Rattle.ts_cert.specs.CertView.{cert_in};
 ghost use Rattle.ts_crl.specs.ListView.{crl_in};
-ghost use Rattle.ts_revoke.specs.ByList.{offered as offered_by_points, at_place, earlier as earlier_of, found_by, reasons_by, found_after, reasons_after};
+ghost use Rattle.ts_revoke.specs.ByList.{offered as offered_by_points, at_place};
+ghost use Rattle.ts_revoke.specs.ByList.{earlier as earlier_of, found_by, reasons_by, found_after};
+ghost use Rattle.ts_revoke.specs.ByList.{reasons_after};
 ghost use Rattle.ts_revoke.specs.Looked.{IsLooked, AreLooked};
 ghost use Rattle.ts_revoke.specs.Usable.{all_points, serves as serves_of};
 ghost use Rattle.ts_revoke.specs.View.{question_in};
@@ -73,7 +75,8 @@ fn found_at(place: usize, reason: Option<u8>) -> Option<Found>
     }
 }
 
-/// What a CRL that serves says in pass 1. Its entries are searched only where it is used at some point.
+/// What a CRL that serves says in pass 1. Its entries are searched only where it is used at some
+/// point.
 #[tactic(auto, unfolding(crate::specs::ByList::found_by, crate::specs::ByList::reasons_by))]
 fn said_where_served<S: SignatureCheck>(
     points: &Option<DistributionPoints<'_>>,
@@ -82,9 +85,13 @@ fn said_where_served<S: SignatureCheck>(
     check: &S,
 ) -> Said
     requires served { serves_of (question_in q.now (S.accepts check.now)) (crl_in crl.now) ≡ true }
-    ensures found { result.found ≡ found_by (question_in q.now (S.accepts check.now)) (unwrap_or (option_map points_in points.now) []) (crl_in crl.now) }
-    ensures reasons { result.reasons ≡ reasons_by (question_in q.now (S.accepts check.now)) (unwrap_or (option_map points_in points.now) []) (crl_in crl.now) }
-    ensures looked { IsLooked (question_in q.now (S.accepts check.now)) (crl_in crl.now) result.looked }
+    ensures found { result.found ≡ found_by (question_in q.now (S.accepts check.now))
+        (unwrap_or (option_map points_in points.now) []) (crl_in crl.now) }
+    ensures reasons { result.reasons
+        ≡ reasons_by (question_in q.now (S.accepts check.now))
+        (unwrap_or (option_map points_in points.now) []) (crl_in crl.now) }
+    ensures looked { IsLooked (question_in q.now (S.accepts check.now))
+        (crl_in crl.now) result.looked }
 {
     let reach = reached_among(points, &crl.scope());
     let Some(place) = reach.place else {
@@ -102,8 +109,8 @@ fn said_where_served<S: SignatureCheck>(
     }
 }
 
-/// What one CRL says in pass 1, where these are the reasons that its points offer. Its signature is checked only
-/// where it is for one of them; names are compared after that.
+/// What one CRL says in pass 1, where these are the reasons that its points offer. Its signature is
+/// checked only where it is for one of them; names are compared after that.
 #[tactic(auto, using(crate::proofs::Offering::finds_none, crate::proofs::Offering::covers_none, crate::proofs::Offering::refused_finds_none, crate::proofs::Offering::refused_covers_none))]
 fn said_by<S: SignatureCheck>(
     points: &Option<DistributionPoints<'_>>,
@@ -112,10 +119,15 @@ fn said_by<S: SignatureCheck>(
     q: &Question<'_>,
     check: &S,
 ) -> Said
-    requires offered { offered ≡ offered_by_points (unwrap_or (option_map points_in points.now) []) }
-    ensures found { result.found ≡ found_by (question_in q.now (S.accepts check.now)) (unwrap_or (option_map points_in points.now) []) (crl_in crl.now) }
-    ensures reasons { result.reasons ≡ reasons_by (question_in q.now (S.accepts check.now)) (unwrap_or (option_map points_in points.now) []) (crl_in crl.now) }
-    ensures looked { IsLooked (question_in q.now (S.accepts check.now)) (crl_in crl.now) result.looked }
+    requires offered { offered ≡ offered_by_points
+        (unwrap_or (option_map points_in points.now) []) }
+    ensures found { result.found ≡ found_by (question_in q.now (S.accepts check.now))
+        (unwrap_or (option_map points_in points.now) []) (crl_in crl.now) }
+    ensures reasons { result.reasons
+        ≡ reasons_by (question_in q.now (S.accepts check.now))
+        (unwrap_or (option_map points_in points.now) []) (crl_in crl.now) }
+    ensures looked { IsLooked (question_in q.now (S.accepts check.now))
+        (crl_in crl.now) result.looked }
 {
     if !is_wanted(crl, offered) {
         return nothing(Looked::NotYet);
@@ -133,10 +145,17 @@ fn seen_among<S: SignatureCheck>(
     check: &S,
     table: &mut [Looked],
 ) -> Seen
-    requires looked { AreLooked (question_in q.now (S.accepts check.now)) q.now.crls.now.lists.now table.old }
-    ensures found { result.found ≡ found_after (question_in q.now (S.accepts check.now)) (unwrap_or (option_map points_in points.now) []) None (map crl_in q.now.crls.now.lists.now) }
-    ensures reasons { result.reasons ≡ reasons_after (question_in q.now (S.accepts check.now)) (unwrap_or (option_map points_in points.now) []) no_reasons (map crl_in q.now.crls.now.lists.now) }
-    ensures looked { AreLooked (question_in q.now (S.accepts check.now)) q.now.crls.now.lists.now table.new }
+    requires looked { AreLooked (question_in q.now (S.accepts check.now)) q.now.crls.now.lists.now
+        table.old }
+    ensures found { result.found ≡ found_after (question_in q.now (S.accepts check.now))
+        (unwrap_or (option_map points_in points.now) []) None
+        (map crl_in q.now.crls.now.lists.now) }
+    ensures reasons { result.reasons
+        ≡ reasons_after (question_in q.now (S.accepts check.now))
+        (unwrap_or (option_map points_in points.now) []) no_reasons
+        (map crl_in q.now.crls.now.lists.now) }
+    ensures looked { AreLooked (question_in q.now (S.accepts check.now)) q.now.crls.now.lists.now
+        table.new }
 {
     let offered = offered_among(points);
     let mut found = None;
@@ -152,10 +171,15 @@ fn seen_among<S: SignatureCheck>(
 
 /// Pass 1. What is learned of the CRLs goes into a table.
 pub(crate) fn own_pass<S: SignatureCheck>(q: &Question<'_>, check: &S, table: &mut [Looked]) -> Seen
-    requires looked { AreLooked (question_in q.now (S.accepts check.now)) q.now.crls.now.lists.now table.old }
-    ensures found { result.found ≡ found_after (question_in q.now (S.accepts check.now)) (all_points (cert_in q.now.cert.now)) None (map crl_in q.now.crls.now.lists.now) }
-    ensures reasons { result.reasons ≡ reasons_after (question_in q.now (S.accepts check.now)) (all_points (cert_in q.now.cert.now)) no_reasons (map crl_in q.now.crls.now.lists.now) }
-    ensures looked { AreLooked (question_in q.now (S.accepts check.now)) q.now.crls.now.lists.now table.new }
+    requires looked { AreLooked (question_in q.now (S.accepts check.now)) q.now.crls.now.lists.now
+        table.old }
+    ensures found { result.found ≡ found_after (question_in q.now (S.accepts check.now))
+        (all_points (cert_in q.now.cert.now)) None (map crl_in q.now.crls.now.lists.now) }
+    ensures reasons { result.reasons
+        ≡ reasons_after (question_in q.now (S.accepts check.now))
+        (all_points (cert_in q.now.cert.now)) no_reasons (map crl_in q.now.crls.now.lists.now) }
+    ensures looked { AreLooked (question_in q.now (S.accepts check.now)) q.now.crls.now.lists.now
+        table.new }
 {
     seen_among(&q.cert.crl_distribution_points(), q, check, table)
 }

@@ -5,7 +5,9 @@ ghost use Rattle.ts_der.specs.BitsView.{bits_in};
 ghost use Rattle.ts_ext.specs.NameViews.{point_name_in, point_in, issuing_point_in};
 ghost use Rattle.ts_revoke.specs.ByList.{offered_by, is_for_some as is_for_some_of};
 ghost use Rattle.ts_revoke.specs.Reasons.{all_reasons, intersection as both};
-ghost use Rattle.ts_revoke.specs.Usable.{reasons_in, scope_reasons as reasons_of_scope, mask_of, name_shared, is_named as is_named_at, is_own as is_own_point};
+ghost use Rattle.ts_revoke.specs.Usable.{reasons_in, scope_reasons as reasons_of_scope, mask_of};
+ghost use Rattle.ts_revoke.specs.Usable.{name_shared, is_named as is_named_at};
+ghost use Rattle.ts_revoke.specs.Usable.{is_own as is_own_point};
 
 use crate::names::share;
 use crate::reasons::{all, intersection, is_within, reasons_of};
@@ -50,7 +52,8 @@ pub(crate) fn mask_without_reasons(scope: &Option<IssuingDistributionPoint<'_>>)
 
 /// Whether a name, if a CRL has one, is shared with that of a distribution point.
 fn is_shared(name: &Option<PointName<'_>>, point: &Option<PointName<'_>>) -> bool
-    ensures { result ≡ name_shared (option_map point_name_in name.now) (option_map point_name_in point.now) }
+    ensures { result ≡ name_shared (option_map point_name_in name.now)
+        (option_map point_name_in point.now) }
 {
     match (name, point) {
         (None, _) => true,

@@ -3,7 +3,9 @@
 ghost use Rattle.std.specs.Prelude.{◌≡◌};
 ghost use Rattle.ts_der.specs.BitsView.{bits_in};
 ghost use Rattle.ts_ext.specs.NamedBits.{bit, flag_number};
-ghost use Rattle.ts_revoke.specs.Reasons.{reasons_where, all_reasons, intersection as both, union as either, is_all as is_all_reasons, is_within as lies_within};
+ghost use Rattle.ts_revoke.specs.Reasons.{reasons_where, all_reasons, intersection as both};
+ghost use Rattle.ts_revoke.specs.Reasons.{union as either, is_all as is_all_reasons};
+ghost use Rattle.ts_revoke.specs.Reasons.{is_within as lies_within};
 
 use ts_ext::{ReasonFlags, ReasonSet};
 

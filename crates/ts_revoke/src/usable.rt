@@ -5,7 +5,10 @@ ghost use Rattle.ts_der.specs.BitsView.{bits_in};
 ghost use Rattle.ts_ext.specs.NameViews.{issuing_point_in};
 ghost use Rattle.ts_cert.specs.CertView.{cert_in};
 ghost use Rattle.ts_crl.specs.ListView.{crl_in};
-ghost use Rattle.ts_revoke.specs.Usable.{is_current as is_current_list, is_signed as is_signed_list, may_sign as usage_may_sign, is_ca as is_ca_of, covers as scope_covers, serves as serves_of};
+ghost use Rattle.ts_revoke.specs.Usable.{is_current as is_current_list};
+ghost use Rattle.ts_revoke.specs.Usable.{is_signed as is_signed_list, may_sign as usage_may_sign};
+ghost use Rattle.ts_revoke.specs.Usable.{is_ca as is_ca_of, covers as scope_covers};
+ghost use Rattle.ts_revoke.specs.Usable.{serves as serves_of};
 ghost use Rattle.ts_revoke.specs.View.{question_in};
 
 use crate::names::is_same;
@@ -72,8 +75,8 @@ fn covers(ca: bool, scope: &Option<IssuingDistributionPoint<'_>>) -> bool
     }
 }
 
-/// Whether the CRL may be used for the certificate, at whatever distribution point; a delta CRL may not, by itself. The signature comes last, since it
-/// costs most.
+/// Whether the CRL may be used for the certificate, at whatever distribution point; a delta CRL may
+/// not, by itself. The signature comes last, since it costs most.
 #[tactic(auto, unfolding(crate::specs::Usable::serves))]
 pub(crate) fn serves<S: SignatureCheck>(crl: &Crl<'_>, q: &Question<'_>, check: &S) -> bool
     ensures { result ≡ serves_of (question_in q.now (S.accepts check.now)) (crl_in crl.now) }

@@ -16,7 +16,8 @@ impl Command for Number {
     }
 }
 
-/// The kind of a step's last message with the ballot and the command that it carries, and the numbers of messages and facts.
+/// The kind of a step's last message with the ballot and the command that it carries, and the
+/// numbers of messages and facts.
 fn shape_of(step: &Step<Number>) -> (u8, u64, u32, usize, usize) {
     let (kind, ballot, value) = match step.messages.last() {
         None => (0, 0, 0),

@@ -43,7 +43,8 @@ fn what_is_written_is_read_when_it_is_opened_again(rt: HostRuntime) -> Result<()
     Ok(())
 }
 
-// A file of which every second write is interrupted, and the others take two octets at most, up to a first that fails.
+// A file of which every second write is interrupted, and the others take two octets at most, up to
+// a first that fails.
 #[derive(Drop)]
 struct Patchy {
     held: Vec<u8>,

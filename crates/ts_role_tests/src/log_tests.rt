@@ -16,7 +16,8 @@ impl Command for Number {
     }
 }
 
-/// How many nodes there are; sender, ballot and command of each Accepted that reaches node 1 at position 1; the prefix then.
+/// How many nodes there are; sender, ballot and command of each Accepted that reaches node 1 at
+/// position 1; the prefix then.
 const VOTES: [(u8, &[(u8, u64, u32)], u32); 6] = [
     (3, &[(1, 33, 2), (2, 33, 2)], 1),
     (3, &[(1, 18, 2), (2, 33, 2)], 0),

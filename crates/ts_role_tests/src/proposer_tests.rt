@@ -16,7 +16,8 @@ impl Command for Number {
     }
 }
 
-/// The ballot of a step's last message, the command that it proposes (0 for none), and the numbers of messages and facts.
+/// The ballot of a step's last message, the command that it proposes (0 for none), and the numbers
+/// of messages and facts.
 fn shape_of(step: &Step<Number>) -> (u64, u32, usize, usize) {
     let (ballot, value) = match step.messages.last() {
         None => (0, 0),

@@ -91,7 +91,8 @@ fn appended(alloc: Global) -> Result<Option<(MemDisk, MemDisk)>, Fail> {
     })
 }
 
-// The octets of the writes at 26 and at 25, each of which is synced, where these are the last calls of a disk.
+// The octets of the writes at 26 and at 25, each of which is synced, where these are the last calls
+// of a disk.
 fn last_writes(disk: &MemDisk) -> Option<(&[u8], &[u8])> {
     match disk.calls() {
         [
@@ -256,7 +257,8 @@ const CRASHES: [(u64, Torn, bool); 15] = [
     (4, Torn::Byte(0xff), true),
 ];
 
-// What a crash after so many calls of an append leaves, whether the append failed, and whether it is broken then.
+// What a crash after so many calls of an append leaves, whether the append failed, and whether it
+// is broken then.
 fn stopped(alloc: Global, calls: u64, torn: Torn) -> Result<(usize, Option<Fault>), Fail> {
     let (mut a, mut b) = (empty(alloc)?, empty(alloc)?);
     Record::<MemDisk, Word>::format(&mut a, &mut b, 1, 3)?;
@@ -338,7 +340,8 @@ fn is_named(fault: Option<Fault>) -> bool {
     )
 }
 
-// Whether opening answers facts or a fault that names the image, with each of these octets at a place of one of the disks.
+// Whether opening answers facts or a fault that names the image, with each of these octets at a
+// place of one of the disks.
 fn answers(
     alloc: Global,
     disks: (&[u8], &[u8]),
@@ -362,7 +365,8 @@ fn answers(
     Ok(all)
 }
 
-// Whether each end of the first disk that is missing is refused, or each of the second named, and whether so is each other octet.
+// Whether each end of the first disk that is missing is refused, or each of the second named, and
+// whether so is each other octet.
 fn hold(alloc: Global, disks: (&[u8], &[u8]), second: bool) -> Result<bool, AllocError> {
     let (a, b) = disks;
     let mut all = true;

@@ -1,5 +1,6 @@
 -- What a `cert` line says: the certificate that it makes known, or why it is refused.
-use Rattle.std.specs.Prelude.{◌≡◌, ◌≢◌, ℕ, ◌<◌, ◌≤◌, List, [], ◌∷◌, ◌++◌, length, map, true, false, is_ok, None, option_map, codes}
+use Rattle.std.specs.Prelude.{◌≡◌, ◌≢◌, ℕ, ◌<◌, ◌≤◌, List, [], ◌∷◌, ◌++◌, length, map, true, false}
+use Rattle.std.specs.Prelude.{is_ok, None, option_map, codes}
 use Rattle.std.specs.Fmt.{decimal}
 use Rattle.ts_time.specs.Text.{IsGeneral}
 use Rattle.ts_cert.specs.Reading.{certificate_of}
@@ -8,7 +9,8 @@ use Rattle.ts_make.specs.Times.{IsTimeOf}
 use Rattle.ts_make.specs.Made.{made}
 use Rattle.ts_script.specs.declared.cert_line.CertWords.{CertWords}
 use Rattle.ts_script.specs.declared.script.LineFault.{LineFault}
-use Rattle.ts_script.specs.declared.script.LineFault.TheVariants.{Unknown, Form, Name, Limit, Message, Memory}
+use Rattle.ts_script.specs.declared.script.LineFault.TheVariants.{Unknown, Form, Name, Limit}
+use Rattle.ts_script.specs.declared.script.LineFault.TheVariants.{Message, Memory}
 use Rattle.ts_script.specs.Pieces.{pieces_behind}
 use Rattle.ts_script.specs.Words.{words_of, IsName, IsNumber, IsHex, IsDn}
 use Rattle.ts_script.specs.Parts.{part_in}
@@ -22,8 +24,10 @@ extension_words c = pieces_behind 32 (option_map (λ rest. rest.now) c.others)
 -- the words of a `cert` line, in their places
 unfoldable pub cert_line : CertWords → List (List ℕ)
 cert_line c =
-    codes "cert" ∷ c.name.now ∷ codes "serial" ∷ c.serial.now ∷ codes "issuer" ∷ c.issuer.now ∷ codes "subject" ∷ c.subject.now
-    ∷ codes "from" ∷ c.from.now ∷ codes "to" ∷ c.to.now ∷ codes "key" ∷ c.key.now ∷ codes "signer" ∷ c.signer.now
+    codes "cert" ∷ c.name.now ∷ codes "serial" ∷ c.serial.now ∷ codes "issuer" ∷ c.issuer.now
+    ∷ codes "subject" ∷ c.subject.now
+    ∷ codes "from" ∷ c.from.now ∷ codes "to" ∷ c.to.now ∷ codes "key" ∷ c.key.now ∷ codes "signer"
+    ∷ c.signer.now
     ∷ extension_words c
 
 -- the words are those of the description
@@ -43,13 +47,15 @@ IsMade c octets =
     (text : CertText) × IsSaid c text × (before : List ℕ) × (after : List ℕ)
     × IsTimeOf before text.from × IsTimeOf after text.to × (octets ≡ made before after text)
 
--- the words of a `cert` line say a certificate that is not too long, whose number of octets is printed, and which is known
--- by its name from then on; before, nothing was
+-- the words of a `cert` line say a certificate that is not too long, whose number of octets is
+-- printed, and which is known by its name from then on; before, nothing was
 abbrev pub IsKept : List Entry → CertWords → List ℕ → List Entry → Type 0
 IsKept known c text after =
-    (octets : List ℕ) × IsMade c octets × (length octets ≤ 65536) × (is_ok (certificate_of octets) ≡ true) × (named known c.name.now ≡ None)
+    (octets : List ℕ) × IsMade c octets × (length octets ≤ 65536)
+    × (is_ok (certificate_of octets) ≡ true) × (named known c.name.now ≡ None)
     × (after ≡ known ++ (c.name.now, certificate octets) ∷ [])
-    × (text ≡ codes "cert " ++ (c.name.now ++ (codes " " ++ (decimal (length octets) ++ codes "\n"))))
+    × (text ≡ codes "cert " ++ (c.name.now
+    ++ (codes " " ++ (decimal (length octets) ++ codes "\n"))))
 
 -- the words are in their places, and the name is one
 abbrev pub IsCertLine : List ℕ → CertWords → Type 0
@@ -63,17 +69,21 @@ IsCertSaid known line text after = (c : CertWords) × IsCertLine line c × IsKep
 abbrev pub IsUnreadable : List ℕ → Type 0
 IsUnreadable octets = (length octets ≤ 65536) × (is_ok (certificate_of octets) ≡ false)
 
--- why the words of a `cert` line are refused: they describe nothing, or what they describe is no certificate; they describe
--- one, but the name is taken; it is not, but the certificate would be too long
+-- why the words of a `cert` line are refused: they describe nothing, or what they describe is no
+-- certificate; they describe one, but the name is taken; it is not, but the certificate would be
+-- too long
 abbrev pub RefusesWords : List Entry → CertWords → LineFault → Type 0
 RefusesWords known c Form = (octets : List ℕ) → IsMade c octets → IsUnreadable octets
-RefusesWords known c Name = (octets : List ℕ) × IsMade c octets × ¬ (IsUnreadable octets) × (named known c.name.now ≢ None)
-RefusesWords known c Limit = (octets : List ℕ) × IsMade c octets × (named known c.name.now ≡ None) × (65536 < length octets)
+RefusesWords known c Name = (octets : List ℕ) × IsMade c octets × ¬ (IsUnreadable octets)
+    × (named known c.name.now ≢ None)
+RefusesWords known c Limit = (octets : List ℕ) × IsMade c octets × (named known c.name.now ≡ None)
+    × (65536 < length octets)
 RefusesWords known c Memory = Unit {0}
 RefusesWords known c Message = ⊥
 RefusesWords known c Unknown = ⊥
 
--- why a `cert` line is: it has no words in their places that describe a certificate; it has, but they are refused
+-- why a `cert` line is: it has no words in their places that describe a certificate; it has, but
+-- they are refused
 abbrev pub RefusesCert : List Entry → List ℕ → LineFault → Type 0
 RefusesCert known line Form = (c : CertWords) → IsCertLine line c → RefusesWords known c Form
 RefusesCert known line Name = (c : CertWords) × IsCertLine line c × RefusesWords known c Name

@@ -1,5 +1,7 @@
--- What a `crl` line says: the list of revoked certificates that it makes known, or why it is refused.
-use Rattle.std.specs.Prelude.{◌≡◌, ◌≢◌, ℕ, ◌<◌, ◌≤◌, List, [], ◌∷◌, ◌++◌, length, None, Err, option_map, codes}
+-- What a `crl` line says: the list of revoked certificates that it makes known, or why it is
+-- refused.
+use Rattle.std.specs.Prelude.{◌≡◌, ◌≢◌, ℕ, ◌<◌, ◌≤◌, List, [], ◌∷◌, ◌++◌, length, None, Err}
+use Rattle.std.specs.Prelude.{option_map, codes}
 use Rattle.std.specs.Fmt.{decimal}
 use Rattle.ts_shape.specs.declared.fault.CertFault.{CertFault}
 use Rattle.ts_time.specs.Text.{IsGeneral}
@@ -11,7 +13,8 @@ use Rattle.ts_make.specs.CrlMade.{made_crl}
 use Rattle.ts_make.specs.CrlMaking.{IsTaken}
 use Rattle.ts_script.specs.declared.crl_line.CrlWords.{CrlWords}
 use Rattle.ts_script.specs.declared.script.LineFault.{LineFault}
-use Rattle.ts_script.specs.declared.script.LineFault.TheVariants.{Unknown, Form, Name, Limit, Message, Memory}
+use Rattle.ts_script.specs.declared.script.LineFault.TheVariants.{Unknown, Form, Name, Limit}
+use Rattle.ts_script.specs.declared.script.LineFault.TheVariants.{Message, Memory}
 use Rattle.ts_script.specs.Pieces.{pieces_behind}
 use Rattle.ts_script.specs.Words.{words_of, IsName, IsHex, IsDn}
 use Rattle.ts_script.specs.CrlLineWords.{AreFields, fields_of}
@@ -24,7 +27,8 @@ crl_words c = pieces_behind 32 (option_map (λ rest. rest.now) c.others)
 -- the words of a `crl` line, in their places
 unfoldable pub crl_line : CrlWords → List (List ℕ)
 crl_line c =
-    codes "crl" ∷ c.name.now ∷ codes "issuer" ∷ c.issuer.now ∷ codes "this" ∷ c.this_update.now ∷ codes "next" ∷ c.next_update.now
+    codes "crl" ∷ c.name.now ∷ codes "issuer" ∷ c.issuer.now ∷ codes "this" ∷ c.this_update.now
+    ∷ codes "next" ∷ c.next_update.now
     ∷ codes "signer" ∷ c.signer.now ∷ crl_words c
 
 -- the words are those of the description
@@ -39,15 +43,18 @@ pub record IsListSaid (c : CrlWords) (text : CrlText) : Type 0 where
 abbrev pub IsCrlMade : CrlWords → List ℕ → Type 0
 IsCrlMade c octets =
     (text : CrlText) × IsListSaid c text × (this : List ℕ) × (next : List ℕ)
-    × IsTimeOf this text.this_update × IsTimeOf next text.next_update × (octets ≡ made_crl this next text)
+    × IsTimeOf this text.this_update × IsTimeOf next text.next_update
+    × (octets ≡ made_crl this next text)
 
--- the words of a `crl` line say a list that is not too long, whose number of octets is printed, and which is known by its
--- name from then on; before, nothing was
+-- the words of a `crl` line say a list that is not too long, whose number of octets is printed, and
+-- which is known by its name from then on; before, nothing was
 abbrev pub IsCrlKept : List Entry → CrlWords → List ℕ → List Entry → Type 0
 IsCrlKept known c text after =
-    (octets : List ℕ) × IsCrlMade c octets × (length octets ≤ 4194304) × IsTaken (crl_of octets) × (named known c.name.now ≡ None)
+    (octets : List ℕ) × IsCrlMade c octets × (length octets ≤ 4194304) × IsTaken (crl_of octets)
+    × (named known c.name.now ≡ None)
     × (after ≡ known ++ (c.name.now, revocation_list octets) ∷ [])
-    × (text ≡ codes "crl " ++ (c.name.now ++ (codes " " ++ (decimal (length octets) ++ codes "\n"))))
+    × (text ≡ codes "crl " ++ (c.name.now
+    ++ (codes " " ++ (decimal (length octets) ++ codes "\n"))))
 
 -- the words are in their places, and the name is one
 abbrev pub IsCrlLine : List ℕ → CrlWords → Type 0
@@ -59,19 +66,23 @@ IsCrlSaid known line text after = (c : CrlWords) × IsCrlLine line c × IsCrlKep
 
 -- octets that are not too long, and break a rule of lists that has a place
 abbrev pub IsNoCrl : List ℕ → Type 0
-IsNoCrl octets = (length octets ≤ 4194304) × (fault : CertFault) × (crl_of octets ≡ Err (broken fault))
+IsNoCrl octets = (length octets ≤ 4194304) × (fault : CertFault)
+    × (crl_of octets ≡ Err (broken fault))
 
--- why the words of a `crl` line are refused: they describe nothing, or what they describe is no list; they describe one, but
--- the name is taken; it is not, but the list would be too long
+-- why the words of a `crl` line are refused: they describe nothing, or what they describe is no
+-- list; they describe one, but the name is taken; it is not, but the list would be too long
 abbrev pub RefusesCrlWords : List Entry → CrlWords → LineFault → Type 0
 RefusesCrlWords known c Form = (octets : List ℕ) → IsCrlMade c octets → IsNoCrl octets
-RefusesCrlWords known c Name = (octets : List ℕ) × IsCrlMade c octets × ¬ (IsNoCrl octets) × (named known c.name.now ≢ None)
-RefusesCrlWords known c Limit = (octets : List ℕ) × IsCrlMade c octets × (named known c.name.now ≡ None) × (4194304 < length octets)
+RefusesCrlWords known c Name = (octets : List ℕ) × IsCrlMade c octets × ¬ (IsNoCrl octets)
+    × (named known c.name.now ≢ None)
+RefusesCrlWords known c Limit = (octets : List ℕ) × IsCrlMade c octets
+    × (named known c.name.now ≡ None) × (4194304 < length octets)
 RefusesCrlWords known c Memory = Unit {0}
 RefusesCrlWords known c Message = ⊥
 RefusesCrlWords known c Unknown = ⊥
 
--- why a `crl` line is: it has no words in their places that describe a list; it has, but they are refused
+-- why a `crl` line is: it has no words in their places that describe a list; it has, but they are
+-- refused
 abbrev pub RefusesCrl : List Entry → List ℕ → LineFault → Type 0
 RefusesCrl known line Form = (c : CrlWords) → IsCrlLine line c → RefusesCrlWords known c Form
 RefusesCrl known line Name = (c : CrlWords) × IsCrlLine line c × RefusesCrlWords known c Name

@@ -12,7 +12,8 @@ use Rattle.ts_script.specs.Pieces.{pieces_of}
 use Rattle.ts_script.specs.Words.{IsNumber}
 use Rattle.ts_script.specs.ExtensionWords.{IsText, IsDotted, IsNumbers}
 
--- what one word says: an entry, a number, a base number, reasons, a URI, or the object identifier of a critical extension
+-- what one word says: an entry, a number, a base number, reasons, a URI, or the object identifier
+-- of a critical extension
 pub data CrlPart : Type 0 where
   revoked : EntryText → CrlPart
   numbered : ℕ → CrlPart
@@ -43,7 +44,8 @@ pub record IsEntry (value : List ℕ) (entry : EntryText) : Type 0 where
   pub reason : IsReason right entry.reason
 
 -- a value is of a form, and what it says is this part
-abbrev pub SaysPart : {T : Type 0} → (List ℕ → T → Type 0) → (T → CrlPart) → List ℕ → CrlPart → Type 0
+abbrev pub SaysPart : {T : Type 0} → (List ℕ → T → Type 0) → (T → CrlPart) → List ℕ → CrlPart
+    → Type 0
 SaysPart {T} Is part value said = (x : T) × Is value x × (said ≡ part x)
 
 -- what follows a keyword says this part
@@ -65,7 +67,8 @@ pub record IsCrlWord (word : List ℕ) (part : CrlPart) : Type 0 where
 -- words say these parts, one each
 abbrev pub AreCrlWords : List (List ℕ) → List CrlPart → Type 0
 AreCrlWords [] parts = parts ≡ []
-AreCrlWords (word ∷ words) parts = (first : CrlPart) × (rest : List CrlPart) × IsCrlWord word first × AreCrlWords words rest × (parts ≡ first ∷ rest)
+AreCrlWords (word ∷ words) parts = (first : CrlPart) × (rest : List CrlPart) × IsCrlWord word first
+    × AreCrlWords words rest × (parts ≡ first ∷ rest)
 
 -- what a part says of a field
 abbrev pub entry_said : CrlPart → List EntryText
@@ -112,7 +115,8 @@ fields_of text = record {
   critical = map (λ oid. oid.content.now) text.critical.now;
 }
 
--- what the parts say gathers in the fields, in their order; at most one of them is a number, and one a base number
+-- what the parts say gathers in the fields, in their order; at most one of them is a number, and
+-- one a base number
 pub record Gather (parts : List CrlPart) (fields : Fields) : Type 0 where
   pub entries : fields.entries ≡ flat_map entry_said parts
   pub number : list_of fields.number ≡ flat_map number_said parts

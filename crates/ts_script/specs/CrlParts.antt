@@ -3,7 +3,8 @@ use Rattle.std.specs.Prelude.{List, map}
 use Rattle.ts_script.specs.declared.crl_words.CrlWord.{CrlWord}
 use Rattle.ts_script.specs.declared.crl_words.CrlWord.TheVariants as word
 use Rattle.ts_script.specs.declared.crl_fields.CrlFields.{CrlFields}
-use Rattle.ts_script.specs.CrlLineWords.{CrlPart, revoked, numbered, based, some_reasons, at_uri, critical_unknown, Fields}
+use Rattle.ts_script.specs.CrlLineWords.{CrlPart, revoked, numbered, based, some_reasons, at_uri}
+use Rattle.ts_script.specs.CrlLineWords.{critical_unknown, Fields}
 
 abbrev pub crl_part : CrlWord → CrlPart
 crl_part (word.Entry entry) = revoked entry

@@ -1,5 +1,6 @@
 -- The words after the signer of a `cert` line: what they say of the certificate's extensions.
-use Rattle.std.specs.Prelude.{◌≡◌, ℕ, ◌<◌, ◌≤◌, ◌^◌, true, if◌then◌else◌, List, [], ◌∷◌, ◌++◌, map, Option, Some, None, codes}
+use Rattle.std.specs.Prelude.{◌≡◌, ℕ, ◌<◌, ◌≤◌, ◌^◌, true, if◌then◌else◌, List, [], ◌∷◌, ◌++◌, map}
+use Rattle.std.specs.Prelude.{Option, Some, None, codes}
 use Rattle.std.specs.List.{AllByRecursion, count_by}
 use Rattle.std.specs.Str.{IsUtf8, bytes_eq}
 use Rattle.std.specs.Fmt.{decimal}
@@ -9,10 +10,19 @@ use Rattle.ts_der.specs.Dotted.{dotted}
 use Rattle.ts_script.specs.declared.keyword.NameKind.{NameKind}
 use Rattle.ts_script.specs.declared.keyword.NameKind.TheVariants.{Dns, Ip, Mail}
 use Rattle.ts_script.specs.declared.keyword.Keyword.{Keyword}
-use Rattle.ts_script.specs.declared.keyword.Keyword.TheVariants.{KeyUsage, SubjectAltName, BasicConstraints, PermittedSubtree, ExcludedSubtree, DistributionPoint, Policy, PolicyMapping, RequireExplicitPolicy, InhibitPolicyMapping, KeyPurpose, InhibitAnyPolicy, Critical}
+use Rattle.ts_script.specs.declared.keyword.Keyword.TheVariants.{KeyUsage, SubjectAltName}
+use Rattle.ts_script.specs.declared.keyword.Keyword.TheVariants.{BasicConstraints, PermittedSubtree}
+use Rattle.ts_script.specs.declared.keyword.Keyword.TheVariants.{ExcludedSubtree, DistributionPoint}
+use Rattle.ts_script.specs.declared.keyword.Keyword.TheVariants.{Policy, PolicyMapping}
+use Rattle.ts_script.specs.declared.keyword.Keyword.TheVariants.{RequireExplicitPolicy}
+use Rattle.ts_script.specs.declared.keyword.Keyword.TheVariants.{InhibitPolicyMapping, KeyPurpose}
+use Rattle.ts_script.specs.declared.keyword.Keyword.TheVariants.{InhibitAnyPolicy, Critical}
 use Rattle.ts_script.specs.Pieces.{pieces_of}
 use Rattle.ts_script.specs.Words.{IsNumber, IsHex, first_of}
-use Rattle.ts_script.specs.Parts.{Part, PartName, dns_name, ip_address, mail_box, usage_bit, alt_name, authority, permitted, excluded, crl_point, policy, mapped_policy, explicit_policy, no_mapping, purpose, no_any_policy, critical_unknown}
+use Rattle.ts_script.specs.Parts.{Part, PartName, dns_name, ip_address, mail_box, usage_bit}
+use Rattle.ts_script.specs.Parts.{alt_name, authority, permitted, excluded, crl_point, policy}
+use Rattle.ts_script.specs.Parts.{mapped_policy, explicit_policy, no_mapping, purpose}
+use Rattle.ts_script.specs.Parts.{no_any_policy, critical_unknown}
 
 -- how a form of name is called
 abbrev pub kind_text : NameKind → List ℕ
@@ -39,7 +49,8 @@ keyword_text Critical = codes "critical"
 -- the first of some keywords that is written so (in a private clause)
 abbrev pub keyword_named : List Keyword → List ℕ → Option Keyword
 keyword_named [] text = None
-keyword_named (k ∷ ks) text = if bytes_eq (keyword_text k) text then Some k else keyword_named ks text
+keyword_named (k ∷ ks) text = if bytes_eq (keyword_text k) text then Some k
+    else keyword_named ks text
 
 -- text in UTF-8, also none at all
 pub record IsText (value : List ℕ) (text : List ℕ) : Type 0 where
@@ -77,15 +88,18 @@ Says {T} Is part value parts = (x : T) × Is value x × (parts ≡ part x ∷ []
 
 -- what follows `=` after a keyword says these parts
 abbrev pub SaysValue : Keyword → List ℕ → List Part → Type 0
-SaysValue KeyUsage value parts = (numbers : List ℕ) × IsNumbers value numbers × (parts ≡ map usage_bit numbers)
+SaysValue KeyUsage value parts = (numbers : List ℕ) × IsNumbers value numbers
+    × (parts ≡ map usage_bit numbers)
 SaysValue (SubjectAltName kind) value parts = Says (IsNameValue kind) alt_name value parts
-SaysValue BasicConstraints value parts = Says IsNumber (λ length. authority (Some length)) value parts
+SaysValue BasicConstraints value parts =
+    Says IsNumber (λ length. authority (Some length)) value parts
 SaysValue (PermittedSubtree kind) value parts = Says (IsNameValue kind) permitted value parts
 SaysValue (ExcludedSubtree kind) value parts = Says (IsNameValue kind) excluded value parts
 SaysValue DistributionPoint value parts = Says IsText crl_point value parts
 SaysValue Policy value parts = Says IsDotted policy value parts
 SaysValue PolicyMapping value parts =
-    (issuer : List ℕ) × (subject : List ℕ) × IsMapping value issuer subject × (parts ≡ mapped_policy issuer subject ∷ [])
+    (issuer : List ℕ) × (subject : List ℕ) × IsMapping value issuer subject
+    × (parts ≡ mapped_policy issuer subject ∷ [])
 SaysValue RequireExplicitPolicy value parts = Says IsNumber explicit_policy value parts
 SaysValue InhibitPolicyMapping value parts = Says IsNumber no_mapping value parts
 SaysValue KeyPurpose value parts = Says IsDotted purpose value parts
@@ -113,7 +127,8 @@ pub record IsWord (word : List ℕ) (parts : List Part) : Type 0 where
 abbrev pub AreWords : List (List ℕ) → List Part → Type 0
 AreWords [] parts = parts ≡ []
 AreWords (word ∷ words) parts =
-    (first : List Part) × (rest : List Part) × IsWord word first × AreWords words rest × (parts ≡ first ++ rest)
+    (first : List Part) × (rest : List Part) × IsWord word first × AreWords words rest
+    × (parts ≡ first ++ rest)
 
 -- what precedes the first `=` of a word
 abbrev pub keyword_in : List ℕ → List ℕ
@@ -121,13 +136,15 @@ keyword_in word = first_of (pieces_of 61 word)
 
 -- at most one of the words has this keyword
 abbrev pub StandsOnce : List (List ℕ) → Keyword → Type 0
-StandsOnce words keyword = count_by (λ word. bytes_eq (keyword_in word) (keyword_text keyword)) words ≤ 1
+StandsOnce words keyword = count_by
+    (λ word. bytes_eq (keyword_in word) (keyword_text keyword)) words ≤ 1
 
 -- the keywords of an extension that has one such value
 abbrev pub once : List Keyword
 once = BasicConstraints ∷ RequireExplicitPolicy ∷ InhibitPolicyMapping ∷ InhibitAnyPolicy ∷ []
 
--- the words after the signer say these parts: those of which an extension has one value occur once at most, all others gather
+-- the words after the signer say these parts: those of which an extension has one value occur once
+-- at most, all others gather
 pub record AreParts (words : List (List ℕ)) (parts : List Part) : Type 0 where
   pub said : AreWords words parts
   pub alone : AllByRecursion (StandsOnce words) once

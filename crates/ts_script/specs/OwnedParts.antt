@@ -4,7 +4,10 @@ use Rattle.ts_script.specs.declared.extension_words.NameWord.{NameWord}
 use Rattle.ts_script.specs.declared.extension_words.NameWord.TheVariants as name
 use Rattle.ts_script.specs.declared.extension_words.ExtensionWord.{ExtensionWord}
 use Rattle.ts_script.specs.declared.extension_words.ExtensionWord.TheVariants as word
-use Rattle.ts_script.specs.Parts.{Part, PartName, dns_name, ip_address, mail_box, usage_bit, alt_name, authority, permitted, excluded, crl_point, policy, mapped_policy, explicit_policy, no_mapping, purpose, no_any_policy, critical_unknown}
+use Rattle.ts_script.specs.Parts.{Part, PartName, dns_name, ip_address, mail_box, usage_bit}
+use Rattle.ts_script.specs.Parts.{alt_name, authority, permitted, excluded, crl_point, policy}
+use Rattle.ts_script.specs.Parts.{mapped_policy, explicit_policy, no_mapping, purpose}
+use Rattle.ts_script.specs.Parts.{no_any_policy, critical_unknown}
 
 abbrev pub name_of : NameWord → PartName
 name_of (name.Dns text) = dns_name text.now

@@ -1,4 +1,5 @@
--- The words of a line: what a name of a script, a number, octets and a distinguished name are written as.
+-- The words of a line: what a name of a script, a number, octets and a distinguished name are
+-- written as.
 use Rattle.std.specs.Prelude.{◌≡◌, ◌≢◌, ℕ, ◌<◌, ◌^◌, true, List, [], ◌∷◌, ◌++◌, map, codes}
 use Rattle.std.specs.List.{list_all}
 use Rattle.std.specs.Char.{is_ascii_alphanumeric}
@@ -6,11 +7,13 @@ use Rattle.std.specs.Str.{IsUtf8}
 use Rattle.std.specs.Fmt.{decimal}
 use Rattle.hex.specs.Hex.{encode_lower, IsBytes}
 use Rattle.ts_make.specs.declared.description.AttributeType.{AttributeType}
-use Rattle.ts_make.specs.declared.description.AttributeType.TheVariants.{CommonName, OrganizationName}
+use Rattle.ts_make.specs.declared.description.AttributeType.TheVariants.{CommonName}
+use Rattle.ts_make.specs.declared.description.AttributeType.TheVariants.{OrganizationName}
 use Rattle.ts_make.specs.declared.description.RdnText.{RdnText}
 use Rattle.ts_make.specs.Sayable.{AreTexts}
 use Rattle.ts_script.specs.declared.script.LineFault.{LineFault}
-use Rattle.ts_script.specs.declared.script.LineFault.TheVariants.{Unknown, Form, Name, Limit, Message, Memory}
+use Rattle.ts_script.specs.declared.script.LineFault.TheVariants.{Unknown, Form, Name, Limit}
+use Rattle.ts_script.specs.declared.script.LineFault.TheVariants.{Message, Memory}
 use Rattle.ts_script.specs.Pieces.{pieces_of}
 
 -- the words of a line, each between two spaces

@@ -2,11 +2,13 @@
 use Rattle.std.specs.Prelude.{ℕ, List, [], ◌∷◌, ◌++◌, Option, None, Some, codes}
 use Rattle.std.specs.Fmt.{decimal}
 use Rattle.hex.specs.declared.error.FromHexError.{FromHexError}
-use Rattle.hex.specs.declared.error.FromHexError.TheVariants.{InvalidHexCharacter, OddLength, InvalidStringLength, OutOfMemory}
+use Rattle.hex.specs.declared.error.FromHexError.TheVariants.{InvalidHexCharacter, OddLength}
+use Rattle.hex.specs.declared.error.FromHexError.TheVariants.{InvalidStringLength, OutOfMemory}
 use Rattle.ts_der.specs.declared.oid_text.OidTextError.{OidTextError}
 use Rattle.ts_der.specs.declared.oid_text.OidTextError.TheVariants as text
 use Rattle.ts_script.specs.declared.script.LineFault.{LineFault}
-use Rattle.ts_script.specs.declared.script.LineFault.TheVariants.{Unknown, Form, Name, Limit, Message, Memory}
+use Rattle.ts_script.specs.declared.script.LineFault.TheVariants.{Unknown, Form, Name, Limit}
+use Rattle.ts_script.specs.declared.script.LineFault.TheVariants.{Message, Memory}
 use Rattle.ts_script.specs.declared.script.WrongLine.{WrongLine}
 use Rattle.ts_script.specs.declared.script.TheConstants.{LINE_FEED}
 
@@ -33,7 +35,8 @@ oid_fault text.Form = Form
 
 -- what is printed of a wrong line, before the line feed
 abbrev pub wrong_line_text : WrongLine → List ℕ
-wrong_line_text wrong = codes "line " ++ (decimal wrong.number ++ (codes ": " ++ fault_word wrong.fault))
+wrong_line_text wrong = codes "line "
+    ++ (decimal wrong.number ++ (codes ": " ++ fault_word wrong.fault))
 
 -- one line of output for a wrong line, and none without one
 abbrev pub text_of : Option WrongLine → List ℕ

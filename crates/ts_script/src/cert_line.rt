@@ -1,12 +1,14 @@
 //! The `cert` line: the certificate that its words describe.
 
-ghost use Rattle.std.specs.Prelude.{◌≡◌, ◌++◌, ◌≤◌, length, IfOk, IfErr, MatchOption, OnOk, OnErr, is_ok, true, string_bytes, codes};
+ghost use Rattle.std.specs.Prelude.{◌≡◌, ◌++◌, ◌≤◌, length, IfOk, IfErr, MatchOption, OnOk, OnErr};
+ghost use Rattle.std.specs.Prelude.{is_ok, true, string_bytes, codes};
 ghost use Rattle.std.specs.Fmt.{decimal};
 ghost use Rattle.ts_cert.specs.Reading.{certificate_of};
 ghost use Rattle.ts_script.specs.declared.script.LineFault.TheVariants.{Memory};
 ghost use Rattle.ts_script.specs.Words.{IsName};
 ghost use Rattle.ts_script.specs.Known.{known_in, named};
-ghost use Rattle.ts_script.specs.CertLine.{IsCertLine, IsMade, IsKept, RefusesWords, IsCertSaid, RefusesCert};
+ghost use Rattle.ts_script.specs.CertLine.{IsCertLine, IsMade, IsKept, RefusesWords, IsCertSaid};
+ghost use Rattle.ts_script.specs.CertLine.{RefusesCert};
 
 use crate::cert_octets::CertOctets;
 use crate::extension_words::{extension_words, parts_in};
@@ -35,7 +37,8 @@ impl<'a> CertWords<'a> {
     /// Those of a line.
     #[tactic(auto, unfolding(crate::specs::CertLine::cert_line))]
     fn of(line: &'a [u8]) -> Option<CertWords<'a>>
-        ensures { MatchOption result ((c : CertWords) → ¬ (IsCertLine line.now c)) (IsCertLine line.now) }
+        ensures { MatchOption result ((c : CertWords) → ¬ (IsCertLine line.now c))
+            (IsCertLine line.now) }
     {
         let (name, rest) = word_behind(Some(line), b"cert")?;
         let (serial, rest) = word_behind(rest, b"serial")?;
@@ -61,7 +64,8 @@ impl<'a> CertWords<'a> {
         })
     }
 
-    /// The octets of the certificate that the words say, where it can be read, unless its name is taken.
+    /// The octets of the certificate that the words say, where it can be read, unless its name is
+    /// taken.
     fn make(&self, alloc: Global, known: &Symbols) -> Result<Vec<u8>, LineFault>
         ensures made { IfOk result (λ octets. IsMade self.now octets.items) }
         ensures short { IfOk result (λ octets. length octets.items ≤ 65536) }
@@ -103,7 +107,8 @@ impl<'a> CertWords<'a> {
 
 /// Answers a `cert` line, and keeps its certificate.
 pub fn answer_cert(alloc: Global, known: &mut Symbols, line: &[u8]) -> Result<String, LineFault>
-    ensures said { IfOk result (λ text. IsCertSaid (known_in known.old) line.now (string_bytes text) (known_in known.new)) }
+    ensures said { IfOk result (λ text. IsCertSaid (known_in known.old) line.now
+        (string_bytes text) (known_in known.new)) }
     ensures fault { IfErr result (RefusesCert (known_in known.old) line.now) }
     ensures unchanged { OnErr result (known_in known.new ≡ known_in known.old) }
 {
@@ -115,8 +120,10 @@ pub fn answer_cert(alloc: Global, known: &mut Symbols, line: &[u8]) -> Result<St
 
 /// Keeps the certificate that the words of a `cert` line say, and answers the line.
 fn keep(alloc: Global, known: &mut Symbols, words: &CertWords<'_>) -> Result<String, LineFault>
-    ensures said { IfOk result (λ text. IsKept (known_in known.old) words.now (string_bytes text) (known_in known.new)) }
-    ensures fault { IfErr result (λ fault. IsName words.now.name.now → RefusesWords (known_in known.old) words.now fault) }
+    ensures said { IfOk result (λ text. IsKept (known_in known.old) words.now (string_bytes text)
+        (known_in known.new)) }
+    ensures fault { IfErr result (λ fault. IsName words.now.name.now
+        → RefusesWords (known_in known.old) words.now fault) }
     ensures unchanged { OnErr result (known_in known.new ≡ known_in known.old) }
 {
     let octets = words.make(alloc, known)?;
@@ -128,7 +135,8 @@ fn keep(alloc: Global, known: &mut Symbols, words: &CertWords<'_>) -> Result<Str
 
 /// The text for a certificate of so many octets.
 fn cert_text(alloc: Global, name: &[u8], count: usize) -> Result<String, LineFault>
-    ensures said { IfOk result (λ text. string_bytes text ≡ codes "cert " ++ (name.now ++ (codes " " ++ (decimal count ++ codes "\n")))) }
+    ensures said { IfOk result (λ text. string_bytes text
+        ≡ codes "cert " ++ (name.now ++ (codes " " ++ (decimal count ++ codes "\n")))) }
     ensures fault { IfErr result (λ fault. IsName name.now → fault ≡ Memory) }
 {
     match str::from_utf8(name) {

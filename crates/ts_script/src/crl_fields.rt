@@ -5,7 +5,8 @@ ghost use Rattle.std.specs.List.{flat_map};
 ghost use Rattle.ts_make.specs.Told.{list_of};
 ghost use Rattle.ts_script.specs.Words.{RefusesWord};
 ghost use Rattle.ts_script.specs.declared.script.LineFault.TheVariants.{Form};
-ghost use Rattle.ts_script.specs.CrlLineWords.{Fields, Gather, entry_said, number_said, base_said, reasons_said, uri_said, critical_said};
+ghost use Rattle.ts_script.specs.CrlLineWords.{Fields, Gather, entry_said, number_said, base_said};
+ghost use Rattle.ts_script.specs.CrlLineWords.{reasons_said, uri_said, critical_said};
 ghost use Rattle.ts_script.specs.CrlParts.{crl_part, crl_parts, fields_in};
 
 use crate::crl_words::CrlWord;
@@ -29,7 +30,8 @@ impl<'a> CrlFields<'a> {
     /// Those of these words.
     pub fn gather(alloc: Global, words: &'a [CrlWord<'a>]) -> Result<CrlFields<'a>, LineFault>
         ensures found { IfOk result (λ fields. Gather (crl_parts words.now) (fields_in fields)) }
-        ensures fault { IfErr result (RefusesWord ((fields : Fields) → ¬ (Gather (crl_parts words.now) fields))) }
+        ensures fault { IfErr result (RefusesWord
+            ((fields : Fields) → ¬ (Gather (crl_parts words.now) fields))) }
     {
         let number = number_in(words)?;
         let base = base_in(words)?;
@@ -46,8 +48,10 @@ impl<'a> CrlFields<'a> {
 
 /// The number that words say, of which at most one may.
 fn number_in(words: &[CrlWord<'_>]) -> Result<Option<u32>, LineFault>
-    ensures found { IfOk result (λ number. list_of number ≡ flat_map number_said (crl_parts words.now)) }
-    ensures fault { IfErr result (λ fault. (fault ≡ Form) × ((number : Option ℕ) → list_of number ≢ flat_map number_said (crl_parts words.now))) }
+    ensures found { IfOk result (λ number. list_of number
+        ≡ flat_map number_said (crl_parts words.now)) }
+    ensures fault { IfErr result (λ fault. (fault ≡ Form)
+        × ((number : Option ℕ) → list_of number ≢ flat_map number_said (crl_parts words.now))) }
 {
     let mut found = None;
     for word in words {
@@ -64,7 +68,8 @@ fn number_in(words: &[CrlWord<'_>]) -> Result<Option<u32>, LineFault>
 /// The base number that words say, of which at most one may.
 fn base_in(words: &[CrlWord<'_>]) -> Result<Option<u32>, LineFault>
     ensures found { IfOk result (λ base. list_of base ≡ flat_map base_said (crl_parts words.now)) }
-    ensures fault { IfErr result (λ fault. (fault ≡ Form) × ((base : Option ℕ) → list_of base ≢ flat_map base_said (crl_parts words.now))) }
+    ensures fault { IfErr result (λ fault. (fault ≡ Form)
+        × ((base : Option ℕ) → list_of base ≢ flat_map base_said (crl_parts words.now))) }
 {
     let mut base = None;
     for word in words {
@@ -106,7 +111,8 @@ fn reasons_in(alloc: Global, words: &[CrlWord<'_>]) -> Result<Vec<u32>, AllocErr
 
 /// The URIs that words say.
 fn uris_in<'a>(alloc: Global, words: &'a [CrlWord<'a>]) -> Result<Vec<&'a str>, AllocError>
-    ensures { IfOk result (λ uris. map (λ uri. uri.now) uris.items ≡ flat_map uri_said (crl_parts words.now)) }
+    ensures { IfOk result (λ uris. map (λ uri. uri.now) uris.items
+        ≡ flat_map uri_said (crl_parts words.now)) }
 {
     let mut uris = Vec::new(alloc);
     for word in words {
@@ -119,7 +125,8 @@ fn uris_in<'a>(alloc: Global, words: &'a [CrlWord<'a>]) -> Result<Vec<&'a str>, 
 
 /// The object identifiers of critical extensions that words say.
 fn critical_in<'a>(alloc: Global, words: &'a [CrlWord<'a>]) -> Result<Vec<OidRef<'a>>, AllocError>
-    ensures { IfOk result (λ oids. map (λ oid. oid.content.now) oids.items ≡ flat_map critical_said (crl_parts words.now)) }
+    ensures { IfOk result (λ oids. map (λ oid. oid.content.now) oids.items
+        ≡ flat_map critical_said (crl_parts words.now)) }
 {
     let mut oids = Vec::new(alloc);
     for word in words {

@@ -1,13 +1,15 @@
 //! The `crl` line: the list of revoked certificates that its words describe.
 
-ghost use Rattle.std.specs.Prelude.{◌≡◌, ◌++◌, ◌≤◌, length, IfOk, IfErr, MatchOption, OnOk, OnErr, string_bytes, codes};
+ghost use Rattle.std.specs.Prelude.{◌≡◌, ◌++◌, ◌≤◌, length, IfOk, IfErr, MatchOption, OnOk, OnErr};
+ghost use Rattle.std.specs.Prelude.{string_bytes, codes};
 ghost use Rattle.std.specs.Fmt.{decimal};
 ghost use Rattle.ts_crl.specs.Table.{crl_of};
 ghost use Rattle.ts_make.specs.CrlMaking.{IsTaken};
 ghost use Rattle.ts_script.specs.declared.script.LineFault.TheVariants.{Memory};
 ghost use Rattle.ts_script.specs.Words.{IsName};
 ghost use Rattle.ts_script.specs.Known.{known_in, named};
-ghost use Rattle.ts_script.specs.CrlLine.{IsCrlLine, IsCrlMade, IsCrlKept, RefusesCrlWords, IsCrlSaid, RefusesCrl};
+ghost use Rattle.ts_script.specs.CrlLine.{IsCrlLine, IsCrlMade, IsCrlKept, RefusesCrlWords};
+ghost use Rattle.ts_script.specs.CrlLine.{IsCrlSaid, RefusesCrl};
 
 use crate::crl_fields::CrlFields;
 use crate::crl_words::crl_words;
@@ -33,7 +35,8 @@ impl<'a> CrlWords<'a> {
     /// Those of a line.
     #[tactic(auto, unfolding(crate::specs::CrlLine::crl_line))]
     fn of(line: &'a [u8]) -> Option<CrlWords<'a>>
-        ensures { MatchOption result ((c : CrlWords) → ¬ (IsCrlLine line.now c)) (IsCrlLine line.now) }
+        ensures { MatchOption result ((c : CrlWords) → ¬ (IsCrlLine line.now c))
+            (IsCrlLine line.now) }
     {
         let (name, rest) = word_behind(Some(line), b"crl")?;
         let (issuer, rest) = word_behind(rest, b"issuer")?;
@@ -94,7 +97,8 @@ impl<'a> CrlWords<'a> {
 
 /// Answers a `crl` line, and keeps its list.
 pub fn answer_crl(alloc: Global, known: &mut Symbols, line: &[u8]) -> Result<String, LineFault>
-    ensures said { IfOk result (λ text. IsCrlSaid (known_in known.old) line.now (string_bytes text) (known_in known.new)) }
+    ensures said { IfOk result (λ text. IsCrlSaid (known_in known.old) line.now (string_bytes text)
+        (known_in known.new)) }
     ensures fault { IfErr result (RefusesCrl (known_in known.old) line.now) }
     ensures unchanged { OnErr result (known_in known.new ≡ known_in known.old) }
 {
@@ -106,8 +110,10 @@ pub fn answer_crl(alloc: Global, known: &mut Symbols, line: &[u8]) -> Result<Str
 
 /// Keeps the list that the words of a `crl` line say, and answers the line.
 fn keep(alloc: Global, known: &mut Symbols, words: &CrlWords<'_>) -> Result<String, LineFault>
-    ensures said { IfOk result (λ text. IsCrlKept (known_in known.old) words.now (string_bytes text) (known_in known.new)) }
-    ensures fault { IfErr result (λ fault. IsName words.now.name.now → RefusesCrlWords (known_in known.old) words.now fault) }
+    ensures said { IfOk result (λ text. IsCrlKept (known_in known.old) words.now
+        (string_bytes text) (known_in known.new)) }
+    ensures fault { IfErr result (λ fault. IsName words.now.name.now
+        → RefusesCrlWords (known_in known.old) words.now fault) }
     ensures unchanged { OnErr result (known_in known.new ≡ known_in known.old) }
 {
     let octets = words.make(alloc, known)?;
@@ -119,7 +125,8 @@ fn keep(alloc: Global, known: &mut Symbols, words: &CrlWords<'_>) -> Result<Stri
 
 /// The text for a list of so many octets.
 fn crl_text(alloc: Global, name: &[u8], count: usize) -> Result<String, LineFault>
-    ensures said { IfOk result (λ text. string_bytes text ≡ codes "crl " ++ (name.now ++ (codes " " ++ (decimal count ++ codes "\n")))) }
+    ensures said { IfOk result (λ text. string_bytes text
+        ≡ codes "crl " ++ (name.now ++ (codes " " ++ (decimal count ++ codes "\n")))) }
     ensures fault { IfErr result (λ fault. IsName name.now → fault ≡ Memory) }
 {
     match str::from_utf8(name) {

@@ -7,7 +7,8 @@ ghost use Rattle.ts_script.specs.declared.crl_words.CrlKeyword.{CrlKeyword};
 ghost use Rattle.ts_script.specs.declared.script.LineFault.TheVariants.{Form};
 ghost use Rattle.ts_script.specs.Pieces.{pieces_behind};
 ghost use Rattle.ts_script.specs.Words.{RefusesWord};
-ghost use Rattle.ts_script.specs.CrlLineWords.{CrlPart, crl_keyword_text, IsReason, IsEntry, SaysCrl, IsCrlWord, AreCrlWords};
+ghost use Rattle.ts_script.specs.CrlLineWords.{CrlPart, crl_keyword_text, IsReason, IsEntry};
+ghost use Rattle.ts_script.specs.CrlLineWords.{SaysCrl, IsCrlWord, AreCrlWords};
 ghost use Rattle.ts_script.specs.CrlParts.{crl_part, crl_parts};
 
 use crate::script::LineFault;
@@ -81,7 +82,8 @@ impl<'a> CrlWord<'a> {
         value: &'a [u8],
     ) -> Result<CrlWord<'a>, LineFault>
         ensures found { IfOk result (λ word. SaysCrl keyword value.now (crl_part word)) }
-        ensures fault { IfErr result (RefusesWord ((part : CrlPart) → ¬ (SaysCrl keyword value.now part))) }
+        ensures fault { IfErr result (RefusesWord
+            ((part : CrlPart) → ¬ (SaysCrl keyword value.now part))) }
     {
         match keyword {
             CrlKeyword::Entry => Ok(CrlWord::Entry(entry_in(value)?)),
@@ -105,7 +107,8 @@ impl<'a> CrlWord<'a> {
 
 /// The reason whose number a value writes.
 fn reason_of(value: &[u8]) -> Option<ReasonCode>
-    ensures { MatchOption result ((reason : ReasonCode) → ¬ (IsReason value.now reason)) (IsReason value.now) }
+    ensures { MatchOption result ((reason : ReasonCode) → ¬ (IsReason value.now reason))
+        (IsReason value.now) }
 {
     match u8::try_from(number_of(value)?) {
         Ok(number) => ReasonCode::numbered(number),
@@ -116,7 +119,8 @@ fn reason_of(value: &[u8]) -> Option<ReasonCode>
 
 /// The entry that a value writes, as `SERIAL:REASON`.
 fn entry_of(value: &[u8]) -> Option<EntryText>
-    ensures { MatchOption result ((entry : EntryText) → ¬ (IsEntry value.now entry)) (IsEntry value.now) }
+    ensures { MatchOption result ((entry : EntryText) → ¬ (IsEntry value.now entry))
+        (IsEntry value.now) }
 {
     let (serial, rest) = first_piece(value, COLON);
     let (reason, rest) = first_piece(rest?, COLON);
@@ -139,8 +143,11 @@ fn entry_in(value: &[u8]) -> Result<EntryText, LineFault>
 
 /// What the words after the signer of a `crl` line say, one after another.
 pub fn crl_words(alloc: Global, words: Option<&[u8]>) -> Result<Vec<CrlWord<'_>>, LineFault>
-    ensures found { IfOk result (λ said. AreCrlWords (pieces_behind 32 (option_map (λ rest. rest.now) words.entry)) (crl_parts said.items)) }
-    ensures fault { IfErr result (RefusesWord ((parts : List CrlPart) → ¬ (AreCrlWords (pieces_behind 32 (option_map (λ rest. rest.now) words.entry)) parts))) }
+    ensures found { IfOk result (λ said. AreCrlWords
+        (pieces_behind 32 (option_map (λ rest. rest.now) words.entry)) (crl_parts said.items)) }
+    ensures fault { IfErr result (RefusesWord
+        ((parts : List CrlPart) → ¬ (AreCrlWords
+        (pieces_behind 32 (option_map (λ rest. rest.now) words.entry)) parts))) }
 {
     let mut said = Vec::new(alloc);
     let mut rest = words;

@@ -1,13 +1,15 @@
 //! The words that say extensions, decoded.
 
-ghost use Rattle.std.specs.Prelude.{◌≡◌, ◌++◌, List, None, map, option_map, IfOk, IfErr, IsTrue, ◌↔◌, OnOk};
+ghost use Rattle.std.specs.Prelude.{◌≡◌, ◌++◌, List, None, map, option_map, IfOk, IfErr, IsTrue};
+ghost use Rattle.std.specs.Prelude.{◌↔◌, OnOk};
 ghost use Rattle.std.specs.List.{AllByRecursion, flat_map};
 ghost use Rattle.ts_script.specs.declared.keyword.Keyword.{Keyword};
 ghost use Rattle.ts_script.specs.declared.script.LineFault.TheVariants.{Form};
 ghost use Rattle.ts_script.specs.Pieces.{pieces_behind};
 ghost use Rattle.ts_script.specs.Words.{RefusesWord};
 ghost use Rattle.ts_script.specs.Parts.{Part, PartName, name_in, part_in, usage_bit};
-ghost use Rattle.ts_script.specs.ExtensionWords.{IsNameValue, SaysValue, SaysWith, IsWord, AreWords, StandsOnce, AreParts, once};
+ghost use Rattle.ts_script.specs.ExtensionWords.{IsNameValue, SaysValue, SaysWith, IsWord};
+ghost use Rattle.ts_script.specs.ExtensionWords.{AreWords, StandsOnce, AreParts, once};
 ghost use Rattle.ts_script.specs.OwnedParts.{name_of, parts_of};
 
 use crate::keyword::{Keyword, NameKind};
@@ -39,7 +41,8 @@ impl<'a> NameWord<'a> {
     /// The name that a value writes.
     fn read(alloc: Global, kind: NameKind, value: &'a [u8]) -> Result<NameWord<'a>, LineFault>
         ensures found { IfOk result (λ name. IsNameValue kind value.now (name_of name)) }
-        ensures fault { IfErr result (RefusesWord ((name : PartName) → ¬ (IsNameValue kind value.now name))) }
+        ensures fault { IfErr result (RefusesWord
+            ((name : PartName) → ¬ (IsNameValue kind value.now name))) }
     {
         match kind {
             NameKind::Dns => Ok(NameWord::Dns(text_in(value)?)),
@@ -89,7 +92,8 @@ impl<'a> ExtensionWord<'a> {
         value: &'a [u8],
     ) -> Result<ExtensionWord<'a>, LineFault>
         ensures found { IfOk result (λ word. SaysValue keyword value.now (parts_of word)) }
-        ensures fault { IfErr result (RefusesWord ((parts : List Part) → ¬ (SaysValue keyword value.now parts))) }
+        ensures fault { IfErr result (RefusesWord
+            ((parts : List Part) → ¬ (SaysValue keyword value.now parts))) }
     {
         use ExtensionWord as Word;
         match keyword {
@@ -118,7 +122,8 @@ impl<'a> ExtensionWord<'a> {
     /// What a word says.
     fn read(alloc: Global, word: &'a [u8]) -> Result<ExtensionWord<'a>, LineFault>
         ensures found { IfOk result (λ said. IsWord word.now (parts_of said)) }
-        ensures fault { IfErr result (RefusesWord ((parts : List Part) → ¬ (IsWord word.now parts))) }
+        ensures fault { IfErr result (RefusesWord
+            ((parts : List Part) → ¬ (IsWord word.now parts))) }
     {
         let (name, value) = first_piece(word, EQUALS);
         let keyword = Keyword::of(name).ok_or(LineFault::Form)?;
@@ -131,7 +136,8 @@ impl<'a> ExtensionWord<'a> {
     /// What a keyword says without a value.
     fn read_alone(keyword: Keyword) -> Result<ExtensionWord<'a>, LineFault>
         ensures found { IfOk result (λ word. SaysWith keyword None (parts_of word)) }
-        ensures fault { IfErr result (RefusesWord ((parts : List Part) → ¬ (SaysWith keyword None parts))) }
+        ensures fault { IfErr result (RefusesWord
+            ((parts : List Part) → ¬ (SaysWith keyword None parts))) }
         ensures form { IfErr result (λ fault. fault ≡ Form) }
     {
         match keyword {
@@ -142,7 +148,8 @@ impl<'a> ExtensionWord<'a> {
 
     /// Appends the parts that the word says.
     fn append_to(&'a self, parts: &mut Vec<ExtensionText<'a>>) -> Result<(), AllocError>
-        ensures { OnOk result (map part_in parts.new.items ≡ map part_in parts.old.items ++ parts_of self.now) }
+        ensures { OnOk result (map part_in parts.new.items
+            ≡ map part_in parts.old.items ++ parts_of self.now) }
     {
         use ExtensionText as Text;
         use ExtensionWord as Word;
@@ -171,7 +178,8 @@ impl<'a> ExtensionWord<'a> {
 
 /// Appends bits of keyUsage.
 fn append_bits<'a>(bits: &[u32], parts: &mut Vec<ExtensionText<'a>>) -> Result<(), AllocError>
-    ensures { OnOk result (map part_in parts.new.items ≡ map part_in parts.old.items ++ map usage_bit bits.now) }
+    ensures { OnOk result (map part_in parts.new.items
+        ≡ map part_in parts.old.items ++ map usage_bit bits.now) }
 {
     for bit in bits {
         parts.push(ExtensionText::KeyUsage(*bit))?;
@@ -182,7 +190,8 @@ fn append_bits<'a>(bits: &[u32], parts: &mut Vec<ExtensionText<'a>>) -> Result<(
 /// Two object identifiers, joined by `>`.
 fn mapping_in<'a>(alloc: Global, value: &[u8]) -> Result<ExtensionWord<'a>, LineFault>
     ensures found { IfOk result (λ word. SaysValue Keyword.PolicyMapping value.now (parts_of word)) }
-    ensures fault { IfErr result (RefusesWord ((parts : List Part) → ¬ (SaysValue Keyword.PolicyMapping value.now parts))) }
+    ensures fault { IfErr result (RefusesWord
+        ((parts : List Part) → ¬ (SaysValue Keyword.PolicyMapping value.now parts))) }
 {
     let (left, right) = first_piece(value, ARROW);
     let (right, rest) = first_piece(right.ok_or(LineFault::Form)?, ARROW);
@@ -196,7 +205,8 @@ fn mapping_in<'a>(alloc: Global, value: &[u8]) -> Result<ExtensionWord<'a>, Line
 
 /// Whether at most one of the words has this keyword.
 fn stands_once(words: Option<&[u8]>, keyword: Keyword) -> bool
-    ensures { IsTrue result ↔ StandsOnce (pieces_behind 32 (option_map (λ rest. rest.now) words.entry)) keyword }
+    ensures { IsTrue result ↔ StandsOnce
+        (pieces_behind 32 (option_map (λ rest. rest.now) words.entry)) keyword }
 {
     let mut has_stood = false;
     let mut rest = words;
@@ -216,8 +226,12 @@ fn stands_once(words: Option<&[u8]>, keyword: Keyword) -> bool
 
 /// What the words say one after another.
 fn words_in(alloc: Global, words: Option<&[u8]>) -> Result<Vec<ExtensionWord<'_>>, LineFault>
-    ensures found { IfOk result (λ said. AreWords (pieces_behind 32 (option_map (λ rest. rest.now) words.entry)) (flat_map parts_of said.items)) }
-    ensures fault { IfErr result (RefusesWord ((parts : List Part) → ¬ (AreWords (pieces_behind 32 (option_map (λ rest. rest.now) words.entry)) parts))) }
+    ensures found { IfOk result (λ said. AreWords
+        (pieces_behind 32 (option_map (λ rest. rest.now) words.entry))
+        (flat_map parts_of said.items)) }
+    ensures fault { IfErr result (RefusesWord
+        ((parts : List Part) → ¬ (AreWords
+        (pieces_behind 32 (option_map (λ rest. rest.now) words.entry)) parts))) }
 {
     let mut said = Vec::new(alloc);
     let mut rest = words;
@@ -231,7 +245,8 @@ fn words_in(alloc: Global, words: Option<&[u8]>) -> Result<Vec<ExtensionWord<'_>
 
 /// Whether at most one of the words has each keyword whose extension has one such value.
 fn stand_once(words: Option<&[u8]>) -> bool
-    ensures { IsTrue result ↔ AllByRecursion (StandsOnce (pieces_behind 32 (option_map (λ rest. rest.now) words.entry))) once }
+    ensures { IsTrue result ↔ AllByRecursion
+        (StandsOnce (pieces_behind 32 (option_map (λ rest. rest.now) words.entry))) once }
 {
     stands_once(words, Keyword::BasicConstraints)
         && stands_once(words, Keyword::RequireExplicitPolicy)
@@ -244,8 +259,12 @@ pub fn extension_words(
     alloc: Global,
     words: Option<&[u8]>,
 ) -> Result<Vec<ExtensionWord<'_>>, LineFault>
-    ensures found { IfOk result (λ said. AreParts (pieces_behind 32 (option_map (λ rest. rest.now) words.entry)) (flat_map parts_of said.items)) }
-    ensures fault { IfErr result (RefusesWord ((parts : List Part) → ¬ (AreParts (pieces_behind 32 (option_map (λ rest. rest.now) words.entry)) parts))) }
+    ensures found { IfOk result (λ said. AreParts
+        (pieces_behind 32 (option_map (λ rest. rest.now) words.entry))
+        (flat_map parts_of said.items)) }
+    ensures fault { IfErr result (RefusesWord
+        ((parts : List Part) → ¬ (AreParts
+        (pieces_behind 32 (option_map (λ rest. rest.now) words.entry)) parts))) }
 {
     if !stand_once(words) {
         return Err(LineFault::Form);

@@ -99,7 +99,8 @@ impl Keyword {
 
     /// The keyword that is written so.
     pub fn of(text: &[u8]) -> Option<Keyword>
-        ensures { MatchOption result ((keyword : Keyword) → text.now ≢ keyword_text keyword) (λ keyword. text.now ≡ keyword_text keyword) }
+        ensures { MatchOption result ((keyword : Keyword) → text.now ≢ keyword_text keyword)
+            (λ keyword. text.now ≡ keyword_text keyword) }
     {
         keyword_named(&KEYWORDS, text)
     }

@@ -6,5 +6,6 @@ ghost use Rattle.ts_script.specs.ExtensionWords.{AreParts};
 
 /// Words after the signer say one list of parts.
 pub fn one_reading()
-    ensures { (words : List (List ℕ)) (parts others : List Part) → AreParts words parts → AreParts words others → parts ≡ others }
+    ensures { (words : List (List ℕ)) (parts others : List Part) → AreParts words parts
+        → AreParts words others → parts ≡ others }
 {}

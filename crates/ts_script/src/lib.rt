@@ -1,4 +1,5 @@
-//! The words of the lab's scripts, and the lines that stand alone: those that make certificates and lists, and those that judge chains.
+//! The words of the lab's scripts, and the lines that stand alone: those that make certificates and
+//! lists, and those that judge chains.
 //!
 //! ```text
 //! let mut known = Symbols::new(alloc);

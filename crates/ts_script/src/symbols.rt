@@ -35,14 +35,16 @@ impl Symbols {
 
     /// What is known by this name.
     pub fn find(&self, name: &[u8]) -> Option<&Item>
-        ensures { option_map (λ kept. thing_in kept.now) result ≡ named (known_in self.now) name.now }
+        ensures { option_map (λ kept. thing_in kept.now) result
+            ≡ named (known_in self.now) name.now }
     {
         self.things.get(name)
     }
 
     /// The certificate of this name.
     pub fn find_cert(&self, name: &[u8]) -> Option<&CertOctets>
-        ensures { option_map (λ one. one.now.octets.items) result ≡ certificate_named (known_in self.now) name.now }
+        ensures { option_map (λ one. one.now.octets.items) result
+            ≡ certificate_named (known_in self.now) name.now }
     {
         match self.find(name)? {
             Item::Certificate(cert) => Some(cert),
@@ -79,7 +81,8 @@ impl Symbols {
     /// Memory ran out.
     pub fn keep(&mut self, name: Vec<u8>, kept: Item) -> Result<(), AllocFailed<(Vec<u8>, Item)>>
         // A name by which nothing was known is last.
-        ensures kept { named (known_in self.old) name.items ≡ None → OnOk result (known_in self.new ≡ known_in self.old ++ entry_in (name, kept) ∷ []) }
+        ensures kept { named (known_in self.old) name.items ≡ None
+            → OnOk result (known_in self.new ≡ known_in self.old ++ entry_in (name, kept) ∷ []) }
         ensures unchanged { OnErr result (known_in self.new ≡ known_in self.old) }
     {
         self.things.insert(name, kept)?;

@@ -35,7 +35,8 @@ pub fn text_in(value: &[u8]) -> Result<&str, LineFault>
 /// One or more numbers, joined by commas.
 pub fn numbers_in(alloc: Global, value: &[u8]) -> Result<Vec<u32>, LineFault>
     ensures found { IfOk result (λ numbers. IsNumbers value.now numbers.items) }
-    ensures fault { IfErr result (RefusesWord ((numbers : List ℕ) → ¬ (IsNumbers value.now numbers))) }
+    ensures fault { IfErr result (RefusesWord
+        ((numbers : List ℕ) → ¬ (IsNumbers value.now numbers))) }
 {
     let mut numbers = Vec::new(alloc);
     let mut rest = Some(value);
@@ -53,7 +54,8 @@ pub fn numbers_in(alloc: Global, value: &[u8]) -> Result<Vec<u32>, LineFault>
 /// The object identifier of a dotted form.
 pub fn oid_in(alloc: Global, value: &[u8]) -> Result<Oid, LineFault>
     ensures found { IfOk result (IsDotted value.now) }
-    ensures fault { IfErr result (RefusesWord ((content : List ℕ) → ¬ (IsDotted value.now content))) }
+    ensures fault { IfErr result (RefusesWord
+        ((content : List ℕ) → ¬ (IsDotted value.now content))) }
 {
     let oid = Oid::from_text(alloc, text_in(value)?)?;
     are_octets(oid.as_ref().content);

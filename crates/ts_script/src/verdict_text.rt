@@ -23,7 +23,8 @@ fn print_policies(alloc: Global, policies: &[&[u8]]) -> Result<String, AllocErro
     Ok(text)
 }
 
-/// The dotted form of an object identifier of these contents octets, of which there are at most 128.
+/// The dotted form of an object identifier of these contents octets, of which there are at most
+/// 128.
 fn dotted(alloc: Global, content: &[u8]) -> Result<String, AllocError> {
     let mut element = Vec::new(alloc);
     let Ok(length) = u8::try_from(content.len()) else {

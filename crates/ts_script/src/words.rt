@@ -1,6 +1,7 @@
 //! The words of a line, and what they mean.
 
-ghost use Rattle.std.specs.Prelude.{◌≡◌, ◌≢◌, ◌∷◌, ◌↔◌, ℕ, ℤ, List, IsTrue, IfOk, IfErr, MatchOption, option_map};
+ghost use Rattle.std.specs.Prelude.{◌≡◌, ◌≢◌, ◌∷◌, ◌↔◌, ℕ, ℤ, List, IsTrue, IfOk, IfErr};
+ghost use Rattle.std.specs.Prelude.{MatchOption, option_map};
 ghost use Rattle.std.specs.List.{AllByRecursion};
 ghost use Rattle.ts_make.specs.declared.description.RdnText.{RdnText};
 ghost use Rattle.ts_time.specs.Text.{IsGeneral};
@@ -20,7 +21,8 @@ const SLASH: u8 = b'/';
 
 /// The octets up to the first mark, and those after it where there is one.
 pub fn first_piece(octets: &[u8], mark: u8) -> (&[u8], Option<&[u8]>)
-    ensures { pieces_of mark octets.now ≡ result.0.now ∷ pieces_behind mark (option_map (λ rest. rest.now) result.1) }
+    ensures { pieces_of mark octets.now
+        ≡ result.0.now ∷ pieces_behind mark (option_map (λ rest. rest.now) result.1) }
 {
     for at in 0..octets.len() {
         if octets[at] == mark {
@@ -36,7 +38,9 @@ pub fn word_behind<'a>(
     keyword: &[u8],
 ) -> Option<(&'a [u8], Option<&'a [u8]>)>
     ensures { MatchOption result
-        ((word : List ℕ) (others : List (List ℕ)) → pieces_behind 32 (option_map (λ rest. rest.now) words.entry) ≢ keyword.now ∷ word ∷ others)
+        ((word : List ℕ) (others : List (List ℕ))
+        → pieces_behind 32 (option_map (λ rest. rest.now) words.entry) ≢ keyword.now ∷ word
+        ∷ others)
         (λ found. pieces_behind 32 (option_map (λ rest. rest.now) words.entry)
         ≡ keyword.now ∷ found.0.now ∷ pieces_behind 32 (option_map (λ rest. rest.now) found.1)) }
 {
@@ -61,7 +65,8 @@ pub fn is_name(word: &[u8]) -> bool
 
 /// Whether each of these words is a name.
 pub fn are_names(words: Option<&[u8]>) -> bool
-    ensures { IsTrue result ↔ AllByRecursion IsName (pieces_behind 32 (option_map (λ rest. rest.now) words.entry)) }
+    ensures { IsTrue result ↔ AllByRecursion IsName
+        (pieces_behind 32 (option_map (λ rest. rest.now) words.entry)) }
 {
     let mut rest = words;
     while let Some(left) = rest {

@@ -1,6 +1,8 @@
--- The chains that a search tries. Each is a list of places from the anchor's side: the certificate searched for, the leaf, has place 0 and
--- is last; the certificates of the pool have the places 1, 2 and so on.
-use Rattle.std.specs.Prelude.{◌≡◌, ◌≤◌, ◌<◌, ◌⊎◌, ℕ, Bool, false, ◌==◌, List, [], ◌∷◌, length, Option, Some, None, slice_get, IsTrue}
+-- The chains that a search tries. Each is a list of places from the anchor's side: the certificate
+-- searched for, the leaf, has place 0 and is last; the certificates of the pool have the places 1,
+-- 2 and so on.
+use Rattle.std.specs.Prelude.{◌≡◌, ◌≤◌, ◌<◌, ◌⊎◌, ℕ, Bool, false, ◌==◌, List, [], ◌∷◌, length}
+use Rattle.std.specs.Prelude.{Option, Some, None, slice_get, IsTrue}
 use Rattle.std.specs.List.{list_any, AllByRecursion}
 use Rattle.ts_name.specs.Sameness.{is_same_name}
 use Rattle.ts_cert.specs.Certificate.{Certificate}
@@ -40,7 +42,8 @@ pub record IsCandidate (issues : ℕ → ℕ → Bool) (count : ℕ) (chain : Li
   pub leaf : EndsAtLeaf chain
   pub linked : AreLinked issues chain
 
--- of two chains of one length, the one whose place is the lesser where they first differ, from the leaf up
+-- of two chains of one length, the one whose place is the lesser where they first differ, from the
+-- leaf up
 abbrev pub IsBelow : List ℕ → List ℕ → Type 0
 IsBelow [] d = ⊥
 IsBelow (i ∷ c) [] = ⊥

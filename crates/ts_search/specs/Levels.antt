@@ -1,6 +1,8 @@
--- Candidates by length, as they are made: each chain is made longer by one certificate above it. Only private clauses cite these words; the
--- public ones speak of all candidates in order (Candidates).
-use Rattle.std.specs.Prelude.{◌≡◌, ◌<◌, ℕ, zero, suc, Bool, not, ◌==◌, List, [], ◌∷◌, ◌++◌, map, filter, Option, Some, None, slice_get}
+-- Candidates by length, as they are made: each chain is made longer by one certificate above it.
+-- Only private clauses cite these words; the public ones speak of all candidates in order
+-- (Candidates).
+use Rattle.std.specs.Prelude.{◌≡◌, ◌<◌, ℕ, zero, suc, Bool, not, ◌==◌, List, [], ◌∷◌, ◌++◌, map}
+use Rattle.std.specs.Prelude.{filter, Option, Some, None, slice_get}
 use Rattle.std.specs.List.{list_any, flat_map, range_with_len}
 
 abbrev pub row_or_none : Option (List ℕ) → List ℕ

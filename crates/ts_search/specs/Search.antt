@@ -1,6 +1,7 @@
--- The search for a chain: the first candidate, of the first 4,096, that is valid under an anchor; each is tried under the anchors in
--- their order.
-use Rattle.std.specs.Prelude.{◌≡◌, ◌≤◌, ◌<◌, ℕ, List, [], ◌∷◌, ◌++◌, length, take, map, Option, Some, None, slice_get}
+-- The search for a chain: the first candidate, of the first 4,096, that is valid under an anchor;
+-- each is tried under the anchors in their order.
+use Rattle.std.specs.Prelude.{◌≡◌, ◌≤◌, ◌<◌, ℕ, List, [], ◌∷◌, ◌++◌, length, take, map, Option}
+use Rattle.std.specs.Prelude.{Some, None, slice_get}
 use Rattle.std.specs.List.{AllByRecursion}
 use Rattle.ts_cert.specs.Certificate.{Certificate}
 use Rattle.ts_policy.specs.Labels.{Label}
@@ -23,10 +24,13 @@ IsValid q = (i : ℕ) (k : Condition) → Holds k q i
 
 -- under none of these anchors is the chain valid
 abbrev pub NoneUnder : (TrustAnchor → Asked) → List Certificate → List TrustAnchor → Type 0
-NoneUnder asked chain anchors = AllByRecursion (λ anchor. ¬ (IsValid (question asked chain anchor))) anchors
+NoneUnder asked chain anchors = AllByRecursion
+    (λ anchor. ¬ (IsValid (question asked chain anchor))) anchors
 
--- the anchor of this number, counted from 0, is the first under which the chain is valid, with these policies
-pub record IsFirstUnder (asked : TrustAnchor → Asked) (chain : List Certificate) (anchors : List TrustAnchor) (number : ℕ) (policies : List Label) : Type 0 where
+-- the anchor of this number, counted from 0, is the first under which the chain is valid, with
+-- these policies
+pub record IsFirstUnder (asked : TrustAnchor → Asked) (chain : List Certificate)
+    (anchors : List TrustAnchor) (number : ℕ) (policies : List Label) : Type 0 where
   pub earlier : List TrustAnchor
   pub anchor : TrustAnchor
   pub later : List TrustAnchor
@@ -38,7 +42,8 @@ pub record IsFirstUnder (asked : TrustAnchor → Asked) (chain : List Certificat
 
 -- ---- candidates in their order
 
--- what is searched: the leaf and the pool after it, the trust anchors in their order, and what is asked of a chain under an anchor
+-- what is searched: the leaf and the pool after it, the trust anchors in their order, and what is
+-- asked of a chain under an anchor
 pub record Search : Type 0 where
   pub certificates : List Certificate
   pub anchors : List TrustAnchor
@@ -51,14 +56,18 @@ with_certificate (Some c) below = c ∷ below
 
 abbrev pub certificates_at : List Certificate → List ℕ → List Certificate
 certificates_at certificates [] = []
-certificates_at certificates (i ∷ below) = with_certificate (slice_get certificates i) (certificates_at certificates below)
+certificates_at certificates (i ∷ below) =
+    with_certificate (slice_get certificates i) (certificates_at certificates below)
 
 -- none of these chains is valid under any anchor
 abbrev pub NoneOf : Search → List (List ℕ) → Type 0
-NoneOf s chains = AllByRecursion (λ chain. NoneUnder s.asked (certificates_at s.certificates chain) s.anchors) chains
+NoneOf s chains = AllByRecursion
+    (λ chain. NoneUnder s.asked (certificates_at s.certificates chain) s.anchors) chains
 
--- the chain is the first of these that is valid, and the anchor of this number the first under which it is
-pub record IsFirst (s : Search) (tried : List (List ℕ)) (number : ℕ) (chain : List ℕ) (policies : List Label) : Type 0 where
+-- the chain is the first of these that is valid, and the anchor of this number the first under
+-- which it is
+pub record IsFirst (s : Search) (tried : List (List ℕ)) (number : ℕ) (chain : List ℕ)
+    (policies : List Label) : Type 0 where
   pub before : List (List ℕ)
   pub after : List (List ℕ)
   pub tried_are : tried ≡ before ++ chain ∷ after
@@ -71,7 +80,8 @@ most = 4096
 
 -- the answer, where these are all candidates in their order
 abbrev pub Answers : Search → List (List ℕ) → Answer → Type 0
-Answers s candidates (Found number chain policies) = IsFirst s (take most candidates) number chain.items (map (λ p. p.now) policies.items)
+Answers s candidates (Found number chain policies) =
+    IsFirst s (take most candidates) number chain.items (map (λ p. p.now) policies.items)
 Answers s candidates NoPath = (length candidates ≤ most) × NoneOf s candidates
 Answers s candidates SearchLimit = (most < length candidates) × NoneOf s (take most candidates)
 
@@ -83,7 +93,8 @@ pub record IsAnswer (s : Search) (answer : Answer) : Type 0 where
 -- two answers say the same
 abbrev pub IsSame : Answer → Answer → Type 0
 IsSame (Found number chain policies) (Found other another others) =
-    (number ≡ other) × (chain.items ≡ another.items) × (map (λ p. p.now) policies.items ≡ map (λ p. p.now) others.items)
+    (number ≡ other) × (chain.items ≡ another.items)
+    × (map (λ p. p.now) policies.items ≡ map (λ p. p.now) others.items)
 IsSame NoPath NoPath = Unit {0}
 IsSame SearchLimit SearchLimit = Unit {0}
 IsSame answer other = ⊥

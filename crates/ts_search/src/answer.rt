@@ -7,9 +7,11 @@ pub enum Answer<'a> {
     Found {
         /// The anchor's place among the anchors, from 0.
         anchor: usize,
-        /// The places of the chain's certificates, from the anchor's side: 0 is the leaf, which is last, and 1 the first of the pool.
+        /// The places of the chain's certificates, from the anchor's side: 0 is the leaf, which is
+        /// last, and 1 the first of the pool.
         chain: Vec<u8>,
-        /// The policies that are accepted, each as the content octets of its object identifier, ascending by these.
+        /// The policies that are accepted, each as the content octets of its object identifier,
+        /// ascending by these.
         policies: Vec<&'a [u8]>,
     },
     /// No candidate is valid under any anchor.

@@ -12,7 +12,8 @@ use ts_cert::Cert;
 
 /// Whether a certificate's subject is another's issuer.
 fn issues(above: &Cert<'_>, cert: &Cert<'_>) -> bool
-    ensures { result ≡ is_same_name (cert_in cert.now).tbsCertificate.issuer (cert_in above.now).tbsCertificate.subject }
+    ensures { result ≡ is_same_name (cert_in cert.now).tbsCertificate.issuer
+        (cert_in above.now).tbsCertificate.subject }
 {
     cert.issuer().same(above.subject())
 }
@@ -21,7 +22,8 @@ fn issues(above: &Cert<'_>, cert: &Cert<'_>) -> bool
 fn issuers_of(alloc: Global, certificates: &[Cert<'_>], place: usize) -> Result<Vec<u8>, AllocError>
     requires few { length certificates.now ≤ 33 }
     requires within { place < length certificates.now }
-    ensures { IfOk result (λ row. row.items ≡ issuers (issues_in (map cert_in certificates.now)) (length certificates.now) place) }
+    ensures { IfOk result (λ row. row.items
+        ≡ issuers (issues_in (map cert_in certificates.now)) (length certificates.now) place) }
 {
     let cert = certificates[place];
     let mut row = Vec::new(alloc);
@@ -39,7 +41,8 @@ pub(crate) fn all_issuers(
     certificates: &[Cert<'_>],
 ) -> Result<Vec<Vec<u8>>, AllocError>
     requires { length certificates.now ≤ 33 }
-    ensures { IfOk result (λ rows. AreRows (issues_in (map cert_in certificates.now)) (length certificates.now) (map (λ row. row.items) rows.items)) }
+    ensures { IfOk result (λ rows. AreRows (issues_in (map cert_in certificates.now))
+        (length certificates.now) (map (λ row. row.items) rows.items)) }
 {
     let mut rows = Vec::new(alloc);
     for place in 0..certificates.len() {

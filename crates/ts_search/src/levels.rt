@@ -49,7 +49,9 @@ fn extend(
     chains: &mut Vec<Vec<u8>>,
 ) -> Result<(), AllocError>
     requires { length chains.old.items ≤ limit }
-    ensures { OnOk result (map (λ c. c.items) chains.new.items ≡ take limit (map (λ c. c.items) chains.old.items ++ longer_of (map (λ row. row.items) rows.now) chain.now)) }
+    ensures { OnOk result (map (λ c. c.items) chains.new.items
+        ≡ take limit (map (λ c. c.items) chains.old.items
+        ++ longer_of (map (λ row. row.items) rows.now) chain.now)) }
 {
     for above in row_above(rows, chain) {
         if chains.len() < limit && !chain.contains(above) {
@@ -66,7 +68,9 @@ pub(crate) fn longer(
     chains: &[Vec<u8>],
     limit: usize,
 ) -> Result<Vec<Vec<u8>>, AllocError>
-    ensures { IfOk result (λ found. map (λ c. c.items) found.items ≡ take limit (flat_map (longer_of (map (λ row. row.items) rows.now)) (map (λ c. c.items) chains.now))) }
+    ensures { IfOk result (λ found. map (λ c. c.items) found.items
+        ≡ take limit (flat_map (longer_of (map (λ row. row.items) rows.now))
+        (map (λ c. c.items) chains.now))) }
 {
     let mut found = Vec::new(alloc);
     for chain in chains {

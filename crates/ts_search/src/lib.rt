@@ -1,4 +1,5 @@
-//! The search for a chain: from a certificate, through a pool, to a trust anchor under which the chain is valid.
+//! The search for a chain: from a certificate, through a pool, to a trust anchor under which the
+//! chain is valid.
 //!
 //! ```text
 //! match search(alloc, &leaf, &pool, &anchors, &inputs, &crls, &check)? {
@@ -8,9 +9,10 @@
 //! }
 //! ```
 //!
-//! A candidate is a chain of at most ten of the certificates at hand, each once, the leaf last, in which each certificate's issuer is
-//! the subject of the one before it. Candidates are tried in order, the shorter first, and of one length by their places from the leaf
-//! up; each under the anchors in their order. The first pair that path validation calls valid is the answer.
+//! A candidate is a chain of at most ten of the certificates at hand, each once, the leaf last, in
+//! which each certificate's issuer is the subject of the one before it. Candidates are tried in
+//! order, the shorter first, and of one length by their places from the leaf up; each under the
+//! anchors in their order. The first pair that path validation calls valid is the answer.
 //!
 //! | Call | Clauses |
 //! |---|---|

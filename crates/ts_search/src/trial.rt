@@ -34,7 +34,8 @@ fn certificates_at<'a>(
     certificates: &[Cert<'a>],
     chain: &[u8],
 ) -> Result<Vec<Cert<'a>>, AllocError>
-    ensures { IfOk result (λ found. map cert_in found.items ≡ certificates_of (map cert_in certificates.now) chain.now) }
+    ensures { IfOk result (λ found. map cert_in found.items
+        ≡ certificates_of (map cert_in certificates.now) chain.now) }
 {
     let mut found = Vec::new(alloc);
     for place in chain {
@@ -56,7 +57,9 @@ fn first_anchor<'a, S: SignatureCheck>(
 ) -> Result<Option<Success<'a>>, AllocError>
     requires some { 1 ≤ length chain.now }
     requires few { length chain.now ≤ 16 }
-    ensures { IfOk result (λ found. FirstOrNone (asked_under inputs.now crls.now (S.accepts check.now)) (map cert_in chain.now) (map anchor_in anchors.now) found) }
+    ensures { IfOk result (λ found. FirstOrNone
+        (asked_under inputs.now crls.now (S.accepts check.now)) (map cert_in chain.now)
+        (map anchor_in anchors.now) found) }
 {
     for number in 0..anchors.len() {
         if let Verdict::Valid(policies) = validate(
@@ -87,7 +90,9 @@ pub(crate) fn first_valid<'a, S: SignatureCheck>(
     chains: &[Vec<u8>],
 ) -> Result<Option<Answer<'a>>, AllocError>
     requires triable { AreTriable (map cert_in certificates.now) (map (λ c. c.items) chains.now) }
-    ensures { IfOk result (λ found. FirstOf (search_among certificates.now anchors.now inputs.now crls.now (S.accepts check.now)) (map (λ c. c.items) chains.now) found) }
+    ensures { IfOk result (λ found. FirstOf
+        (search_among certificates.now anchors.now inputs.now crls.now (S.accepts check.now))
+        (map (λ c. c.items) chains.now) found) }
 {
     for chain in chains {
         let under = certificates_at(alloc, certificates, chain)?;

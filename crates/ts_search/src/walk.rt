@@ -51,7 +51,8 @@ fn search_all<'a, S: SignatureCheck>(
 ) -> Result<Answer<'a>, AllocError>
     requires some { 1 ≤ length certificates.now }
     requires few { length certificates.now ≤ 33 }
-    ensures { IfOk result (IsAnswer (search_among certificates.now anchors.now inputs.now crls.now (S.accepts check.now))) }
+    ensures { IfOk result (IsAnswer
+        (search_among certificates.now anchors.now inputs.now crls.now (S.accepts check.now))) }
 {
     let rows = all_issuers(alloc, certificates)?;
     let mut chains = leaf_alone(alloc)?;
@@ -79,8 +80,9 @@ fn search_all<'a, S: SignatureCheck>(
     Ok(Answer::NoPath)
 }
 
-/// Searches a chain from a trust anchor to the leaf, through certificates of the pool: of the candidates in their order the first that
-/// is valid under an anchor, and the first such anchor. At most 4,096 candidates are tried.
+/// Searches a chain from a trust anchor to the leaf, through certificates of the pool: of the
+/// candidates in their order the first that is valid under an anchor, and the first such anchor. At
+/// most 4,096 candidates are tried.
 ///
 /// # Errors
 ///
@@ -95,7 +97,8 @@ pub fn search<'a, S: SignatureCheck>(
     check: &S,
 ) -> Result<Answer<'a>, AllocError>
     requires { length pool.now ≤ 32 }
-    ensures { IfOk result (IsAnswer (search_in leaf.now pool.now anchors.now inputs.now crls.now (S.accepts check.now))) }
+    ensures { IfOk result (IsAnswer
+        (search_in leaf.now pool.now anchors.now inputs.now crls.now (S.accepts check.now))) }
 {
     let certificates = together(alloc, leaf, pool)?;
     let answer = search_all(alloc, &certificates, anchors, inputs, crls, check)?;

@@ -28,7 +28,8 @@ wire_fault node_faults.RoundsExhausted = wire_faults.RoundsExhausted
 wire_fault node_faults.PositionsExhausted = wire_faults.PositionsExhausted
 wire_fault node_faults.GenerationsExhausted = wire_faults.GenerationsExhausted
 
--- the frame that says a node's reply: a step of a rewrite is Done 0 while there are steps left, and Done 1 where the record is on its other disk
+-- the frame that says a node's reply: a step of a rewrite is Done 0 while there are steps left, and
+-- Done 1 where the record is on its other disk
 abbrev pub reply_frame : Reply Outcome Answered → Frame
 reply_frame replies.Done = frames.Done 0
 reply_frame (replies.Started position ballot) = frames.Started position ballot

@@ -1,7 +1,8 @@
 -- Which frames are requests.
 use Rattle.std.specs.Prelude.{Bool, true, false}
 use Rattle.ts_wire.specs.declared.frame.Frame.{Frame}
-use Rattle.ts_wire.specs.declared.frame.Frame.TheVariants.{Done, Started, Settled, Answer, Unknown, NodeFault, FrameFault, Prefix}
+use Rattle.ts_wire.specs.declared.frame.Frame.TheVariants.{Done, Started, Settled, Answer, Unknown}
+use Rattle.ts_wire.specs.declared.frame.Frame.TheVariants.{NodeFault, FrameFault, Prefix}
 
 -- kinds 20 to 27 are what a server answers; the others are requests
 abbrev pub is_request : Frame → Bool

@@ -1,5 +1,6 @@
 -- What is written for answers.
-use Rattle.std.specs.Prelude.{◌≡◌, ◌+◌, ℕ, nat_le, List, [], ◌∷◌, ◌++◌, length, Option, Some, None, if◌then◌else◌}
+use Rattle.std.specs.Prelude.{◌≡◌, ◌+◌, ℕ, nat_le, List, [], ◌∷◌, ◌++◌, length, Option, Some, None}
+use Rattle.std.specs.Prelude.{if◌then◌else◌}
 use Rattle.std.specs.List.{flat_map}
 use Rattle.std.specs.Io.KnownBytes.{Appends}
 use Rattle.ts_wire.specs.Frames.{fields, encoding}
@@ -10,7 +11,8 @@ use Rattle.ts_wire.specs.declared.frame.Frame.TheVariants as frames
 
 -- a frame as it is written: one that would be longer than a frame may be is NodeFault Memory
 abbrev pub written : Frame → List ℕ
-written frame = if nat_le (2 + length (fields frame)) 8388608 then encoding frame else encoding (frames.NodeFault Memory)
+written frame = if nat_le (2 + length (fields frame)) 8388608 then encoding frame
+    else encoding (frames.NodeFault Memory)
 
 abbrev pub text : List Frame → List ℕ
 text answers = flat_map written answers

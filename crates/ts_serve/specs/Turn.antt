@@ -1,5 +1,6 @@
 -- A server: a node, and an outbox of its messages. What it does with one request.
-use Rattle.std.specs.Prelude.{◌≡◌, ◌+◌, ◌^◌, List, [], ◌∷◌, ◌++◌, map, take, length, true, false, Result, OnOk, IsErrOf}
+use Rattle.std.specs.Prelude.{◌≡◌, ◌+◌, ◌^◌, List, [], ◌∷◌, ◌++◌, map, take, length, true, false}
+use Rattle.std.specs.Prelude.{Result, OnOk, IsErrOf}
 use Rattle.ts_disk.specs.Disk.{State}
 use Rattle.ts_journal.specs.Images.{EveryPair}
 use Rattle.ts_synod.specs.declared.message.Fact.{Fact}
@@ -18,7 +19,8 @@ use Rattle.ts_node.specs.declared.input.Input.{Input}
 use Rattle.ts_node.specs.declared.input.Input.TheVariants as inputs
 use Rattle.ts_node.specs.declared.input.Output.{Output}
 use Rattle.ts_node.specs.declared.input.NodeFault.{NodeFault}
-use Rattle.ts_node.specs.declared.input.NodeFault.TheVariants.{DiskFailed, Broken, GenerationsExhausted}
+use Rattle.ts_node.specs.declared.input.NodeFault.TheVariants.{DiskFailed, Broken}
+use Rattle.ts_node.specs.declared.input.NodeFault.TheVariants.{GenerationsExhausted}
 use Rattle.ts_node.specs.Inputs.{IsInput}
 use Rattle.ts_node.specs.Node.{Compacts, Failed, Handles, Moments, config, facts, owner, volatile}
 use Rattle.ts_store.specs.Octets.{octets_of}
@@ -28,29 +30,45 @@ use Rattle.ts_serve.specs.declared.server.Server.{Server}
 use Rattle.ts_serve.specs.Replies.{answer_to, messages_of}
 
 -- The disks of a node, the store of the world, and what its machine's answers rest on (`ts_node`).
-module _ {D M B : Type 0} (state : D → State) (store : Store Command Outcome (List Command) Asked (List Command)) (basis : M → B) (is_answer : B → List Command → Asked → Answered → Type 0) where
+module _ {D M B : Type 0} (state : D → State)
+    (store : Store Command Outcome (List Command) Asked (List Command)) (basis : M → B)
+    (is_answer : B → List Command → Asked → Answered → Type 0) where
   -- the step of the world at a node, of any facts that have the force of its own
-  abbrev pub step_of : Node D Command M → List (Fact Command) → List (Message Command) → world.Input Command Asked → world.Step Command Outcome Asked (List Command)
-  step_of node kept sent event = world.step store (config node) (node_with kept (volatile node)) sent event
+  abbrev pub step_of : Node D Command M → List (Fact Command) → List (Message Command)
+      → world.Input Command Asked → world.Step Command Outcome Asked (List Command)
+  step_of node kept sent event = world.step store (config node)
+      (node_with kept (volatile node)) sent event
 
-  -- A call of a node with an input, in the words of `Node::handle`: one event of the world, which a crash at any moment leaves undone
-  -- or done; or a step of a rewrite, which is none.
-  pub record IsCall (old : Node D Command M) (input : Input Command Asked) (result : Result (Output Command Outcome Answered) NodeFault) (new : Node D Command M) : Type 0 where
-    pub step : old.kept.broken ≡ false → (kept : List (Fact Command)) (sent : List (Message Command)) (event : world.Input Command Asked) → SameForce kept (facts old) → IsInput sent input event
+  -- A call of a node with an input, in the words of `Node::handle`: one event of the world, which a
+  -- crash at any moment leaves undone or done; or a step of a rewrite, which is none.
+  pub record IsCall (old : Node D Command M) (input : Input Command Asked)
+      (result : Result (Output Command Outcome Answered) NodeFault)
+      (new : Node D Command M) : Type 0 where
+    pub step : old.kept.broken ≡ false
+        → (kept : List (Fact Command)) (sent : List (Message Command))
+        (event : world.Input Command Asked) → SameForce kept (facts old)
+        → IsInput sent input event
         → Handles (is_answer (basis old.machine)) old result new (step_of old kept sent event)
-    pub moments : old.kept.broken ≡ false → (kept : List (Fact Command)) (sent : List (Message Command)) (event : world.Input Command Asked) → SameForce kept (facts old) → IsInput sent input event
+    pub moments : old.kept.broken ≡ false
+        → (kept : List (Fact Command)) (sent : List (Message Command))
+        (event : world.Input Command Asked) → SameForce kept (facts old)
+        → IsInput sent input event
         → Moments state octets_of old (step_of old kept sent event).effect.facts new
     pub compacts : old.kept.broken ≡ false → input ≡ inputs.Compact → Compacts old result new
-        × EveryPair (OpensToForce octets_of (owner old) (facts old)) (state old.kept.a) (state old.kept.b) (state new.kept.a) (state new.kept.b)
-    pub exhausted : old.kept.broken ≡ false → input ≡ inputs.Compact → old.kept.generation + 1 ≡ 2 ^ 64 → IsErrOf result GenerationsExhausted
+        × EveryPair (OpensToForce octets_of (owner old) (facts old)) (state old.kept.a)
+        (state old.kept.b) (state new.kept.a) (state new.kept.b)
+    pub exhausted : old.kept.broken ≡ false → input ≡ inputs.Compact
+        → old.kept.generation + 1 ≡ 2 ^ 64 → IsErrOf result GenerationsExhausted
     pub same_config : config new ≡ config old
     pub same_basis : basis new.machine ≡ basis old.machine
     pub whole : OnOk result (new.kept.broken ≡ false)
     pub failed : IsErrOf result DiskFailed → (new.kept.broken ≡ true) × Failed state old new
     pub broken : old.kept.broken ≡ true → IsErrOf result Broken × (new ≡ old)
 
-  -- The node takes the input. Its reply is the answer, and its messages go after those in the outbox, of which the first 256 stay.
-  pub record Handled (old : Server D M) (input : Input Command Asked) (replies : List Frame) (new : Server D M) : Type 0 where
+  -- The node takes the input. Its reply is the answer, and its messages go after those in the
+  -- outbox, of which the first 256 stay.
+  pub record Handled (old : Server D M) (input : Input Command Asked) (replies : List Frame)
+      (new : Server D M) : Type 0 where
     pub result : Result (Output Command Outcome Answered) NodeFault
     pub call : IsCall old.node input result new.node
     pub said : replies ≡ answer_to result ∷ []
@@ -66,7 +84,8 @@ module _ {D M B : Type 0} (state : D → State) (store : Store Command Outcome (
   abbrev pub Turn : Server D M → Frame → List Frame → Server D M → Type 0
   Turn old (frames.Peer message) replies new = Handled old (inputs.Deliver message) replies new
   Turn old (frames.Submit command) replies new = Handled old (inputs.Submit command) replies new
-  Turn old (frames.Question question) replies new = Handled old (inputs.Ask question.terms.k question) replies new
+  Turn old (frames.Question question) replies new =
+      Handled old (inputs.Ask question.terms.k question) replies new
   Turn old frames.Take replies new = Given old replies new
   Turn old (frames.Outcome id) replies new = Handled old (inputs.Outcome id) replies new
   Turn old frames.CatchUp replies new = Handled old inputs.CatchUp replies new

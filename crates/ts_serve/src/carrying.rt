@@ -15,7 +15,9 @@ const TAKE: [u8; 6] = [0, 0, 0, 2, 2, 0x12];
 
 /// The frames that octets are, if they are frames, one after another, and nothing else.
 fn frames_of(alloc: Global, octets: &[u8]) -> Result<Option<Vec<Frame>>, AllocError>
-    ensures { IfOk result (λ found. IfSome found (λ frames. (octets.now ≡ flat_map encoding frames.items) × AllByRecursion Fits frames.items)) }
+    ensures { IfOk result (λ found. IfSome found
+        (λ frames. (octets.now ≡ flat_map encoding frames.items)
+        × AllByRecursion Fits frames.items)) }
 {
     let mut feed = Feed::new(alloc);
     feed.push(octets)?;
@@ -89,7 +91,8 @@ fn take_all<P: Peer>(alloc: Global, peers: &mut [P]) -> Result<Vec<Frame>, Alloc
     Ok(messages)
 }
 
-/// Delivers a message to its node, by an exchange of its own. False where no peer is that node, or the exchange fails.
+/// Delivers a message to its node, by an exchange of its own. False where no peer is that node, or
+/// the exchange fails.
 fn deliver<P: Peer>(alloc: Global, peers: &mut [P], frame: &Frame) -> Result<bool, AllocError>
     requires { All P.is_ready peers.old }
     ensures { All P.is_ready peers.new }
@@ -133,9 +136,11 @@ fn carry_once<P: Peer>(alloc: Global, peers: &mut [P]) -> Result<u64, AllocError
 
 /// Carries messages between peers, of which peer i is node i, and counts those that were delivered.
 ///
-/// In a round each peer in order is asked for the messages that wait there; then these are delivered in that order, each by an exchange
-/// of its own. One that is answered by a node's fault counts as delivered. A message to a node without a peer does not count. An exchange
-/// whose answer is not what a server gives has failed: what it carried does not count and is not sent again, and the round goes on.
+/// In a round each peer in order is asked for the messages that wait there; then these are
+/// delivered in that order, each by an exchange of its own. One that is answered by a node's fault
+/// counts as delivered. A message to a node without a peer does not count. An exchange whose answer
+/// is not what a server gives has failed: what it carried does not count and is not sent again, and
+/// the round goes on.
 ///
 /// # Errors
 ///

@@ -7,8 +7,9 @@ use std::time::Duration;
 /// How many seconds one read or write waits for the other end.
 pub const LONGEST_WAIT: u64 = 60;
 
-/// Has the reads and writes of a connection fail where they wait longer than that, and has what is written sent at once. The system would
-/// else hold an answer back until the one before it is acknowledged, which takes 40 ms where requests come many at a time.
+/// Has the reads and writes of a connection fail where they wait longer than that, and has what is
+/// written sent at once. The system would else hold an answer back until the one before it is
+/// acknowledged, which takes 40 ms where requests come many at a time.
 pub(crate) fn set_up<S: OpenStream>(stream: &S) -> io::Result<()> {
     let longest = Some(Duration::from_secs(LONGEST_WAIT));
     stream.set_read_timeout(longest)?;

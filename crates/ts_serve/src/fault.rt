@@ -6,7 +6,8 @@ ghost use Rattle.ts_serve.specs.declared.fault.ServeFault.TheVariants.{Memory as
 use std::alloc::AllocError;
 use ts_wire::FrameFault;
 
-/// Why a stream was not served to its end. What was written is a front of the replies to the frames taken.
+/// Why a stream was not served to its end. What was written is a front of the replies to the frames
+/// taken.
 #[derive(Clone, Copy, Debug, PartialEq, Eq)]
 pub enum ServeFault {
     /// A read failed, or a connection could not be accepted.

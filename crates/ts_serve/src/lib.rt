@@ -1,4 +1,5 @@
-//! A node, served: a stream of requests is answered, from octets to octets, and messages are carried between servers.
+//! A node, served: a stream of requests is answered, from octets to octets, and messages are
+//! carried between servers.
 //!
 //! ```text
 //! let mut server = Server::new(alloc, node)?;                 // refused, it gives the node back
@@ -8,11 +9,13 @@
 //! let delivered = carry(alloc, &mut peers, 4)?;                // four rounds
 //! ```
 //!
-//! A request is a frame of kind 01 to 07 or 10 to 16 (`ts_wire`). Each but Take is handed to the node as an input, the node's messages
-//! go to the outbox, where the first 256 that wait stay and others are lost, and the answer is the node's reply: Done 0, Started,
-//! Settled, Unknown, Prefix, Answer, Done 0 or 1 for a step of a rewrite, or NodeFault. Take is answered with the outbox's messages as
-//! frames and Done with their count, and the outbox is empty then. A frame of kind 20 to 27 is no request: it is the fault Kind. A fault
-//! in a frame's place is answered with FrameFault, and ends the stream.
+//! A request is a frame of kind 01 to 07 or 10 to 16 (`ts_wire`). Each but Take is handed to the
+//! node as an input, the node's messages go to the outbox, where the first 256 that wait stay and
+//! others are lost, and the answer is the node's reply: Done 0, Started, Settled, Unknown, Prefix,
+//! Answer, Done 0 or 1 for a step of a rewrite, or NodeFault. Take is answered with the outbox's
+//! messages as frames and Done with their count, and the outbox is empty then. A frame of kind 20
+//! to 27 is no request: it is the fault Kind. A fault in a frame's place is answered with
+//! FrameFault, and ends the stream.
 //!
 //! | Call | Clauses |
 //! |---|---|
@@ -23,10 +26,11 @@
 //! | [`TcpPeer::exchange`](Peer::exchange), [`carry`] | they end, and each peer can be asked again; what they carry and count is shown by tests |
 //!
 //! `serve` requires that the node is sound (`IsSound`), as each node that was opened is, and leaves it so. An answer that would be longer
-//! than a frame may be is written as NodeFault Memory (`specs/Text`); that no answer is so long is not proved. An interrupted read or
-//! write is tried again: each read counts towards the limit, and one answer is written in at most as many writes as a stream may have
-//! reads. `Read`, `Write` and `ReadLimit` come where the reader or the writer fails or the limit is met; no clause says so, since
-//! nothing tells whether a reader fails.
+//! than a frame may be is written as NodeFault Memory (`specs/Text`); that no answer is so long is
+//! not proved. An interrupted read or write is tried again: each read counts towards the limit, and
+//! one answer is written in at most as many writes as a stream may have reads. `Read`, `Write` and
+//! `ReadLimit` come where the reader or the writer fails or the limit is met; no clause says so,
+//! since nothing tells whether a reader fails.
 #![tactic(auto)]
 
 mod carrying;

@@ -20,14 +20,16 @@ use ts_node::Machine;
 use ts_question::{Answer, Question};
 use ts_store::{Command, Outcome};
 
-/// Serves one connection, whatever becomes of it. A client that neither sends nor reads for [`LONGEST_WAIT`](crate::LONGEST_WAIT) seconds loses it, so
-/// that it does not keep others out.
+/// Serves one connection, whatever becomes of it. A client that neither sends nor reads for
+/// [`LONGEST_WAIT`](crate::LONGEST_WAIT) seconds loses it, so that it does not keep others out.
 fn serve_connection<D, M>(server: &mut Server<D, M>, stream: &TcpStream)
 where
     D: Disk,
     M: Machine<Command, Outcome = Outcome, Question = Question, Answer = Answer>,
     requires { IsSound D.state octets_of M.commands server.old.node }
-    ensures run { (requests answers : List Request) × Run (Turn D.state (store_of Asked M.client_id M.outcome) M.basis M.is_answer) server.old requests answers server.new }
+    ensures run { (requests answers : List Request)
+        × Run (Turn D.state (store_of Asked M.client_id M.outcome) M.basis M.is_answer) server.old
+        requests answers server.new }
     ensures sound { IsSound D.state octets_of M.commands server.new.node }
 {
     if set_up(stream).is_err() {
@@ -40,8 +42,9 @@ where
     let _ = serve(server, &mut reader, &mut writer);
 }
 
-/// Accepts this many connections, and serves them one after the other. A fault of a connection ends its own stream alone, and so does a client
-/// that is waited for longer than [`LONGEST_WAIT`](crate::LONGEST_WAIT) seconds.
+/// Accepts this many connections, and serves them one after the other. A fault of a connection ends
+/// its own stream alone, and so does a client that is waited for longer than
+/// [`LONGEST_WAIT`](crate::LONGEST_WAIT) seconds.
 ///
 /// # Errors
 ///
@@ -57,7 +60,9 @@ where
     requires { IsSound D.state octets_of M.commands server.old.node }
     ensures fault { IfErr result (λ fault. fault ≡ ServeFault.Read) }
     // Whatever comes, the server has answered some requests, one after another.
-    ensures run { (requests answers : List Request) × Run (Turn D.state (store_of Asked M.client_id M.outcome) M.basis M.is_answer) server.old requests answers server.new }
+    ensures run { (requests answers : List Request)
+        × Run (Turn D.state (store_of Asked M.client_id M.outcome) M.basis M.is_answer) server.old
+        requests answers server.new }
     ensures sound { IsSound D.state octets_of M.commands server.new.node }
 {
     for _connection in 0..connections {

@@ -13,7 +13,8 @@ use ts_wire::Frame;
 /// The most messages that wait.
 pub const MAX_WAITING: usize = 256;
 
-/// The messages of a node that wait to be taken, each in the frame that it is taken in. Contracts see the messages.
+/// The messages of a node that wait to be taken, each in the frame that it is taken in. Contracts
+/// see the messages.
 #[derive(Drop)]
 pub struct Outbox {
     frames: Vec<Frame>,

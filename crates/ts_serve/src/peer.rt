@@ -39,7 +39,8 @@ pub trait Peer {
         ensures { is_ready self.new };
 }
 
-/// The server at an address, a host's name or number, a colon and a port. Each exchange is a connection of its own.
+/// The server at an address, a host's name or number, a colon and a port. Each exchange is a
+/// connection of its own.
 #[derive(Drop)]
 pub struct TcpPeer<'a, N: Net> {
     alloc: Global,
@@ -134,7 +135,9 @@ impl<D: Disk, M: Machine<Command, Outcome = Outcome, Question = Question, Answer
     fn exchange(&mut self, octets: &[u8]) -> Result<Vec<u8>, ServeFault>
         requires { IsSound D.state octets_of M.commands self.old.server.node }
         ensures ready { IsSound D.state octets_of M.commands self.new.server.node }
-        ensures served { IfOk result (λ answers. IsServedSomehow (Turn D.state (store_of Asked M.client_id M.outcome) M.basis M.is_answer) octets.now self.old.server self.new.server answers.items) }
+        ensures served { IfOk result (λ answers. IsServedSomehow
+            (Turn D.state (store_of Asked M.client_id M.outcome) M.basis M.is_answer) octets.now
+            self.old.server self.new.server answers.items) }
     {
         let mut reader = octets;
         let mut answers = Vec::new(self.alloc);

@@ -34,8 +34,10 @@ fn octets_of(alloc: Global, frame: &Frame) -> Result<Vec<u8>, ServeFault>
 
 /// Writes octets. An interrupted write is tried again.
 pub(crate) fn write_octets<W: Write>(writer: &mut W, octets: &[u8]) -> Result<(), ServeFault>
-    ensures written { OnOk result (Appends (W.contents writer.old) (W.contents writer.new) octets.now) }
-    ensures front { OnErr result (AppendsFront (W.contents writer.old) (W.contents writer.new) octets.now) }
+    ensures written { OnOk result (Appends (W.contents writer.old)
+        (W.contents writer.new) octets.now) }
+    ensures front { OnErr result (AppendsFront (W.contents writer.old)
+        (W.contents writer.new) octets.now) }
     ensures fault { IfErr result (λ fault. fault ≡ ServeFault.Write) }
 {
     let mut rest = octets;
@@ -55,9 +57,12 @@ pub(crate) fn write_octets<W: Write>(writer: &mut W, octets: &[u8]) -> Result<()
 
 /// Writes an answer that is lent.
 fn send_lent<W: Write>(alloc: Global, writer: &mut W, frame: &Frame) -> Result<(), ServeFault>
-    ensures sent { OnOk result (Appends (W.contents writer.old) (W.contents writer.new) (text (frame.now ∷ []))) }
-    ensures front { OnErr result (AppendsFront (W.contents writer.old) (W.contents writer.new) (text (frame.now ∷ []))) }
-    ensures fault { IfErr result (λ fault. (fault ≡ ServeFault.Write) ⊎ (fault ≡ ServeFault.Memory)) }
+    ensures sent { OnOk result (Appends (W.contents writer.old) (W.contents writer.new)
+        (text (frame.now ∷ []))) }
+    ensures front { OnErr result (AppendsFront (W.contents writer.old) (W.contents writer.new)
+        (text (frame.now ∷ []))) }
+    ensures fault { IfErr result (λ fault. (fault ≡ ServeFault.Write)
+        ⊎ (fault ≡ ServeFault.Memory)) }
 {
     let octets = octets_of(alloc, frame)?;
     write_octets(writer, octets.as_slice())
@@ -65,9 +70,12 @@ fn send_lent<W: Write>(alloc: Global, writer: &mut W, frame: &Frame) -> Result<(
 
 /// Writes an answer.
 pub(crate) fn send<W: Write>(alloc: Global, writer: &mut W, frame: Frame) -> Result<(), ServeFault>
-    ensures sent { OnOk result (Appends (W.contents writer.old) (W.contents writer.new) (text (frame ∷ []))) }
-    ensures front { OnErr result (AppendsFront (W.contents writer.old) (W.contents writer.new) (text (frame ∷ []))) }
-    ensures fault { IfErr result (λ fault. (fault ≡ ServeFault.Write) ⊎ (fault ≡ ServeFault.Memory)) }
+    ensures sent { OnOk result (Appends (W.contents writer.old) (W.contents writer.new)
+        (text (frame ∷ []))) }
+    ensures front { OnErr result (AppendsFront (W.contents writer.old) (W.contents writer.new)
+        (text (frame ∷ []))) }
+    ensures fault { IfErr result (λ fault. (fault ≡ ServeFault.Write)
+        ⊎ (fault ≡ ServeFault.Memory)) }
 {
     send_lent(alloc, writer, &frame)
 }
@@ -78,9 +86,12 @@ pub(crate) fn send_all<W: Write>(
     writer: &mut W,
     frames: &[Frame],
 ) -> Result<(), ServeFault>
-    ensures sent { OnOk result (Appends (W.contents writer.old) (W.contents writer.new) (text frames.now)) }
-    ensures front { OnErr result (AppendsFront (W.contents writer.old) (W.contents writer.new) (text frames.now)) }
-    ensures fault { IfErr result (λ fault. (fault ≡ ServeFault.Write) ⊎ (fault ≡ ServeFault.Memory)) }
+    ensures sent { OnOk result (Appends (W.contents writer.old) (W.contents writer.new)
+        (text frames.now)) }
+    ensures front { OnErr result (AppendsFront (W.contents writer.old) (W.contents writer.new)
+        (text frames.now)) }
+    ensures fault { IfErr result (λ fault. (fault ≡ ServeFault.Write)
+        ⊎ (fault ≡ ServeFault.Memory)) }
 {
     for frame in frames {
         send_lent(alloc, writer, frame)?;

@@ -56,7 +56,8 @@ impl<D: Disk, M: Machine<Command, Outcome = Outcome, Question = Question, Answer
         alloc: Global,
         node: Node<D, Command, M>,
     ) -> Result<Server<D, M>, Node<D, Command, M>>
-        ensures { MatchResult result (λ server. (server.node ≡ node) × (server.outbox ≡ [])) (λ refused. refused ≡ node) }
+        ensures { MatchResult result (λ server. (server.node ≡ node) × (server.outbox ≡ []))
+            (λ refused. refused ≡ node) }
     {
         match Outbox::new(alloc) {
             Ok(outbox) => Ok(Server {
@@ -104,7 +105,9 @@ impl<D: Disk, M: Machine<Command, Outcome = Outcome, Question = Question, Answer
         requires sound { IsSound D.state octets_of M.commands self.old.node }
         requires fits { InputFits octets_of input.now }
         requires within { IsWithin input.now }
-        ensures handled { Handled D.state (store_of Asked M.client_id M.outcome) M.basis M.is_answer self.old input.now (result ∷ []) self.new }
+        ensures handled { Handled D.state
+            (store_of Asked M.client_id M.outcome) M.basis M.is_answer self.old input.now
+            (result ∷ []) self.new }
         ensures sound { IsSound D.state octets_of M.commands self.new.node }
         ensures alloc { self.new.alloc ≡ self.old.alloc }
     {
@@ -123,7 +126,9 @@ impl<D: Disk, M: Machine<Command, Outcome = Outcome, Question = Question, Answer
         requires sound { IsSound D.state octets_of M.commands self.old.node }
         requires fits { InputFits octets_of input }
         requires within { IsWithin input }
-        ensures said { Says (Handled D.state (store_of Asked M.client_id M.outcome) M.basis M.is_answer self.old input) (W.contents writer.old) result self.new (W.contents writer.new) }
+        ensures said { Says (Handled D.state
+            (store_of Asked M.client_id M.outcome) M.basis M.is_answer self.old input)
+            (W.contents writer.old) result self.new (W.contents writer.new) }
         ensures sound { IsSound D.state octets_of M.commands self.new.node }
     {
         let frame = self.handle(&input);
@@ -132,7 +137,9 @@ impl<D: Disk, M: Machine<Command, Outcome = Outcome, Question = Question, Answer
 
     /// Writes the messages that wait, and their count. None waits then.
     fn give<W: Write>(&mut self, writer: &mut W) -> Result<(), ServeFault>
-        ensures said { Says (Given D.state (store_of Asked M.client_id M.outcome) M.basis M.is_answer self.old) (W.contents writer.old) result self.new (W.contents writer.new) }
+        ensures said { Says (Given D.state
+            (store_of Asked M.client_id M.outcome) M.basis M.is_answer self.old)
+            (W.contents writer.old) result self.new (W.contents writer.new) }
         ensures same { self.new.node ≡ self.old.node }
     {
         let frames = self.outbox.frames();
@@ -151,7 +158,9 @@ impl<D: Disk, M: Machine<Command, Outcome = Outcome, Question = Question, Answer
     ) -> Result<(), ServeFault>
         requires sound { IsSound D.state octets_of M.commands self.old.node }
         requires fits { Fits frame }
-        ensures answers { Answers (Turn D.state (store_of Asked M.client_id M.outcome) M.basis M.is_answer) self.old frame (W.contents writer.old) result self.new (W.contents writer.new) }
+        ensures answers { Answers (Turn D.state
+            (store_of Asked M.client_id M.outcome) M.basis M.is_answer) self.old frame
+            (W.contents writer.old) result self.new (W.contents writer.new) }
         ensures sound { IsSound D.state octets_of M.commands self.new.node }
     {
         match frame {

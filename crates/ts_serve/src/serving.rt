@@ -39,7 +39,9 @@ where
     M: Machine<Command, Outcome = Outcome, Question = Question, Answer = Answer>,
     W: Write,
     requires { IsSound D.state octets_of M.commands server.old.node }
-    ensures drains { Drains (Turn D.state (store_of Asked M.client_id M.outcome) M.basis M.is_answer) feed.old server.old (W.contents writer.old) result server.new feed.new (W.contents writer.new) }
+    ensures drains { Drains (Turn D.state
+        (store_of Asked M.client_id M.outcome) M.basis M.is_answer) feed.old server.old
+        (W.contents writer.old) result server.new feed.new (W.contents writer.new) }
     ensures sound { IsSound D.state octets_of M.commands server.new.node }
 {
     loop {
@@ -67,8 +69,10 @@ where
     W: Write,
     requires sound { IsSound D.state octets_of M.commands server.old.node }
     requires partial { IsPartial feed.old }
-    ensures reads { Reads (Turn D.state (store_of Asked M.client_id M.outcome) M.basis M.is_answer) (R.remaining reader.old) (R.remaining reader.new)
-        feed.old server.old (W.contents writer.old) result server.new feed.new (W.contents writer.new) }
+    ensures reads { Reads (Turn D.state (store_of Asked M.client_id M.outcome) M.basis M.is_answer)
+        (R.remaining reader.old) (R.remaining reader.new)
+        feed.old server.old (W.contents writer.old) result server.new feed.new
+        (W.contents writer.new) }
     ensures sound { IsSound D.state octets_of M.commands server.new.node }
 {
     match reader.read(buffer) {
@@ -96,7 +100,9 @@ where
     R: Read,
     W: Write,
     requires { IsSound D.state octets_of M.commands server.old.node }
-    ensures serves { Serves (Turn D.state (store_of Asked M.client_id M.outcome) M.basis M.is_answer) (R.remaining reader.old) server.old (W.contents writer.old)
+    ensures serves { Serves (Turn D.state
+        (store_of Asked M.client_id M.outcome) M.basis M.is_answer)
+        (R.remaining reader.old) server.old (W.contents writer.old)
         result (R.remaining reader.new) server.new (W.contents writer.new) }
     ensures sound { IsSound D.state octets_of M.commands server.new.node }
 {
@@ -122,14 +128,16 @@ fn end_of(feed: &Feed) -> Result<(), ServeFault>
     }
 }
 
-/// Answers the requests that a reader gives, on a writer, each when its turn comes, up to the end of the stream or to a fault in a
-/// frame's place, whose answer comes last. An interrupted read or write is tried again.
+/// Answers the requests that a reader gives, on a writer, each when its turn comes, up to the end
+/// of the stream or to a fault in a frame's place, whose answer comes last. An interrupted read or
+/// write is tried again.
 ///
 /// # Errors
 ///
 /// `Read` and `Write` where the reader or the writer fails; `ReadLimit` where the stream has not ended after `READ_LIMIT` reads; `Cut`
-/// where it ends within a frame; `Frame` with the fault in a frame's place; `Memory` that is refused. The server has then answered
-/// the frames that were taken, and what was written is a front of those answers. A node's fault is answered, and the stream goes on.
+/// where it ends within a frame; `Frame` with the fault in a frame's place; `Memory` that is
+/// refused. The server has then answered the frames that were taken, and what was written is a
+/// front of those answers. A node's fault is answered, and the stream goes on.
 pub fn serve<D, M, R, W>(
     server: &mut Server<D, M>,
     reader: &mut R,
@@ -141,14 +149,23 @@ where
     R: Read,
     W: Write,
     requires { IsSound D.state octets_of M.commands server.old.node }
-    // Where the reader tells its octets: what is written is the text of the answers to the stream's requests, and nothing else.
-    ensures served { IfSome (R.remaining reader.old) (λ stream. IsServed (Turn D.state (store_of Asked M.client_id M.outcome) M.basis M.is_answer) stream
+    // Where the reader tells its octets: what is written is the text of the answers to the stream's
+    // requests, and nothing else.
+    ensures served { IfSome (R.remaining reader.old)
+        (λ stream. IsServed (Turn D.state
+        (store_of Asked M.client_id M.outcome) M.basis M.is_answer) stream
         server.old (W.contents writer.old) result server.new (W.contents writer.new)) }
     // Those are the requests among the frames that the stream splits into.
-    ensures exact { IfSome (R.remaining reader.old) (λ stream. (frames : List Request) (fault : Option FrameFault) → Splits stream frames fault
-        → IsAnswered (Turn D.state (store_of Asked M.client_id M.outcome) M.basis M.is_answer) frames fault server.old (W.contents writer.old) result server.new (W.contents writer.new)) }
+    ensures exact { IfSome (R.remaining reader.old)
+        (λ stream. (frames : List Request) (fault : Option FrameFault)
+        → Splits stream frames fault
+        → IsAnswered (Turn D.state (store_of Asked M.client_id M.outcome) M.basis M.is_answer)
+        frames fault server.old (W.contents writer.old) result server.new
+        (W.contents writer.new)) }
     // Whatever is read, the server has answered some requests, one after another.
-    ensures run { (requests answers : List Request) × Run (Turn D.state (store_of Asked M.client_id M.outcome) M.basis M.is_answer) server.old requests answers server.new }
+    ensures run { (requests answers : List Request)
+        × Run (Turn D.state (store_of Asked M.client_id M.outcome) M.basis M.is_answer) server.old
+        requests answers server.new }
     ensures sound { IsSound D.state octets_of M.commands server.new.node }
 {
     serve_within(server, reader, writer, READ_LIMIT)

@@ -96,7 +96,9 @@ fn server(alloc: Global, me: u8, nodes: u8, passing: u64) -> Result<Option<Serve
     requires from { 1 ≤ me }
     requires to { me ≤ nodes }
     requires few { nodes ≤ 9 }
-    ensures { IfOk result (λ found. IfSome found (λ server. IsSound state_of octets_of ⟦<Applies as Machine<Command>>⟧.commands server.node)) }
+    ensures { IfOk result (λ found. IfSome found
+        (λ server. IsSound state_of octets_of ⟦<Applies as Machine<Command>>⟧.commands
+        server.node)) }
 {
     let mut a = MemDisk::new(alloc, Vec::new(alloc))?;
     let mut b = MemDisk::new(alloc, Vec::new(alloc))?;
@@ -245,7 +247,8 @@ impl Read for Failing<'_> {
     }
 }
 
-/// What a writer with so much room has after Submit and Take, and how that ends; where so many octets are read before a read fails.
+/// What a writer with so much room has after Submit and Take, and how that ends; where so many
+/// octets are read before a read fails.
 fn narrowed(
     alloc: Global,
     room: usize,

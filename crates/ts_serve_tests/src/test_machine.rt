@@ -49,7 +49,8 @@ impl Machine<Command> for Applies {
 
     ghost basis = { λ machine. tt };
 
-    ghost is_answer = { λ basis commands question answer. answer ≡ answered (length commands) NoAnchor };
+    ghost is_answer = { λ basis commands question answer. answer
+        ≡ answered (length commands) NoAnchor };
 
     ghost commands = { λ machine. machine.commands.items };
 

@@ -1,10 +1,20 @@
--- The numbers of the rules that a certificate's octets can break: 1 to 17 those of DER, 32 to 38 those of certificates.
+-- The numbers of the rules that a certificate's octets can break: 1 to 17 those of DER, 32 to 38
+-- those of certificates.
 use Rattle.std.specs.Prelude.{ℕ, Result, Ok, Err}
 use Rattle.ts_der.specs.declared.fault.DerFault.{DerFault}
-use Rattle.ts_der.specs.declared.fault.DerFault.TheVariants.{Truncated, HighTag, Indefinite, LongLength, TooLarge, WrongTag, Trailing, IntegerForm, BooleanForm, BitsForm, NamedBits, OidForm, SetOrder, DefaultEncoded, TextForm, TimeForm, Empty}
+use Rattle.ts_der.specs.declared.fault.DerFault.TheVariants.{Truncated, HighTag, Indefinite}
+use Rattle.ts_der.specs.declared.fault.DerFault.TheVariants.{LongLength, TooLarge, WrongTag}
+use Rattle.ts_der.specs.declared.fault.DerFault.TheVariants.{Trailing, IntegerForm, BooleanForm}
+use Rattle.ts_der.specs.declared.fault.DerFault.TheVariants.{BitsForm, NamedBits, OidForm, SetOrder}
+use Rattle.ts_der.specs.declared.fault.DerFault.TheVariants.{DefaultEncoded, TextForm, TimeForm}
+use Rattle.ts_der.specs.declared.fault.DerFault.TheVariants.{Empty}
 use Rattle.ts_der.specs.declared.fault.Fault.{Fault}
 use Rattle.ts_shape.specs.declared.fault.CertRule.{CertRule}
-use Rattle.ts_shape.specs.declared.fault.CertRule.TheVariants.{Der, AlgorithmMismatch, DuplicateExtension, Version, ExtensionsInOldVersion, SubtreeBounds, DuplicatePolicy, AddressLength}
+use Rattle.ts_shape.specs.declared.fault.CertRule.TheVariants.{Der, AlgorithmMismatch}
+use Rattle.ts_shape.specs.declared.fault.CertRule.TheVariants.{DuplicateExtension, Version}
+use Rattle.ts_shape.specs.declared.fault.CertRule.TheVariants.{ExtensionsInOldVersion}
+use Rattle.ts_shape.specs.declared.fault.CertRule.TheVariants.{SubtreeBounds, DuplicatePolicy}
+use Rattle.ts_shape.specs.declared.fault.CertRule.TheVariants.{AddressLength}
 use Rattle.ts_shape.specs.declared.fault.CertFault.{CertFault}
 
 -- the number of a rule of DER

@@ -1,5 +1,7 @@
--- Fields of a SEQUENCE that more than one format has: the octets that encode each, and how it is read.
-use Rattle.std.specs.Prelude.{◌≡◌, ℕ, true, List, [], ◌∷◌, drop, Option, Some, None, Result, Ok, if◌then◌else◌}
+-- Fields of a SEQUENCE that more than one format has: the octets that encode each, and how it is
+-- read.
+use Rattle.std.specs.Prelude.{◌≡◌, ℕ, true, List, [], ◌∷◌, drop, Option, Some, None, Result, Ok}
+use Rattle.std.specs.Prelude.{if◌then◌else◌}
 use Rattle.ts_der.specs.declared.fault.Fault.{Fault}
 use Rattle.ts_der.specs.Answer.{◌>>=◌}
 use Rattle.ts_der.specs.Element.{Place, Tlv, Fits, encode}
@@ -11,7 +13,8 @@ use Rattle.ts_der.specs.Reading.{value_at, begins_with, element_at}
 -- ---- encoding
 
 -- octets that are one element of this tag, whose content encodes a value
-pub record Within {A : Type 0} (tag : ℕ) (Encodes : List ℕ → A → Type 0) (octets : List ℕ) (x : A) : Type 0 where
+pub record Within {A : Type 0} (tag : ℕ) (Encodes : List ℕ → A → Type 0) (octets : List ℕ)
+    (x : A) : Type 0 where
   pub content : List ℕ
   pub fits : Fits tag content
   pub encoded : octets ≡ encode tag content
@@ -61,5 +64,7 @@ unfoldable pub bits_at : Place → Result (List ℕ × Place) Fault
 bits_at = within 0x03 (value_at whole_octets_rules (λ c. drop 1 c))
 
 -- a field of this tag that may be absent
-unfoldable pub optional_of : {A : Type 0} → ℕ → (Tlv → Result A Fault) → Place → Result (Option A × Place) Fault
-optional_of tag value here = if begins_with tag here.rest then (element_at tag here >>= λ e. value e.0 >>= λ x. Ok (Some x, e.1)) else Ok (None, here)
+unfoldable pub optional_of : {A : Type 0} → ℕ → (Tlv → Result A Fault) → Place
+    → Result (Option A × Place) Fault
+optional_of tag value here = if begins_with tag here.rest
+    then (element_at tag here >>= λ e. value e.0 >>= λ x. Ok (Some x, e.1)) else Ok (None, here)

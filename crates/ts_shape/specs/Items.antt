@@ -1,5 +1,7 @@
--- SEQUENCE OF and SET OF with one item or more (X.680 26, X.690 8.10): how the items are read, and the octets that they are.
-use Rattle.std.specs.Prelude.{◌≡◌, ◌≢◌, ℕ, zero, suc, ◌==◌, List, [], ◌∷◌, ◌++◌, length, Result, Ok, Err, if◌then◌else◌}
+-- SEQUENCE OF and SET OF with one item or more (X.680 26, X.690 8.10): how the items are read, and
+-- the octets that they are.
+use Rattle.std.specs.Prelude.{◌≡◌, ◌≢◌, ℕ, zero, suc, ◌==◌, List, [], ◌∷◌, ◌++◌, length, Result, Ok}
+use Rattle.std.specs.Prelude.{Err, if◌then◌else◌}
 use Rattle.ts_der.specs.declared.fault.DerFault.TheVariants.{Empty, WrongTag}
 use Rattle.ts_der.specs.declared.fault.Fault.{Fault}
 use Rattle.ts_der.specs.Answer.{◌>>=◌}
@@ -32,10 +34,12 @@ of_tag tag value e = tagged_as tag e >>= value
 
 -- the items within an element, of which there is one or more
 unfoldable pub some_of : {A : Type 0} → (Tlv → Result A Fault) → Tlv → Result (List A) Fault
-some_of value e = many (each value) (inside e) >>= λ xs. value_at some_rules (λ c. c) e >>= λ some. Ok xs
+some_of value e = many (each value) (inside e) >>= λ xs. value_at some_rules
+    (λ c. c) e >>= λ some. Ok xs
 
 -- octets that are one element of a CHOICE (X.680 29), by its tag and content
-pub record IsChoice {A : Type 0} (Is : ℕ → List ℕ → A → Type 0) (octets : List ℕ) (x : A) : Type 0 where
+pub record IsChoice {A : Type 0} (Is : ℕ → List ℕ → A → Type 0) (octets : List ℕ)
+    (x : A) : Type 0 where
   pub tag : ℕ
   pub content : List ℕ
   pub fits : Fits tag content
@@ -45,7 +49,8 @@ pub record IsChoice {A : Type 0} (Is : ℕ → List ℕ → A → Type 0) (octet
 -- octets that are items one after another
 abbrev pub AreItems : {A : Type 0} → (List ℕ → A → Type 0) → List ℕ → List A → Type 0
 AreItems Encodes octets [] = octets ≡ []
-AreItems Encodes octets (x ∷ xs) = (w : List ℕ) × (rest : List ℕ) × Encodes w x × (octets ≡ w ++ rest) × AreItems Encodes rest xs
+AreItems Encodes octets (x ∷ xs) =
+    (w : List ℕ) × (rest : List ℕ) × Encodes w x × (octets ≡ w ++ rest) × AreItems Encodes rest xs
 
 -- one item or more
 abbrev pub AreSome : {A : Type 0} → (List ℕ → A → Type 0) → List ℕ → List A → Type 0
@@ -57,11 +62,14 @@ abbrev pub first_then : {A : Type 0} → Result (A × Place) Fault → (Place �
 first_then (Ok x) others = x.0 ∷ others x.1
 first_then (Err f) others = []
 
--- the items at a place, up to the first that can't be read, where there are no more of them than this
+-- the items at a place, up to the first that can't be read, where there are no more of them than
+-- this
 abbrev pub upto_from : {A : Type 0} → ℕ → (Tlv → Result A Fault) → Place → List A
 upto_from zero value here = []
-upto_from (suc n) value here = if is_end here.rest then [] else first_then (each value here) (upto_from n value)
+upto_from (suc n) value here = if is_end here.rest then []
+    else first_then (each value here) (upto_from n value)
 
--- the items at a place, up to the first that can't be read: all of them where reading them was not refused
+-- the items at a place, up to the first that can't be read: all of them where reading them was not
+-- refused
 unfoldable pub items_at : {A : Type 0} → (Tlv → Result A Fault) → Place → List A
 items_at value here = upto_from (length here.rest) value here

@@ -2,7 +2,11 @@
 use Rattle.std.specs.Prelude.{ℕ, List, codes}
 use Rattle.ts_der.specs.Printed.{fault_name}
 use Rattle.ts_shape.specs.declared.fault.CertRule.{CertRule}
-use Rattle.ts_shape.specs.declared.fault.CertRule.TheVariants.{Der, AlgorithmMismatch, DuplicateExtension, Version, ExtensionsInOldVersion, SubtreeBounds, DuplicatePolicy, AddressLength}
+use Rattle.ts_shape.specs.declared.fault.CertRule.TheVariants.{Der, AlgorithmMismatch}
+use Rattle.ts_shape.specs.declared.fault.CertRule.TheVariants.{DuplicateExtension, Version}
+use Rattle.ts_shape.specs.declared.fault.CertRule.TheVariants.{ExtensionsInOldVersion}
+use Rattle.ts_shape.specs.declared.fault.CertRule.TheVariants.{SubtreeBounds, DuplicatePolicy}
+use Rattle.ts_shape.specs.declared.fault.CertRule.TheVariants.{AddressLength}
 
 -- the name of a rule; of a rule of DER that which it has there
 abbrev pub rule_name : CertRule → List ℕ

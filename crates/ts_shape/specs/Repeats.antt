@@ -1,5 +1,7 @@
--- What a list states twice: the first item, by its place, that is known by the key of an earlier one.
-use Rattle.std.specs.Prelude.{◌≡◌, ℕ, ◌-◌, Bool, true, false, List, [], ◌∷◌, length, map, Option, Some, None, if◌then◌else◌}
+-- What a list states twice: the first item, by its place, that is known by the key of an earlier
+-- one.
+use Rattle.std.specs.Prelude.{◌≡◌, ℕ, ◌-◌, Bool, true, false, List, [], ◌∷◌, length, map, Option}
+use Rattle.std.specs.Prelude.{Some, None, if◌then◌else◌}
 use Rattle.std.specs.Borrow.{Bor}
 use Rattle.std.specs.Cmp.Lexicographic.{slice_cmp}
 use Rattle.std.specs.List.{AllByRecursion, list_any, slice_index, slice_index_or, slice_set}
@@ -14,7 +16,8 @@ is_among k keys = list_any (bytes_eq k) keys
 -- the first item whose key is among the keys seen, or is that of an earlier item
 unfoldable pub first_repeated : {A : Type 0} → (A → List ℕ) → List (List ℕ) → List A → Option A
 first_repeated key seen [] = None
-first_repeated key seen (x ∷ xs) = if is_among (key x) seen then Some x else first_repeated key (key x ∷ seen) xs
+first_repeated key seen (x ∷ xs) =
+    if is_among (key x) seen then Some x else first_repeated key (key x ∷ seen) xs
 
 -- the keys that a table holds
 abbrev pub keys_in : List (Bor (List ℕ)) → List (List ℕ)

@@ -1,5 +1,6 @@
 -- The rows of elements that more than one format has, and of names.
-use Rattle.std.specs.Prelude.{ℕ, zero, suc, ◌+◌, not, List, [], ◌∷◌, take, drop, length, if◌then◌else◌}
+use Rattle.std.specs.Prelude.{ℕ, zero, suc, ◌+◌, not, List, [], ◌∷◌, take, drop, length}
+use Rattle.std.specs.Prelude.{if◌then◌else◌}
 use Rattle.ts_der.specs.declared.fault.DerFault.TheVariants.{Empty, SetOrder}
 use Rattle.ts_der.specs.Rules.{Rule, rule}
 use Rattle.ts_der.specs.Header.{header_size, length_of}
@@ -44,11 +45,13 @@ abbrev pub elements_of : ℕ → List ℕ → List (List ℕ)
 elements_of zero octets = []
 elements_of (suc n) octets =
     if is_end octets then []
-    else take (header_size octets + length_of octets) octets ∷ elements_of n (drop (header_size octets + length_of octets) octets)
+    else take (header_size octets + length_of octets) octets
+    ∷ elements_of n (drop (header_size octets + length_of octets) octets)
 
 -- there is an element, and they ascend (X.690 11.6)
 abbrev pub set_rules : List Rule
-set_rules = rule Empty (λ c. is_end c) ∷ rule SetOrder (λ c. not (ascends (elements_of (length c) c))) ∷ []
+set_rules = rule Empty (λ c. is_end c)
+    ∷ rule SetOrder (λ c. not (ascends (elements_of (length c) c))) ∷ []
 
 -- SET SIZE (1..MAX) OF
 abbrev pub set_of : Row → Row

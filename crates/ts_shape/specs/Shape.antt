@@ -1,5 +1,7 @@
--- The shape of DER (X.690 8.1, 10, 11) as a table: which elements follow one another, down to the octets, and the first rule broken.
-use Rattle.std.specs.Prelude.{ℕ, zero, suc, ◌==◌, ◌||◌, not, Bool, false, List, length, Option, Some, None, option_map, if◌then◌else◌}
+-- The shape of DER (X.690 8.1, 10, 11) as a table: which elements follow one another, down to the
+-- octets, and the first rule broken.
+use Rattle.std.specs.Prelude.{ℕ, zero, suc, ◌==◌, ◌||◌, not, Bool, false, List, length, Option}
+use Rattle.std.specs.Prelude.{Some, None, option_map, if◌then◌else◌}
 use Rattle.ts_der.specs.declared.fault.DerFault.TheVariants.{WrongTag, Trailing}
 use Rattle.ts_der.specs.Rules.{Rule, first_broken}
 use Rattle.ts_der.specs.Element.{Place, Tlv, inside}
@@ -20,7 +22,8 @@ infixr 30 ◌then◌
 mutual
   -- what one element is
   pub data Row : Type 0 where
-    -- of this tag, with content of a shape, which then keeps the rules; or, if of another tag, what the next row says
+    -- of this tag, with content of a shape, which then keeps the rules; or, if of another tag, what
+    -- the next row says
     tagged : ℕ → Shape → ContentRules → Row → Row
     -- of any tag
     any : Row
@@ -62,19 +65,24 @@ None or_else other = other
 
 -- the first rule that the header of the element at a place breaks
 abbrev pub header_fault : Place → Option CertFault
-header_fault here = option_map (λ kind. breaks here.at (Der kind)) (first_broken header_rules here.rest)
+header_fault here = option_map (λ kind. breaks here.at (Der kind))
+    (first_broken header_rules here.rest)
 
--- the same for elements up to the end, and of what each is, at a place that has no more of them than this
+-- the same for elements up to the end, and of what each is, at a place that has no more of them
+-- than this
 abbrev pub each_fault : (Tlv → Option CertFault) → ℕ → Place → Option CertFault
 each_fault fault zero here = None
 each_fault fault (suc n) here =
-    if is_end here.rest then None else header_fault here or_else fault (element_of here) or_else each_fault fault n (behind here)
+    if is_end here.rest then None else header_fault here or_else fault
+    (element_of here) or_else each_fault fault n (behind here)
 
 abbrev mutual
-  -- the first rule that an element with a header breaks: of its tag, then within it, then of its content as a whole
+  -- the first rule that an element with a header breaks: of its tag, then within it, then of its
+  -- content as a whole
   pub row_fault : Row → Tlv → Option CertFault
   row_fault (tagged tag shape rules other) e =
-      if e.tag == tag then judge shape (inside e) or_else option_map (breaks e.at) (rules e.content) else row_fault other e
+      if e.tag == tag then judge shape (inside e) or_else option_map (breaks e.at)
+      (rules e.content) else row_fault other e
   row_fault any e = None
   row_fault no_other e = Some (breaks e.at (Der WrongTag))
   row_fault (optional row) e = row_fault row e
@@ -83,7 +91,8 @@ abbrev mutual
   pub judge : Shape → Place → Option CertFault
   judge (row then others) here =
       if is_absent row here.rest then judge others here
-      else header_fault here or_else row_fault row (element_of here) or_else judge others (behind here)
+      else header_fault here or_else row_fault row (element_of here) or_else judge others
+      (behind here)
   judge (items row) here = each_fault (row_fault row) (length here.rest) here
   judge nothing here = if is_end here.rest then None else Some (breaks here.at (Der Trailing))
   judge plain here = None

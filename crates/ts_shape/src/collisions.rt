@@ -1,11 +1,15 @@
-//! The first item of a list that repeats an earlier one, among those whose keys have a hash that an earlier key has.
+//! The first item of a list that repeats an earlier one, among those whose keys have a hash that an
+//! earlier key has.
 
-ghost use Rattle.std.specs.Prelude.{◌≡◌, ◌<◌, ◌≤◌, [], None, length, take, option_map, IsPermutation};
+ghost use Rattle.std.specs.Prelude.{◌≡◌, ◌<◌, ◌≤◌, [], None, length, take, option_map};
+ghost use Rattle.std.specs.Prelude.{IsPermutation};
 ghost use Rattle.ts_der.specs.Element.{inside};
 ghost use Rattle.ts_der.specs.View.{now};
 ghost use Rattle.ts_shape.specs.Items.{items_at};
-ghost use Rattle.ts_shape.specs.Repeats.{first_repeated as first_repeated_of, keys_in, AreAscending};
-ghost use Rattle.ts_shape.specs.Collisions.{flag_of as flag_in, AreFlagged, AreCollisions, place_of as place_in};
+ghost use Rattle.ts_shape.specs.Repeats.{first_repeated as first_repeated_of, keys_in};
+ghost use Rattle.ts_shape.specs.Repeats.{AreAscending};
+ghost use Rattle.ts_shape.specs.Collisions.{flag_of as flag_in, AreFlagged, AreCollisions};
+ghost use Rattle.ts_shape.specs.Collisions.{place_of as place_in};
 
 use crate::repeats::Keyed;
 use crate::sequence_of::SequenceItems;
@@ -15,10 +19,11 @@ use ts_der::Element;
 /// 2^64 over the golden ratio, an odd number.
 const GOLDEN: u64 = 0x9E37_79B9_7F4A_7C15;
 
-/// The first of the items within an element that has the key of an earlier one, up to the first item that can't be read.
-/// A first walk sets a flag of `M` for each key, by its hash, and keeps the keys whose flag was set before, the collisions,
-/// in a table of `N`; a second one looks the items up in the table, and the first that it meets again is it. Where there
-/// are more collisions than the table has room for, both walks are made again for the next of them, with another hash.
+/// The first of the items within an element that has the key of an earlier one, up to the first
+/// item that can't be read. A first walk sets a flag of `M` for each key, by its hash, and keeps
+/// the keys whose flag was set before, the collisions, in a table of `N`; a second one looks the
+/// items up in the table, and the first that it meets again is it. Where there are more collisions
+/// than the table has room for, both walks are made again for the next of them, with another hash.
 #[inline(never)]
 pub fn first_repeated_of_collisions<'a, T: Keyed<'a>, const N: usize, const M: usize>(
     list: Element<'a>,
@@ -27,7 +32,8 @@ pub fn first_repeated_of_collisions<'a, T: Keyed<'a>, const N: usize, const M: u
     requires flags { 0 < M }
     requires small { N ≤ 32768 }
     requires few { M ≤ 262144 }
-    ensures { option_map T.record_of result ≡ first_repeated_of T.key_of [] (items_at T.reading (inside (now list.entry))) }
+    ensures { option_map T.record_of result
+        ≡ first_repeated_of T.key_of [] (items_at T.reading (inside (now list.entry))) }
 {
     let mut table = ArrayVec::<&'a [u8], N>::new();
     let mut passed = 0;
@@ -43,8 +49,8 @@ pub fn first_repeated_of_collisions<'a, T: Keyed<'a>, const N: usize, const M: u
     }
 }
 
-/// Passes items until an empty table is full of keys that an earlier item may have, and answers how many it passed. The
-/// first `known` are known to have keys of their own.
+/// Passes items until an empty table is full of keys that an earlier item may have, and answers how
+/// many it passed. The first `known` are known to have keys of their own.
 #[inline(never)]
 fn gather<'a, T: Keyed<'a>, const N: usize, const M: usize>(
     table: &mut ArrayVec<&'a [u8], N>,
@@ -55,9 +61,13 @@ fn gather<'a, T: Keyed<'a>, const N: usize, const M: usize>(
     requires flags { 0 < M }
     requires few { M ≤ 262144 }
     requires empty { table.old.items ≡ [] }
-    requires distinct { first_repeated_of T.key_of [] (take known (items_at T.reading (inside (now list)))) ≡ None }
-    ensures collisions { AreCollisions T.key_of (keys_in table.new.items) [] (take result (items_at T.reading (inside (now list.entry)))) }
-    ensures all { length table.new.items < N → take result (items_at T.reading (inside (now list.entry))) ≡ items_at T.reading (inside (now list.entry)) }
+    requires distinct { first_repeated_of T.key_of []
+        (take known (items_at T.reading (inside (now list)))) ≡ None }
+    ensures collisions { AreCollisions T.key_of (keys_in table.new.items) []
+        (take result (items_at T.reading (inside (now list.entry)))) }
+    ensures all { length table.new.items < N
+        → take result (items_at T.reading (inside (now list.entry)))
+        ≡ items_at T.reading (inside (now list.entry)) }
     ensures further { 0 < length table.new.items → known < result }
     ensures within { result ≤ length (items_at T.reading (inside (now list.entry))) }
 {
@@ -78,8 +88,8 @@ fn gather<'a, T: Keyed<'a>, const N: usize, const M: usize>(
     passed
 }
 
-/// The number of a key's flag, of `M`: by a hash that multiplies (Knuth, The Art of Computer Programming, 6.4), another
-/// one for each odd factor.
+/// The number of a key's flag, of `M`: by a hash that multiplies (Knuth, The Art of Computer
+/// Programming, 6.4), another one for each odd factor.
 #[inline(always)]
 #[tactic(auto, unfolding(crate::specs::Collisions::flag_of))]
 fn flag_of<const M: usize>(key: &[u8], factor: u64) -> usize
@@ -102,7 +112,8 @@ fn sort<const N: usize>(table: &mut ArrayVec<&[u8], N>)
     table.sort_unstable();
 }
 
-/// The first of `end` items whose key an earlier one has, where the keys of all that repeat one are in the table.
+/// The first of `end` items whose key an earlier one has, where the keys of all that repeat one are
+/// in the table.
 #[inline(never)]
 fn first_met_again<'a, T: Keyed<'a>, const N: usize, const M: usize>(
     table: &[&'a [u8]],
@@ -115,8 +126,10 @@ fn first_met_again<'a, T: Keyed<'a>, const N: usize, const M: usize>(
     requires small { N ≤ 32768 }
     requires room { length table.now ≤ N }
     requires ascending { AreAscending table.now }
-    requires collisions { AreCollisions T.key_of (keys_in table.now) [] (take end (items_at T.reading (inside (now list)))) }
-    ensures { option_map T.record_of result ≡ first_repeated_of T.key_of [] (take end (items_at T.reading (inside (now list.entry)))) }
+    requires collisions { AreCollisions T.key_of (keys_in table.now) []
+        (take end (items_at T.reading (inside (now list)))) }
+    ensures { option_map T.record_of result
+        ≡ first_repeated_of T.key_of [] (take end (items_at T.reading (inside (now list.entry)))) }
 {
     if table.is_empty() {
         return None;
@@ -153,7 +166,8 @@ fn set_flags<const M: usize>(flags: &mut [bool; M], table: &[&[u8]], factor: u64
     }
 }
 
-/// The place of the first key in a table that is equal to this one, where the flags of those in the table are set.
+/// The place of the first key in a table that is equal to this one, where the flags of those in the
+/// table are set.
 #[inline(always)]
 fn place_of<const M: usize>(
     key: &[u8],

@@ -12,7 +12,8 @@ use ts_der::{DerFault, Fault};
 pub enum CertRule {
     /// A rule of DER.
     Der(DerFault),
-    /// The signature algorithm within what is signed is not the one beside the signature (RFC 5280 4.1.1.2).
+    /// The signature algorithm within what is signed is not the one beside the signature (RFC 5280
+    /// 4.1.1.2).
     AlgorithmMismatch,
     /// An extension that occurs twice (RFC 5280 4.2).
     DuplicateExtension,
@@ -24,12 +25,14 @@ pub enum CertRule {
     SubtreeBounds,
     /// A policy that occurs twice among the certificate policies (RFC 5280 4.2.1.4).
     DuplicatePolicy,
-    /// An IP address of neither 4 nor 16 octets, or in a subtree of neither 8 nor 32 (RFC 5280 4.2.1.6, 4.2.1.10).
+    /// An IP address of neither 4 nor 16 octets, or in a subtree of neither 8 nor 32 (RFC 5280
+    /// 4.2.1.6, 4.2.1.10).
     AddressLength,
 }
 
 impl CertRule {
-    /// The number by which the rule is sent and stored: that of a rule of DER is 1 to 17, that of the others 32 to 38.
+    /// The number by which the rule is sent and stored: that of a rule of DER is 1 to 17, that of
+    /// the others 32 to 38.
     pub fn code(self) -> u8
         ensures { result ≡ code_of self }
     {

@@ -1,9 +1,10 @@
-//! Shapes of DER as tables, lists of items, and the first item of a list that repeats an earlier one: what the readers of
-//! names, extensions, certificates and revocation lists have in common.
+//! Shapes of DER as tables, lists of items, and the first item of a list that repeats an earlier
+//! one: what the readers of names, extensions, certificates and revocation lists have in common.
 //!
-//! A shape says which elements follow one another (`specs/Shape.antt`: `sequence`, `optional`, `items`, `any`), and `judge`
-//! is the first rule that octets break, with its offset. Each format of the crates above is one such table, and its reader
-//! refuses exactly what `judge` says (`proofs/Judging.antt` has one lemma for each kind of row).
+//! A shape says which elements follow one another (`specs/Shape.antt`: `sequence`, `optional`,
+//! `items`, `any`), and `judge` is the first rule that octets break, with its offset. Each format
+//! of the crates above is one such table, and its reader refuses exactly what `judge` says
+//! (`proofs/Judging.antt` has one lemma for each kind of row).
 //!
 //! ```text
 //! let list = SequenceOf::<OidRef<'_>>::read(element)?;    // one object identifier or more, each checked once

@@ -35,11 +35,13 @@ const MIDDLE: usize = 16_384;
 /// A list of no more octets, and of no middle length, is long. No certificate has a longer one.
 const LONG: usize = 65_536;
 
-/// The first of the items within an element that has the key of an earlier one, up to the first item that can't be
-/// read. It takes no memory but tables on the stack: 140 kB at most for a list of no more than 65,536 octets, 680 kB
-/// for a longer one. Most lists need none; others are gone over twice, or more often where many keys have one hash.
+/// The first of the items within an element that has the key of an earlier one, up to the first
+/// item that can't be read. It takes no memory but tables on the stack: 140 kB at most for a list
+/// of no more than 65,536 octets, 680 kB for a longer one. Most lists need none; others are gone
+/// over twice, or more often where many keys have one hash.
 pub fn first_repeated<'a, T: Keyed<'a>>(list: Element<'a>) -> Option<T>
-    ensures { option_map T.record_of result ≡ first_repeated_of T.key_of [] (items_at T.reading (inside (now list.entry))) }
+    ensures { option_map T.record_of result
+        ≡ first_repeated_of T.key_of [] (items_at T.reading (inside (now list.entry))) }
 {
     if have_ends_of_their_own::<T>(list) {
         return None;
@@ -54,7 +56,8 @@ pub fn first_repeated<'a, T: Keyed<'a>>(list: Element<'a>) -> Option<T>
 
 /// Whether each key ends in an octet in which no other does, so that none occurs twice.
 fn have_ends_of_their_own<'a, T: Keyed<'a>>(list: Element<'a>) -> bool
-    ensures { result ≡ true → first_repeated_of T.key_of [] (items_at T.reading (inside (now list.entry))) ≡ None }
+    ensures { result ≡ true → first_repeated_of T.key_of []
+        (items_at T.reading (inside (now list.entry))) ≡ None }
 {
     let mut ends = LastOctets::new();
     for item in SequenceItems::<T>::within(list) {
@@ -92,13 +95,16 @@ impl LastOctets {
         LastOctets { seen: [false; 256] }
     }
 
-    /// Whether a key ends in an octet of its own, which is then one of these. An empty key counts as one that ends in 0.
+    /// Whether a key ends in an octet of its own, which is then one of these. An empty key counts
+    /// as one that ends in 0.
     pub fn is_new(&mut self, key: &[u8]) -> bool
         ensures new { result ≡ not (is_end_met self.old key.now) }
         ensures met { self.new ≡ with_end self.old key.now }
         // A key that ends in an octet of its own is none of those whose ends these are.
-        ensures none { (keys : List (List ℕ)) → HaveEnds keys self.old → result ≡ true → is_among key.now keys ≡ false }
-        ensures more { (keys : List (List ℕ)) → HaveEnds keys self.old → HaveEnds (key.now ∷ keys) self.new }
+        ensures none { (keys : List (List ℕ)) → HaveEnds keys self.old → result ≡ true
+            → is_among key.now keys ≡ false }
+        ensures more { (keys : List (List ℕ)) → HaveEnds keys self.old
+            → HaveEnds (key.now ∷ keys) self.new }
     {
         let end = end_of(key);
         let is_new = !self.seen[end];

@@ -132,8 +132,8 @@ impl<'a, T: FromElement<'a>> Iterator for SequenceItems<'a, T> {
 }
 
 impl<'a, T> SequenceOf<'a, T> {
-    /// The items within an element that `read` has accepted before. Of another element they are those up to the first
-    /// that can't be read.
+    /// The items within an element that `read` has accepted before. Of another element they are
+    /// those up to the first that can't be read.
     pub fn within(element: Element<'a>) -> SequenceOf<'a, T>
         ensures { result.element ≡ element.entry }
     {
@@ -145,10 +145,12 @@ impl<'a, T> SequenceOf<'a, T> {
 }
 
 impl<'a, T: FromElement<'a>> SequenceOf<'a, T> {
-    /// The items that an element's content is, or the first rule that is broken: of each item in turn, and then
+    /// The items that an element's content is, or the first rule that is broken: of each item in
+    /// turn, and then
     /// `Empty` at the element where there is none. The element's tag is not looked at.
     pub fn read(element: Element<'a>) -> Result<SequenceOf<'a, T>, Fault>
-        ensures { Answers (λ x. items_at T.reading (inside (now x.element))) result (some_of T.reading (now element.entry)) }
+        ensures { Answers (λ x. items_at T.reading (inside (now x.element))) result
+            (some_of T.reading (now element.entry)) }
     {
         check_items::<T>(element)?;
         Ok(SequenceOf {

@@ -23,11 +23,13 @@ id_line octets = codes "id " ++ hex (sha256 octets)
 
 -- the same, and the second line has the digest
 abbrev pub HeadedById : Kind → List ℕ → List (List ℕ) → Type 0
-HeadedById kind octets lines = (rest : List (List ℕ)) × (lines ≡ word_of kind ∷ id_line octets ∷ rest)
+HeadedById kind octets lines = (rest : List (List ℕ))
+    × (lines ≡ word_of kind ∷ id_line octets ∷ rest)
 
 -- the line that says why octets are no certificate: the rule and its place
 abbrev pub certificate_fault_line : Option CertFault → List ℕ
-certificate_fault_line (Some fault) = codes "no certificate: " ++ (rule_name fault.kind ++ (codes " at " ++ decimal fault.at))
+certificate_fault_line (Some fault) =
+    codes "no certificate: " ++ (rule_name fault.kind ++ (codes " at " ++ decimal fault.at))
 certificate_fault_line None = []
 
 -- the line that says why octets are no list: the rule, and its place where it has one
@@ -35,18 +37,20 @@ abbrev pub list_fault_line : Option ListFault → List ℕ
 list_fault_line (Some fault) = codes "no list: " ++ fault_text fault
 list_fault_line None = []
 
--- how the lines of a kind begin: with its word, and with the digest of a certificate and of a list; of what is neither they
--- are the two faults, and of what is unknown its word alone
+-- how the lines of a kind begin: with its word, and with the digest of a certificate and of a list;
+-- of what is neither they are the two faults, and of what is unknown its word alone
 abbrev pub Begin : List ℕ → Kind → List (List ℕ) → Type 0
 Begin octets kind.Record lines = HeadedBy kind.Record lines
 Begin octets kind.Certificate lines = HeadedById kind.Certificate octets lines
 Begin octets kind.List lines = HeadedById kind.List octets lines
 Begin octets kind.Command lines = HeadedBy kind.Command lines
 Begin octets kind.Question lines = HeadedBy kind.Question lines
-Begin octets kind.Broken lines = lines ≡ certificate_fault_line (certificate_fault octets) ∷ list_fault_line (crl_fault octets) ∷ []
+Begin octets kind.Broken lines = lines
+    ≡ certificate_fault_line (certificate_fault octets) ∷ list_fault_line (crl_fault octets) ∷ []
 Begin octets kind.Unknown lines = lines ≡ word_of kind.Unknown ∷ []
 
--- the text is lines of printable characters, each ended by a line feed, that begin as those of what the octets hold
+-- the text is lines of printable characters, each ended by a line feed, that begin as those of what
+-- the octets hold
 pub record IsShown (octets text : List ℕ) : Type 0 where
   pub kind : Kind
   pub lines : List (List ℕ)

@@ -50,8 +50,8 @@ NoCommand octets = NoList octets × (AreCommand octets → ⊥)
 abbrev pub NoQuestion : List ℕ → Type 0
 NoQuestion octets = NoCommand octets × (AreQuestion octets → ⊥)
 
--- what octets hold: the first of a record, a certificate, a list, a command and a question that they are; else something that
--- begins as a certificate or a list does, or something unknown
+-- what octets hold: the first of a record, a certificate, a list, a command and a question that
+-- they are; else something that begins as a certificate or a list does, or something unknown
 abbrev pub IsKind : List ℕ → Kind → Type 0
 IsKind octets kind.Record = BeginsRecord octets
 IsKind octets kind.Certificate = NoRecord octets × AreCertificate octets

@@ -1,5 +1,6 @@
 -- Lines of text that a terminal shows as they are.
-use Rattle.std.specs.Prelude.{ℕ, Bool, ◌+◌, ◌/◌, ◌%◌, ◌==◌, ◌||◌, ◌&&◌, not, nat_le, nat_lt, if◌then◌else◌, List, [], ◌∷◌, ◌++◌}
+use Rattle.std.specs.Prelude.{ℕ, Bool, ◌+◌, ◌/◌, ◌%◌, ◌==◌, ◌||◌, ◌&&◌, not, nat_le, nat_lt}
+use Rattle.std.specs.Prelude.{if◌then◌else◌, List, [], ◌∷◌, ◌++◌}
 use Rattle.std.specs.List.{flat_map}
 
 -- a printable character of ASCII
@@ -22,9 +23,11 @@ two_digits octet = digit (octet / 16) ∷ digit (octet % 16) ∷ []
 abbrev pub hex : List ℕ → List ℕ
 hex octets = flat_map two_digits octets
 
--- an octet as it is shown: as itself where it is printable and no backslash, else as a backslash, x and its two digits
+-- an octet as it is shown: as itself where it is printable and no backslash, else as a backslash, x
+-- and its two digits
 abbrev pub shown_octet : ℕ → List ℕ
-shown_octet octet = if is_printable octet && not (octet == 92) then octet ∷ [] else 92 ∷ 120 ∷ two_digits octet
+shown_octet octet = if is_printable octet && not (octet == 92) then octet ∷ []
+    else 92 ∷ 120 ∷ two_digits octet
 
 -- octets as they are shown
 abbrev pub shown : List ℕ → List ℕ

@@ -17,7 +17,8 @@ use ts_shape::CertFault;
 /// Writes the name of the rule that is broken, and its place.
 #[tactic(auto, using(crate::proofs::Plain::shown_rule))]
 fn write_fault(alloc: Global, line: &mut Line, fault: CertFault) -> Result<(), AllocError>
-    ensures { OnOk result (line.new ≡ line.old ++ (rule_name fault.kind ++ (codes " at " ++ decimal fault.at))) }
+    ensures { OnOk result (line.new
+        ≡ line.old ++ (rule_name fault.kind ++ (codes " at " ++ decimal fault.at))) }
 {
     let name = format!(in alloc; "{}", fault.kind)?;
     line.text(name.as_bytes())?;
@@ -25,7 +26,8 @@ fn write_fault(alloc: Global, line: &mut Line, fault: CertFault) -> Result<(), A
     line.number(fault.at as u64)
 }
 
-/// Writes why octets are no list: the name of the rule that is broken, and its place where it has one.
+/// Writes why octets are no list: the name of the rule that is broken, and its place where it has
+/// one.
 fn write_list_fault(alloc: Global, line: &mut Line, fault: CrlFault<'_>) -> Result<(), AllocError>
     ensures { OnOk result (line.new ≡ line.old ++ fault_text (fault_in fault.entry)) }
 {

@@ -1,7 +1,8 @@
 //! What octets hold.
 
 ghost use Rattle.std.specs.Prelude.{◌≡◌, true, false, IfOk};
-ghost use Rattle.ts_show.specs.Kind.{BeginsRecord, AreCertificate, AreList, AreCommand, AreQuestion, BeginSequence, IsKind, word_of};
+ghost use Rattle.ts_show.specs.Kind.{BeginsRecord, AreCertificate, AreList, AreCommand};
+ghost use Rattle.ts_show.specs.Kind.{AreQuestion, BeginSequence, IsKind, word_of};
 
 use std::alloc::{AllocError, Global};
 use ts_cert::Cert;
@@ -89,8 +90,8 @@ fn are_question(alloc: Global, octets: &[u8]) -> Result<bool, AllocError>
     Ok(question.is_some())
 }
 
-/// What octets hold: the first of a record, a certificate, a list, a command and a question that they are, a record by its first
-/// five octets alone.
+/// What octets hold: the first of a record, a certificate, a list, a command and a question that
+/// they are, a record by its first five octets alone.
 ///
 /// # Errors
 ///

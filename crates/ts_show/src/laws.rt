@@ -6,5 +6,6 @@ ghost use Rattle.ts_show.specs.declared.kind.Kind.{Kind};
 
 /// Octets hold one kind of thing.
 pub fn one_kind()
-    ensures { (octets : List ℕ) (kind other : Kind) → IsKind octets kind → IsKind octets other → kind ≡ other }
+    ensures { (octets : List ℕ) (kind other : Kind) → IsKind octets kind → IsKind octets other
+        → kind ≡ other }
 {}

@@ -1,5 +1,5 @@
-//! What octets hold, in lines that a person reads: a certificate, a list of revoked certificates, a command of a trust store, a
-//! question or a node's record.
+//! What octets hold, in lines that a person reads: a certificate, a list of revoked certificates, a
+//! command of a trust store, a question or a node's record.
 //!
 //! ```text
 //! let text = show(alloc, &octets, &other)?;       // `other`: the record's second disk, else nothing
@@ -12,9 +12,10 @@
 //! | [`Kind::word`] | the word for a kind |
 //! | [`laws::one_kind`] | octets hold one kind of thing |
 //!
-//! What the other lines say of a certificate, a list, a command, a question and a record no clause says: tests show it. Serial
-//! numbers and the numbers of lists are hexadecimal digits. Of policyMappings, policyConstraints, authorityKeyIdentifier and
-//! issuingDistributionPoint the number of octets alone is shown, and of a distribution point nothing but its names.
+//! What the other lines say of a certificate, a list, a command, a question and a record no clause
+//! says: tests show it. Serial numbers and the numbers of lists are hexadecimal digits. Of
+//! policyMappings, policyConstraints, authorityKeyIdentifier and issuingDistributionPoint the
+//! number of octets alone is shown, and of a distribution point nothing but its names.
 #![tactic(auto)]
 
 mod certificate;

@@ -84,7 +84,8 @@ impl Line {
         Ok(())
     }
 
-    /// Writes an octet: as itself where it is printable and no backslash, else as `\x` and its two hexadecimal digits.
+    /// Writes an octet: as itself where it is printable and no backslash, else as `\x` and its two
+    /// hexadecimal digits.
     fn octet(&mut self, octet: u8) -> Result<(), AllocError>
         ensures { OnOk result (self.new ≡ self.old ++ shown_octet octet) }
     {

@@ -24,7 +24,8 @@ fn reason_name(reason: ReasonCode) -> &'static str {
     }
 }
 
-/// The line of an entry: the serial number, when the certificate was revoked, and why, where the entry says so.
+/// The line of an entry: the serial number, when the certificate was revoked, and why, where the
+/// entry says so.
 fn entry_line(lines: &mut Lines, entry: Entry<'_>) -> Result<(), AllocError> {
     let mut line = lines.begin(0, "revoked")?;
     line.word(b"")?;

@@ -9,7 +9,8 @@ use ts_name::{Attribute, General, Name, Rdn};
 /// The tag of an OBJECT IDENTIFIER (X.690 8.19).
 const OBJECT_IDENTIFIER: u8 = 0x06;
 
-/// The short names of attribute types, by the contents octets of their object identifiers (RFC 4514 3, RFC 5280 4.1.2.6).
+/// The short names of attribute types, by the contents octets of their object identifiers (RFC 4514
+/// 3, RFC 5280 4.1.2.6).
 const SHORT_NAMES: [(&[u8], &str); 7] = [
     (b"\x55\x04\x03", "CN"),
     (b"\x55\x04\x0a", "O"),
@@ -85,7 +86,8 @@ fn write_rdn(alloc: Global, line: &mut Line, rdn: Rdn<'_>) -> Result<(), AllocEr
     Ok(())
 }
 
-/// Writes a distinguished name, its relative ones in their order and a comma between each two; of an empty one a hyphen.
+/// Writes a distinguished name, its relative ones in their order and a comma between each two; of
+/// an empty one a hyphen.
 pub(crate) fn write_name(alloc: Global, line: &mut Line, name: Name<'_>) -> Result<(), AllocError> {
     let mut is_first = true;
     for rdn in name.rdns() {
@@ -140,7 +142,8 @@ fn write_numbers(line: &mut Line, octets: &[u8]) -> Result<(), AllocError> {
     Ok(())
 }
 
-/// Writes an IP address: one of four octets, or of four and a mask, as numbers, any other as hexadecimal digits.
+/// Writes an IP address: one of four octets, or of four and a mask, as numbers, any other as
+/// hexadecimal digits.
 fn write_address(line: &mut Line, octets: &[u8]) -> Result<(), AllocError> {
     match octets.len() {
         4 => write_numbers(line, octets),

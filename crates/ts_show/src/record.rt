@@ -10,8 +10,8 @@ use ts_record::{Fault, Record};
 use ts_store::Command;
 use ts_synod::Fact;
 
-/// The line of a disk: the generation of one that is live; else that it is too short for a record, that its live gate is shut, or
-/// that its header is wrong.
+/// The line of a disk: the generation of one that is live; else that it is too short for a record,
+/// that its live gate is shut, or that its header is wrong.
 fn disk_line(lines: &mut Lines, key: &str, octets: &[u8]) -> Result<(), AllocError> {
     let mut line = lines.begin(0, key)?;
     match look_at(octets) {
@@ -110,7 +110,8 @@ fn opened_lines(lines: &mut Lines, a: MemDisk, b: MemDisk) -> Result<(), AllocEr
     }
 }
 
-/// The lines of a record on two disks with these octets: what each disk is, and what the record holds.
+/// The lines of a record on two disks with these octets: what each disk is, and what the record
+/// holds.
 pub(crate) fn record_lines(
     lines: &mut Lines,
     first: &[u8],

@@ -4,7 +4,8 @@ ghost use Rattle.std.specs.Prelude.{◌≡◌, ◌++◌, [], ◌∷◌, OnOk, If
 ghost use Rattle.ts_cert.specs.Table.{certificate_fault};
 ghost use Rattle.ts_crl.specs.Table.{crl_fault};
 ghost use Rattle.ts_show.specs.Kind.{word_of};
-ghost use Rattle.ts_show.specs.Begins.{HeadedBy, HeadedById, id_line, certificate_fault_line, list_fault_line, Begin, IsShown};
+ghost use Rattle.ts_show.specs.Begins.{HeadedBy, HeadedById, id_line, certificate_fault_line};
+ghost use Rattle.ts_show.specs.Begins.{list_fault_line, Begin, IsShown};
 
 use crate::certificate::certificate_lines;
 use crate::command::command_lines;
@@ -88,7 +89,9 @@ fn headed_by_id(alloc: Global, kind: Kind, octets: &[u8], body: Lines) -> Result
 
 /// The lines that say why octets are neither a certificate nor a list.
 fn fault_lines(alloc: Global, octets: &[u8]) -> Result<Lines, AllocError>
-    ensures { IfOk result (λ lines. lines ≡ certificate_fault_line (certificate_fault octets.now) ∷ list_fault_line (crl_fault octets.now) ∷ []) }
+    ensures { IfOk result (λ lines. lines
+        ≡ certificate_fault_line (certificate_fault octets.now)
+        ∷ list_fault_line (crl_fault octets.now) ∷ []) }
 {
     let mut lines = Lines::new(alloc);
     let certificate = certificate_fault_line(alloc, octets)?;
@@ -111,8 +114,9 @@ fn lines_of(alloc: Global, kind: Kind, octets: &[u8], other: &[u8]) -> Result<Li
     }
 }
 
-/// What the octets hold, a line each, every line ended by a line feed and otherwise of printable characters of ASCII. Of a
-/// record they are the octets of its first disk, and the other ones those of its second; else the other ones are not looked at.
+/// What the octets hold, a line each, every line ended by a line feed and otherwise of printable
+/// characters of ASCII. Of a record they are the octets of its first disk, and the other ones those
+/// of its second; else the other ones are not looked at.
 ///
 /// # Errors
 ///

@@ -10,7 +10,8 @@ use ts_ext::{
 use ts_name::{GeneralNames, Subtree};
 use ts_shape::SequenceOf;
 
-/// The names of the bits of keyUsage, each with the place of its octet and its bit there (RFC 5280 4.2.1.3).
+/// The names of the bits of keyUsage, each with the place of its octet and its bit there (RFC 5280
+/// 4.2.1.3).
 const USAGES: [(usize, u8, &str); 9] = [
     (0, 0x80, "digitalSignature"),
     (0, 0x40, "nonRepudiation"),
@@ -94,7 +95,8 @@ fn subtree_lines<'a>(
     Ok(())
 }
 
-/// The lines of a distribution point: the names of the list, or that its name is relative (RFC 5280 4.2.1.13).
+/// The lines of a distribution point: the names of the list, or that its name is relative (RFC 5280
+/// 4.2.1.13).
 fn point_lines(lines: &mut Lines, point: DistributionPoint<'_>) -> Result<(), AllocError> {
     match point.name {
         Some(PointName::FullName(names)) => general_lines(lines, 1, names),
@@ -111,8 +113,9 @@ fn points_lines(lines: &mut Lines, points: DistributionPoints<'_>) -> Result<(),
     Ok(())
 }
 
-/// The lines of a value of these octets: of policyMappings, policyConstraints, authorityKeyIdentifier and
-/// issuingDistributionPoint how many octets there are, and so of an extension that is not read.
+/// The lines of a value of these octets: of policyMappings, policyConstraints,
+/// authorityKeyIdentifier and issuingDistributionPoint how many octets there are, and so of an
+/// extension that is not read.
 pub(crate) fn value_lines(
     lines: &mut Lines,
     value: Ext<'_>,

@@ -4,7 +4,8 @@ use Rattle.std.specs.List.{flat_map}
 use Rattle.std.specs.Int.{to_be_bytes, w32}
 use Rattle.ts_store.specs.Purposes.{ArePurposes}
 use Rattle.ts_store.specs.declared.command.Command.{Command}
-use Rattle.ts_store.specs.declared.command.Command.TheVariants.{AddAnchor, WithdrawAnchor, LoadCrl, DropCrl, SetPurposes, Noop}
+use Rattle.ts_store.specs.declared.command.Command.TheVariants.{AddAnchor, WithdrawAnchor, LoadCrl}
+use Rattle.ts_store.specs.declared.command.Command.TheVariants.{DropCrl, SetPurposes, Noop}
 
 -- one octet of length, and that many octets
 abbrev pub blob8 : List ℕ → List ℕ

@@ -1,5 +1,6 @@
 -- A table of lists of revoked certificates, complete ones or deltas, and what commands do to it.
-use Rattle.std.specs.Prelude.{ℕ, int_lt, nat_le, Bool, not, List, [], ◌∷◌, ◌++◌, length, suc, Option, Some, None, option_map, Result, Ok, Err, if◌then◌else◌}
+use Rattle.std.specs.Prelude.{ℕ, int_lt, nat_le, Bool, not, List, [], ◌∷◌, ◌++◌, length, suc}
+use Rattle.std.specs.Prelude.{Option, Some, None, option_map, Result, Ok, Err, if◌then◌else◌}
 use Rattle.std.specs.List.{find, remove}
 use Rattle.std.specs.Str.{bytes_eq}
 use Rattle.sha2.specs.Sha256.{sha256}
@@ -27,7 +28,8 @@ is_newer_by (Some n) (Some m) later = int_lt (twos_complement m) (twos_complemen
 is_newer_by n m later = later
 
 abbrev pub is_newer : CertificateList → CertificateList → Bool
-is_newer new held = is_newer_by (number_of new) (number_of held) (int_lt held.tbsCertList.thisUpdate.moment new.tbsCertList.thisUpdate.moment)
+is_newer new held = is_newer_by (number_of new) (number_of held)
+    (int_lt held.tbsCertList.thisUpdate.moment new.tbsCertList.thisUpdate.moment)
 
 -- whether a list that is kept has the slot of another one
 abbrev pub has_slot : CertificateList → StoredCrl → Bool
@@ -36,12 +38,14 @@ has_slot new held = is_same_slot (list_in held) new
 -- the list takes the place of the first one that has its slot
 abbrev pub replaced : StoredCrl → List StoredCrl → List StoredCrl
 replaced new [] = []
-replaced new (held ∷ lists) = if has_slot (list_in new) held then new ∷ lists else held ∷ replaced new lists
+replaced new (held ∷ lists) = if has_slot (list_in new) held then new ∷ lists
+    else held ∷ replaced new lists
 
 -- a list in a new slot goes last; one in a held slot takes the other's place, where it is newer
 abbrev pub put_by : StoredCrl → List StoredCrl → Option StoredCrl → Result (List StoredCrl) Refusal
 put_by new lists None = refuse_if (nat_le 1024 (length lists)) StoreFull (Ok (lists ++ new ∷ []))
-put_by new lists (Some held) = refuse_if (not (is_newer (list_in new) (list_in held))) OlderCrl (Ok (replaced new lists))
+put_by new lists (Some held) = refuse_if (not (is_newer (list_in new) (list_in held))) OlderCrl
+    (Ok (replaced new lists))
 
 abbrev pub put_list : StoredCrl → List StoredCrl → Result (List StoredCrl) Refusal
 put_list new lists = put_by new lists (find (has_slot (list_in new)) lists)

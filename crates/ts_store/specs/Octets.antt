@@ -1,11 +1,14 @@
--- The octets of a command in a record: its one encoding. A value that is no command of a store, as one whose id has not 16 octets, has none.
-use Rattle.std.specs.Prelude.{ℕ, Bool, true, ◌&&◌, ◌==◌, nat_le, List, [], length, Option, Some, None, if◌then◌else◌}
+-- The octets of a command in a record: its one encoding. A value that is no command of a store, as
+-- one whose id has not 16 octets, has none.
+use Rattle.std.specs.Prelude.{ℕ, Bool, true, ◌&&◌, ◌==◌, nat_le, List, [], length, Option, Some}
+use Rattle.std.specs.Prelude.{None, if◌then◌else◌}
 use Rattle.std.specs.List.{list_all}
 use Rattle.ts_der.specs.ObjectIdentifier.{is_oid}
 use Rattle.ts_store.specs.Commands.{id_of, encoding}
 use Rattle.ts_store.specs.Purposes.{is_listed}
 use Rattle.ts_store.specs.declared.command.Command.{Command}
-use Rattle.ts_store.specs.declared.command.Command.TheVariants.{AddAnchor, WithdrawAnchor, LoadCrl, DropCrl, SetPurposes, Noop}
+use Rattle.ts_store.specs.declared.command.Command.TheVariants.{AddAnchor, WithdrawAnchor, LoadCrl}
+use Rattle.ts_store.specs.declared.command.Command.TheVariants.{DropCrl, SetPurposes, Noop}
 
 abbrev pub are_purposes : Option (List (List ℕ)) → Bool
 are_purposes None = true

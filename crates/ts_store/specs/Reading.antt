@@ -14,5 +14,6 @@ FieldsOrNot kind octets id found = MatchOption found (NoFields kind octets)
 
 -- the command that octets encode, or they encode none
 abbrev pub CommandOrNot : List ℕ → Option Command → Type 0
-CommandOrNot octets found = MatchOption found ((command : Command) → Fits command → octets ≡ encoding command → ⊥)
+CommandOrNot octets found = MatchOption found
+    ((command : Command) → Fits command → octets ≡ encoding command → ⊥)
     (λ command. Fits command × (octets ≡ encoding command))

@@ -9,8 +9,8 @@ use Rattle.ts_store.specs.declared.outcome.Outcome.{Outcome}
 use Rattle.ts_store.specs.declared.outcome.Outcome.TheVariants.{Applied, Repeated, Refused}
 use Rattle.ts_store.specs.declared.outcome.Refusal.{Refusal}
 
--- the tables; of each id so far the first command that has it, by its position and outcome; the number of commands so far,
--- whatever their outcomes
+-- the tables; of each id so far the first command that has it, by its position and outcome; the
+-- number of commands so far, whatever their outcomes
 pub record State : Type 0 where
   pub tables : Tables
   pub ids : List (List ℕ × First)
@@ -24,18 +24,25 @@ pub record Step : Type 0 where
 -- a command with a new id holds its position and its id, whatever its outcome
 abbrev pub held : ℕ → Command → State → Tables → Outcome → Step
 held position command state tables outcome = record {
-  state = record { tables = tables; ids = with_first (id_of command) (record { position = position; outcome = outcome }) state.ids; taken = suc state.taken };
+  state = record {
+    tables = tables;
+    ids = with_first (id_of command)
+        (record { position = position; outcome = outcome }) state.ids;
+    taken = suc state.taken;
+  };
   outcome = outcome;
 }
 
 -- it changes the tables where it is not refused
 abbrev pub make : ℕ → Command → State → Result Tables Refusal → Step
 make position command state (Ok tables) = held position command state tables Applied
-make position command state (Err refusal) = held position command state state.tables (Refused refusal)
+make position command state (Err refusal) =
+    held position command state state.tables (Refused refusal)
 
 -- a command whose id is there holds its position alone
 abbrev pub step_by : ℕ → Command → State → Option First → Step
-step_by position command state (Some first) = record { state = record state { taken = suc state.taken }; outcome = Repeated first.position }
+step_by position command state (Some first) =
+    record { state = record state { taken = suc state.taken }; outcome = Repeated first.position }
 step_by position command state None = make position command state (change command state.tables)
 
 -- one command at its position

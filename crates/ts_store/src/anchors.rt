@@ -1,9 +1,11 @@
 //! The table of trust anchors.
 
-ghost use Rattle.std.specs.Prelude.{◌≡◌, ◌<◌, ◌≤◌, ◌++◌, ◌∷◌, [], List, Option, Some, length, option_map, is_some, IfOk, IfSome, OnErr};
+ghost use Rattle.std.specs.Prelude.{◌≡◌, ◌<◌, ◌≤◌, ◌++◌, ◌∷◌, [], List, Option, Some, length};
+ghost use Rattle.std.specs.Prelude.{option_map, is_some, IfOk, IfSome, OnErr};
 ghost use Rattle.sha2.specs.Sha256.{sha256};
 ghost use Rattle.ts_cert.specs.Table.{certificate_fault};
-ghost use Rattle.ts_store.specs.Anchors.{place_of as place_in, new_refusal, add_anchor, withdraw_anchor, set_purposes, with_purposes};
+ghost use Rattle.ts_store.specs.Anchors.{place_of as place_in, new_refusal, add_anchor};
+ghost use Rattle.ts_store.specs.Anchors.{withdraw_anchor, set_purposes, with_purposes};
 ghost use Rattle.ts_store.specs.Changes.{Becomes};
 ghost use Rattle.ts_store.specs.declared.anchor.TrustAnchor.{TrustAnchor as Anchor};
 
@@ -56,7 +58,8 @@ impl Anchors {
     ///
     /// Memory that is refused. Nothing is changed then.
     pub fn add(&mut self, alloc: Global, certificate: &[u8]) -> Result<Option<Refusal>, AllocError>
-        ensures done { IfOk result (λ refusal. Becomes refusal self.old self.new (add_anchor certificate.now self.old)) }
+        ensures done { IfOk result (λ refusal. Becomes refusal self.old self.new
+            (add_anchor certificate.now self.old)) }
         ensures memory { OnErr result (self.new ≡ self.old) }
     {
         add_to(&mut self.anchors, alloc, certificate)
@@ -80,7 +83,8 @@ impl Anchors {
         id: &[u8],
         purposes: &Purposes,
     ) -> Result<Option<Refusal>, AllocError>
-        ensures done { IfOk result (λ refusal. Becomes refusal self.old self.new (set_purposes id.now purposes.now self.old)) }
+        ensures done { IfOk result (λ refusal. Becomes refusal self.old self.new
+            (set_purposes id.now purposes.now self.old)) }
         ensures memory { OnErr result (self.new ≡ self.old) }
     {
         set_in(&mut self.anchors, alloc, id, purposes)
@@ -127,7 +131,8 @@ fn add_to(
     alloc: Global,
     certificate: &[u8],
 ) -> Result<Option<Refusal>, AllocError>
-    ensures done { IfOk result (λ refusal. Becomes refusal anchors.old.items anchors.new.items (add_anchor certificate.now anchors.old.items)) }
+    ensures done { IfOk result (λ refusal. Becomes refusal anchors.old.items anchors.new.items
+        (add_anchor certificate.now anchors.old.items)) }
     ensures memory { OnErr result (anchors.new.items ≡ anchors.old.items) }
 {
     let kept = match OwnedCert::read(alloc, certificate) {
@@ -148,7 +153,8 @@ fn add_to(
 }
 
 fn withdraw_from(anchors: &mut Vec<TrustAnchor>, id: &[u8]) -> Option<Refusal>
-    ensures { Becomes result anchors.old.items anchors.new.items (withdraw_anchor id.now anchors.old.items) }
+    ensures { Becomes result anchors.old.items anchors.new.items
+        (withdraw_anchor id.now anchors.old.items) }
 {
     match place_of_anchor(anchors, id) {
         Some(i) => {
@@ -165,7 +171,8 @@ fn set_in(
     id: &[u8],
     purposes: &Purposes,
 ) -> Result<Option<Refusal>, AllocError>
-    ensures done { IfOk result (λ refusal. Becomes refusal anchors.old.items anchors.new.items (set_purposes id.now purposes.now anchors.old.items)) }
+    ensures done { IfOk result (λ refusal. Becomes refusal anchors.old.items anchors.new.items
+        (set_purposes id.now purposes.now anchors.old.items)) }
     ensures memory { OnErr result (anchors.new.items ≡ anchors.old.items) }
 {
     match place_of_anchor(anchors, id) {

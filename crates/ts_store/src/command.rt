@@ -1,6 +1,7 @@
 //! Commands.
 
-ghost use Rattle.std.specs.Prelude.{◌≡◌, ◌<◌, ◌≤◌, List, ℕ, Some, length, IfOk, IfSome, MatchResult};
+ghost use Rattle.std.specs.Prelude.{◌≡◌, ◌<◌, ◌≤◌, List, ℕ, Some, length, IfOk, IfSome};
+ghost use Rattle.std.specs.Prelude.{MatchResult};
 ghost use Rattle.ts_store.specs.Commands.{id_of, encoding, Fits};
 ghost use Rattle.ts_store.specs.declared.command.Command.TheVariants.{AddAnchor, LoadCrl};
 
@@ -46,13 +47,15 @@ pub enum Command {
 }
 
 impl Command {
-    /// The command that adds a trust anchor with these octets as its certificate, which may be none.
+    /// The command that adds a trust anchor with these octets as its certificate, which may be
+    /// none.
     ///
     /// # Errors
     ///
     /// `TooLong` exactly where there are more than 65,536 octets.
     pub fn add_anchor(id: [u8; 16], certificate: Vec<u8>) -> Result<Command, TooLong>
-        ensures { MatchResult result (λ command. (command ≡ AddAnchor id certificate.items) × (length certificate.items ≤ 65536)) (λ _. 65536 < length certificate.items) }
+        ensures { MatchResult result (λ command. (command ≡ AddAnchor id certificate.items)
+            × (length certificate.items ≤ 65536)) (λ _. 65536 < length certificate.items) }
     {
         let certificate = CertificateOctets::new(certificate)?;
         Ok(Command::AddAnchor { id, certificate })
@@ -64,7 +67,8 @@ impl Command {
     ///
     /// `TooLong` exactly where there are more than 4,194,304 octets.
     pub fn load_crl(id: [u8; 16], crl: Vec<u8>) -> Result<Command, TooLong>
-        ensures { MatchResult result (λ command. (command ≡ LoadCrl id crl.items) × (length crl.items ≤ 4194304)) (λ _. 4194304 < length crl.items) }
+        ensures { MatchResult result (λ command. (command ≡ LoadCrl id crl.items)
+            × (length crl.items ≤ 4194304)) (λ _. 4194304 < length crl.items) }
     {
         let crl = CrlOctets::new(crl)?;
         Ok(Command::LoadCrl { id, crl })
@@ -119,17 +123,19 @@ impl Command {
         })
     }
 
-    /// The command that octets are: 16 octets of id, an octet of the kind, and its fields. `None` exactly where they are
-    /// not one whole command.
+    /// The command that octets are: 16 octets of id, an octet of the kind, and its fields. `None`
+    /// exactly where they are not one whole command.
     ///
     /// # Errors
     ///
     /// Memory that is refused.
     pub fn read(alloc: Global, octets: &[u8]) -> Result<Option<Command>, AllocError>
         // What is read is encoded so.
-        ensures found { IfOk result (λ read. IfSome read (λ command. Fits command × (octets.now ≡ encoding command))) }
+        ensures found { IfOk result (λ read. IfSome read
+            (λ command. Fits command × (octets.now ≡ encoding command))) }
         // What is encoded so is read.
-        ensures only { (command : Command) → Fits command → octets.now ≡ encoding command → IfOk result (λ read. read ≡ Some command) }
+        ensures only { (command : Command) → Fits command → octets.now ≡ encoding command
+            → IfOk result (λ read. read ≡ Some command) }
     {
         read_command(alloc, octets)
     }

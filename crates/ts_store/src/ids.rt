@@ -19,8 +19,8 @@ pub struct First {
 
 /// The first command of each id so far.
 ///
-/// Clients choose the ids, so they are kept in order: whatever ids are chosen, a look-up takes a number of steps that grows
-/// with the logarithm of theirs.
+/// Clients choose the ids, so they are kept in order: whatever ids are chosen, a look-up takes a
+/// number of steps that grows with the logarithm of theirs.
 #[derive(Drop)]
 pub(crate) struct Ids {
     firsts: BTreeMap<[u8; 16], First>,

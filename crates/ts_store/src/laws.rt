@@ -1,5 +1,5 @@
-//! Laws about the encoding of commands, and about the fold of them that the store is. Each is on a function that does
-//! nothing.
+//! Laws about the encoding of commands, and about the fold of them that the store is. Each is on a
+//! function that does nothing.
 
 ghost use Rattle.std.specs.Prelude.{◌≡◌, ◌⊎◌, List, ℕ, suc, ◌++◌, Some, None};
 ghost use Rattle.ts_store.specs.Store.{State, step, after};
@@ -11,18 +11,28 @@ ghost use Rattle.ts_store.specs.declared.ids.First.{First};
 
 /// No two commands have one encoding, and no two lists of octets are one command's.
 pub fn one_encoding()
-    ensures command { (command other : Command) → Fits command → Fits other → encoding command ≡ encoding other → command ≡ other }
-    ensures octets { (octets others : List ℕ) (command : Command) → octets ≡ encoding command → others ≡ encoding command → octets ≡ others }
+    ensures command { (command other : Command) → Fits command → Fits other
+        → encoding command ≡ encoding other → command ≡ other }
+    ensures octets { (octets others : List ℕ) (command : Command) → octets ≡ encoding command
+        → others ≡ encoding command → octets ≡ others }
 {}
 
-/// A command that is not applied leaves the tables as they are; each command takes one position; a command with a new id
-/// holds it with its position and outcome, and keeps it whatever commands follow; commands one after another are those of
-/// both lists.
+/// A command that is not applied leaves the tables as they are; each command takes one position; a
+/// command with a new id holds it with its position and outcome, and keeps it whatever commands
+/// follow; commands one after another are those of both lists.
 pub fn one_step()
-    ensures unchanged { (position : ℕ) (command : Command) (state : State) → ((step position command state).outcome ≡ Applied) ⊎ ((step position command state).state.tables ≡ state.tables) }
-    ensures taken { (position : ℕ) (command : Command) (state : State) → (step position command state).state.taken ≡ suc state.taken }
-    ensures held { (position : ℕ) (command : Command) (state : State) → first_of (id_of command) state.ids ≡ None
-        → first_of (id_of command) (step position command state).state.ids ≡ Some (record { position = position; outcome = (step position command state).outcome }) }
-    ensures kept { (position : ℕ) (command : Command) (state : State) (id : List ℕ) (first : First) → first_of id state.ids ≡ Some first → first_of id (step position command state).state.ids ≡ Some first }
-    ensures joined { (state : State) (commands more : List Command) → after state (commands ++ more) ≡ after (after state commands) more }
+    ensures unchanged { (position : ℕ) (command : Command) (state : State)
+        → ((step position command state).outcome ≡ Applied)
+        ⊎ ((step position command state).state.tables ≡ state.tables) }
+    ensures taken { (position : ℕ) (command : Command) (state : State)
+        → (step position command state).state.taken ≡ suc state.taken }
+    ensures held { (position : ℕ) (command : Command) (state : State)
+        → first_of (id_of command) state.ids ≡ None
+        → first_of (id_of command) (step position command state).state.ids
+        ≡ Some (record { position = position; outcome = (step position command state).outcome }) }
+    ensures kept { (position : ℕ) (command : Command) (state : State) (id : List ℕ) (first : First)
+        → first_of id state.ids ≡ Some first
+        → first_of id (step position command state).state.ids ≡ Some first }
+    ensures joined { (state : State) (commands more : List Command)
+        → after state (commands ++ more) ≡ after (after state commands) more }
 {}

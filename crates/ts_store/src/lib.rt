@@ -9,10 +9,11 @@
 //! let outcome = store.apply(1, &command)?;                     // Applied, Repeated(position) or Refused(why)
 //! ```
 //!
-//! A command is 16 octets of id, an octet of the kind and its fields, numbers being big endian: 01 a certificate after
-//! four octets of its length; 02 the 32 octets of an anchor's id; 03 a list of revoked certificates like a certificate; 04
-//! the 32 octets of a list's id; 05 an anchor's id and its purposes (`00` for any; else `01`, an octet of their number, and
-//! the contents octets of each after an octet of their length, strictly ascending); 06 nothing.
+//! A command is 16 octets of id, an octet of the kind and its fields, numbers being big endian: 01
+//! a certificate after four octets of its length; 02 the 32 octets of an anchor's id; 03 a list of
+//! revoked certificates like a certificate; 04 the 32 octets of a list's id; 05 an anchor's id and
+//! its purposes (`00` for any; else `01`, an octet of their number, and the contents octets of each
+//! after an octet of their length, strictly ascending); 06 nothing.
 //!
 //! | Call | Clauses |
 //! |---|---|
@@ -29,13 +30,15 @@
 //! | [`Store::first`], [`Store::taken`], [`Store::tables`], [`Store::anchors`], [`Store::crls`], [`Store::deltas`] | what the store's value says |
 //! | [`laws::one_step`] | of the store's definition: a command that is not applied leaves the tables; each takes one position; a new id is held with its position and outcome, and keeps them; the fold over two lists |
 //!
-//! A list of revoked certificates is kept in the slot of its issuer, its issuing distribution point and its authority key
-//! identifier; complete lists and deltas have slots of their own. [`StoredCrl::crl`] lends the list and
-//! [`TrustAnchor::certificate`] the certificate, which are read once, when they come.
+//! A list of revoked certificates is kept in the slot of its issuer, its issuing distribution point
+//! and its authority key identifier; complete lists and deltas have slots of their own.
+//! [`StoredCrl::crl`] lends the list and [`TrustAnchor::certificate`] the certificate, which are
+//! read once, when they come.
 //!
-//! Clients choose the ids. They are kept in an ordered map, so that a look-up takes a number of steps that grows with the
-//! logarithm of their number whatever ids are chosen; no ids collide, as they would in a table whose hash is known. A load
-//! is compared with the lists that are kept, at most 1,024.
+//! Clients choose the ids. They are kept in an ordered map, so that a look-up takes a number of
+//! steps that grows with the logarithm of their number whatever ids are chosen; no ids collide, as
+//! they would in a table whose hash is known. A load is compared with the lists that are kept, at
+//! most 1,024.
 //!
 //! Memory that is refused is answered as `AllocError`.
 #![tactic(auto)]

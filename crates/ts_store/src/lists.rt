@@ -1,11 +1,13 @@
 //! A table of lists of revoked certificates, complete ones or deltas.
 
 ghost use Rattle.std.specs.List.{find};
-ghost use Rattle.std.specs.Prelude.{◌≡◌, ◌<◌, ◌++◌, ◌∷◌, [], List, Option, Some, None, length, slice_index, option_map, IfOk, IfSome, OnErr};
+ghost use Rattle.std.specs.Prelude.{◌≡◌, ◌<◌, ◌++◌, ◌∷◌, [], List, Option, Some, None, length};
+ghost use Rattle.std.specs.Prelude.{slice_index, option_map, IfOk, IfSome, OnErr};
 ghost use Rattle.ts_crl.specs.ListView.{crl_in};
 ghost use Rattle.ts_crl.specs.OwnedView.{list_of};
 ghost use Rattle.ts_store.specs.Changes.{Becomes};
-ghost use Rattle.ts_store.specs.Lists.{list_in, is_newer as is_newer_list, has_slot as has_slot_of, has_id, put_list, place_by, drop_list};
+ghost use Rattle.ts_store.specs.Lists.{list_in, is_newer as is_newer_list, has_slot as has_slot_of};
+ghost use Rattle.ts_store.specs.Lists.{has_id, put_list, place_by, drop_list};
 
 use crate::outcome::Refusal;
 use crate::stored::StoredCrl;
@@ -48,14 +50,15 @@ impl Crls {
         self.lists.as_slice()
     }
 
-    /// Puts a list as the last one, or, where one of its slot is there that is older, in that one's place; or answers why
-    /// not.
+    /// Puts a list as the last one, or, where one of its slot is there that is older, in that one's
+    /// place; or answers why not.
     ///
     /// # Errors
     ///
     /// Memory that is refused. Nothing is changed then.
     pub fn put(&mut self, alloc: Global, new: StoredCrl) -> Result<Option<Refusal>, AllocError>
-        ensures done { IfOk result (λ refusal. Becomes refusal self.old self.new (put_list new self.old)) }
+        ensures done { IfOk result (λ refusal. Becomes refusal self.old self.new
+            (put_list new self.old)) }
         ensures memory { OnErr result (self.new ≡ self.old) }
     {
         put_in(&mut self.lists, alloc, new)
@@ -96,7 +99,8 @@ pub fn place_of_slot(
     lists: &[StoredCrl],
     new: Crl<'_>,
 ) -> Result<Option<usize>, AllocError>
-    ensures place { IfOk result (λ place. place ≡ place_by (has_slot_of (crl_in new.entry)) lists.now) }
+    ensures place { IfOk result (λ place. place
+        ≡ place_by (has_slot_of (crl_in new.entry)) lists.now) }
     ensures within { IfOk result (λ place. IfSome place (λ i. i < length lists.now)) }
 {
     for i in 0..lists.len() {
@@ -136,7 +140,8 @@ fn replace_at(lists: &mut Vec<StoredCrl>, i: usize, new: StoredCrl) -> Option<Re
 /// Puts a list of a new slot.
 fn add_last(lists: &mut Vec<StoredCrl>, new: StoredCrl) -> Result<Option<Refusal>, AllocError>
     requires { None ≡ place_by (has_slot_of (list_in new)) lists.now.items }
-    ensures done { IfOk result (λ refusal. Becomes refusal lists.old.items lists.new.items (put_list new lists.old.items)) }
+    ensures done { IfOk result (λ refusal. Becomes refusal lists.old.items lists.new.items
+        (put_list new lists.old.items)) }
     ensures memory { OnErr result (lists.new.items ≡ lists.old.items) }
 {
     if lists.len() >= MAX_CRLS {
@@ -151,7 +156,8 @@ fn put_in(
     alloc: Global,
     new: StoredCrl,
 ) -> Result<Option<Refusal>, AllocError>
-    ensures done { IfOk result (λ refusal. Becomes refusal lists.old.items lists.new.items (put_list new lists.old.items)) }
+    ensures done { IfOk result (λ refusal. Becomes refusal lists.old.items lists.new.items
+        (put_list new lists.old.items)) }
     ensures memory { OnErr result (lists.new.items ≡ lists.old.items) }
 {
     match place_of_slot(alloc, lists, new.crl.view())? {

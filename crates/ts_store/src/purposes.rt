@@ -1,6 +1,7 @@
 //! The purposes of a trust anchor.
 
-ghost use Rattle.std.specs.Prelude.{◌≡◌, ◌&&◌, ℕ, nat_le, true, false, List, Some, None, length, option_map, MatchOption, IfOk};
+ghost use Rattle.std.specs.Prelude.{◌≡◌, ◌&&◌, ℕ, nat_le, true, false, List, Some, None, length};
+ghost use Rattle.std.specs.Prelude.{option_map, MatchOption, IfOk};
 ghost use Rattle.std.specs.List.{list_all};
 ghost use Rattle.ts_der.specs.ObjectIdentifier.{is_oid};
 ghost use Rattle.ts_store.specs.Purposes.{is_ascending, is_listed, ArePurposes};
@@ -12,8 +13,8 @@ use ts_der::Oid;
 /// How many purposes a trust anchor may have, where they are not any.
 pub const MAX_PURPOSES: usize = 16;
 
-/// The purposes for which a trust anchor may be used: any, or those of a strictly ascending list of at most 16. Contracts
-/// see the contents octets of each.
+/// The purposes for which a trust anchor may be used: any, or those of a strictly ascending list of
+/// at most 16. Contracts see the contents octets of each.
 #[derive(Debug, Drop)]
 pub struct Purposes {
     oids: Option<Vec<Oid>>,
@@ -38,9 +39,11 @@ impl Purposes {
         Purposes { oids: None }
     }
 
-    /// These purposes. `None` exactly where they are more than 16, or not strictly ascending by their contents octets.
+    /// These purposes. `None` exactly where they are more than 16, or not strictly ascending by
+    /// their contents octets.
     pub fn new(oids: Vec<Oid>) -> Option<Purposes>
-        ensures { MatchOption result (is_listed oids.items ≡ false) (λ p. (p ≡ Some oids.items) × (ArePurposes (Some oids.items))) }
+        ensures { MatchOption result (is_listed oids.items ≡ false)
+            (λ p. (p ≡ Some oids.items) × (ArePurposes (Some oids.items))) }
     {
         if oids.len() > MAX_PURPOSES || !are_ascending(&oids) {
             return None;

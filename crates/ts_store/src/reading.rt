@@ -1,6 +1,7 @@
 //! Commands are read.
 
-ghost use Rattle.std.specs.Prelude.{◌≡◌, ◌≢◌, ◌≤◌, ◌<◌, ◌+◌, ◌^◌, ◌++◌, ℕ, List, length, drop, true, false, MatchOption, IfSome, IfOk, Option};
+ghost use Rattle.std.specs.Prelude.{◌≡◌, ◌≢◌, ◌≤◌, ◌<◌, ◌+◌, ◌^◌, ◌++◌, ℕ, List, length, drop};
+ghost use Rattle.std.specs.Prelude.{true, false, MatchOption, IfSome, IfOk, Option};
 ghost use Rattle.std.specs.List.{flat_map, list_all};
 ghost use Rattle.std.specs.Int.{to_be_bytes, w32};
 ghost use Rattle.ts_der.specs.Element.{encode};
@@ -30,10 +31,12 @@ fn element_of(alloc: Global, content: &[u8]) -> Result<Vec<u8>, AllocError>
     Ok(writer.finish())
 }
 
-/// The object identifier that these contents octets are. They are read as those of an element, which is written first.
+/// The object identifier that these contents octets are. They are read as those of an element,
+/// which is written first.
 fn oid_of(alloc: Global, content: &[u8]) -> Result<Option<Oid>, AllocError>
     requires { length content.now < 2 ^ 32 }
-    ensures { IfOk result (λ found. MatchOption found (is_oid content.now ≡ false) (λ oid. (oid ≡ content.now) × (is_oid content.now ≡ true))) }
+    ensures { IfOk result (λ found. MatchOption found (is_oid content.now ≡ false)
+        (λ oid. (oid ≡ content.now) × (is_oid content.now ≡ true))) }
 {
     let octets = element_of(alloc, content)?;
     let mut reader = Reader::new(octets.as_slice());
@@ -49,7 +52,8 @@ fn oid_of(alloc: Global, content: &[u8]) -> Result<Option<Oid>, AllocError>
 /// The octets of a blob that begins here, after an octet of length.
 fn short_blob(rest: &[u8]) -> Option<&[u8]>
     ensures { MatchOption result ((content after : List ℕ) → rest.now ≡ blob8 content ++ after → ⊥)
-        (λ content. (length content.now < 256) × (1 + length content.now ≤ length rest.now) × (rest.now ≡ blob8 content.now ++ drop (1 + length content.now) rest.now)) }
+        (λ content. (length content.now < 256) × (1 + length content.now ≤ length rest.now)
+        × (rest.now ≡ blob8 content.now ++ drop (1 + length content.now) rest.now)) }
 {
     let [size, octets @ ..] = rest else {
         return None;
@@ -64,8 +68,10 @@ fn short_blob(rest: &[u8]) -> Option<&[u8]>
 /// The object identifiers that the octets are, so many of them.
 fn oids_of(alloc: Global, count: u8, octets: &[u8]) -> Result<Option<Vec<Oid>>, AllocError>
     ensures { IfOk result (λ found. MatchOption found
-        ((oids : List (List ℕ)) → list_all is_oid oids ≡ true → length oids ≡ count → octets.now ≡ flat_map blob8 oids → ⊥)
-        (λ oids. (list_all is_oid oids.items ≡ true) × (length oids.items ≡ count) × (octets.now ≡ flat_map blob8 oids.items))) }
+        ((oids : List (List ℕ)) → list_all is_oid oids ≡ true → length oids ≡ count
+        → octets.now ≡ flat_map blob8 oids → ⊥)
+        (λ oids. (list_all is_oid oids.items ≡ true) × (length oids.items ≡ count)
+        × (octets.now ≡ flat_map blob8 oids.items))) }
 {
     let mut oids = Vec::new(alloc);
     let mut rest = octets;
@@ -89,7 +95,8 @@ fn oids_of(alloc: Global, count: u8, octets: &[u8]) -> Result<Option<Vec<Oid>>, 
 /// The purposes that the octets are.
 fn purposes_of(alloc: Global, octets: &[u8]) -> Result<Option<Purposes>, AllocError>
     ensures { IfOk result (λ found. MatchOption found
-        ((purposes : Option (List (List ℕ))) → ArePurposes purposes → octets.now ≡ purposes_encoding purposes → ⊥)
+        ((purposes : Option (List (List ℕ))) → ArePurposes purposes
+        → octets.now ≡ purposes_encoding purposes → ⊥)
         (λ purposes. ArePurposes purposes × (octets.now ≡ purposes_encoding purposes))) }
 {
     match octets {
@@ -107,7 +114,8 @@ fn purposes_of(alloc: Global, octets: &[u8]) -> Result<Option<Purposes>, AllocEr
 
 /// The octets of a blob that is all of these, after four octets of length.
 fn blob_of(octets: &[u8]) -> Option<&[u8]>
-    ensures { MatchOption result ((content : List ℕ) → length content < 2 ^ 32 → octets.now ≡ blob32 content → ⊥)
+    ensures { MatchOption result ((content : List ℕ) → length content < 2 ^ 32
+        → octets.now ≡ blob32 content → ⊥)
         (λ content. octets.now ≡ blob32 content.now) }
 {
     let size = u32_at(octets)?;
@@ -119,7 +127,8 @@ fn blob_of(octets: &[u8]) -> Option<&[u8]>
 
 /// The number that begins here.
 fn u32_at(rest: &[u8]) -> Option<u32>
-    ensures found { MatchOption result (length rest.now < 4) (λ n. rest.now ≡ to_be_bytes w32 n ++ drop 4 rest.now) }
+    ensures found { MatchOption result (length rest.now < 4)
+        (λ n. rest.now ≡ to_be_bytes w32 n ++ drop 4 rest.now) }
     ensures range { IfSome result (λ n. n < 2 ^ 32) }
 {
     if rest.len() < 4 {

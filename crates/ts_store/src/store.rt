@@ -13,8 +13,9 @@ use crate::tables::Tables;
 use std::alloc::{AllocError, Global};
 use std::marker::Model;
 
-/// A trust store after commands: its tables, the first command of each id, and how many commands there were. What one more
-/// command costs does not grow with their number, but for the look-up of its id, which grows with the logarithm of that.
+/// A trust store after commands: its tables, the first command of each id, and how many commands
+/// there were. What one more command costs does not grow with their number, but for the look-up of
+/// its id, which grows with the logarithm of that.
 #[derive(Drop)]
 pub struct Store {
     alloc: Global,
@@ -44,15 +45,16 @@ impl Store {
         }
     }
 
-    /// Takes the command at a position, and answers what it came to. Its position is the next one: 1, or one more than that of
-    /// the command before, whatever that came to.
+    /// Takes the command at a position, and answers what it came to. Its position is the next one:
+    /// 1, or one more than that of the command before, whatever that came to.
     ///
     /// # Errors
     ///
     /// Memory that is refused. Nothing is changed then.
     pub fn apply(&mut self, position: u32, command: &Command) -> Result<Outcome, AllocError>
         requires { position ≡ suc self.now.taken }
-        ensures done { IfOk result (λ outcome. step position command.now self.old ≡ (record { state = self.new; outcome = outcome })) }
+        ensures done { IfOk result (λ outcome. step position command.now self.old
+            ≡ (record { state = self.new; outcome = outcome })) }
         ensures taken { OnOk result (self.new.taken ≡ position) }
         ensures memory { OnErr result (self.new ≡ self.old) }
     {

@@ -15,7 +15,8 @@ use std::alloc::{AllocError, Global};
 use std::marker::Model;
 use ts_crl::{CrlFault, OwnedCrl, OwnedCrlFault};
 
-/// The trust anchors of a store, its complete lists of revoked certificates and its deltas, each in the order of the store.
+/// The trust anchors of a store, its complete lists of revoked certificates and its deltas, each in
+/// the order of the store.
 #[derive(Drop)]
 pub struct Tables {
     anchors: Anchors,
@@ -74,7 +75,8 @@ impl Tables {
         alloc: Global,
         command: &Command,
     ) -> Result<Option<Refusal>, AllocError>
-        ensures done { IfOk result (λ refusal. Becomes refusal self.old self.new (change command.now self.old)) }
+        ensures done { IfOk result (λ refusal. Becomes refusal self.old self.new
+            (change command.now self.old)) }
         ensures memory { OnErr result (self.new ≡ self.old) }
     {
         match command {
@@ -101,7 +103,8 @@ impl Tables {
     }
 
     fn load(&mut self, alloc: Global, octets: &[u8]) -> Result<Option<Refusal>, AllocError>
-        ensures done { IfOk result (λ refusal. Becomes refusal self.old self.new (load_crl octets.now self.old)) }
+        ensures done { IfOk result (λ refusal. Becomes refusal self.old self.new
+            (load_crl octets.now self.old)) }
         ensures memory { OnErr result (self.new ≡ self.old) }
     {
         let crl = match OwnedCrl::read(alloc, octets) {

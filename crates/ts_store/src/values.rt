@@ -44,7 +44,8 @@ impl CertificateOctets {
     ///
     /// `TooLong` exactly where there are more than 65,536.
     pub fn new(octets: Vec<u8>) -> Result<CertificateOctets, TooLong>
-        ensures { MatchResult result (λ c. (c ≡ octets.items) × (length octets.items ≤ 65536)) (λ _. 65536 < length octets.items) }
+        ensures { MatchResult result (λ c. (c ≡ octets.items) × (length octets.items ≤ 65536))
+            (λ _. 65536 < length octets.items) }
     {
         if octets.len() > MAX_CERTIFICATE {
             return Err(TooLong);
@@ -61,7 +62,8 @@ impl CertificateOctets {
     }
 }
 
-/// Octets that a command calls a list of revoked certificates: at most 4,194,304, which may or may not be one.
+/// Octets that a command calls a list of revoked certificates: at most 4,194,304, which may or may
+/// not be one.
 #[derive(Debug, Drop)]
 pub struct CrlOctets {
     octets: Vec<u8>,
@@ -94,7 +96,8 @@ impl CrlOctets {
     ///
     /// `TooLong` exactly where there are more than 4,194,304.
     pub fn new(octets: Vec<u8>) -> Result<CrlOctets, TooLong>
-        ensures { MatchResult result (λ c. (c ≡ octets.items) × (length octets.items ≤ 4194304)) (λ _. 4194304 < length octets.items) }
+        ensures { MatchResult result (λ c. (c ≡ octets.items) × (length octets.items ≤ 4194304))
+            (λ _. 4194304 < length octets.items) }
     {
         if octets.len() > MAX_CRL {
             return Err(TooLong);

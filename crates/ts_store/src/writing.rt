@@ -1,9 +1,11 @@
 //! Commands are written.
 
-ghost use Rattle.std.specs.Prelude.{◌≡◌, ◌≤◌, ◌<◌, ◌^◌, ◌++◌, ◌∷◌, ℕ, List, Option, true, length, take, option_map, OnOk};
+ghost use Rattle.std.specs.Prelude.{◌≡◌, ◌≤◌, ◌<◌, ◌^◌, ◌++◌, ◌∷◌, ℕ, List, Option, true, length};
+ghost use Rattle.std.specs.Prelude.{take, option_map, OnOk};
 ghost use Rattle.std.specs.List.{flat_map, list_all};
 ghost use Rattle.ts_der.specs.ObjectIdentifier.{is_oid};
-ghost use Rattle.ts_store.specs.Commands.{blob8, blob32, purposes_encoding, fields, encoding, FieldsFit, Fits};
+ghost use Rattle.ts_store.specs.Commands.{blob8, blob32, purposes_encoding, fields, encoding};
+ghost use Rattle.ts_store.specs.Commands.{FieldsFit, Fits};
 
 use crate::command::Command;
 use crate::purposes::Purposes;

@@ -1,4 +1,5 @@
-//! Tests of the store, of questions, of frames, and of what the command lines take and print, over the public calls of their crates.
+//! Tests of the store, of questions, of frames, and of what the command lines take and print, over
+//! the public calls of their crates.
 //!
 //! In a crate of their own they are proved alone: a crate with tests is proved once more with them.
 #![tactic(auto)]

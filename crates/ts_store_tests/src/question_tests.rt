@@ -159,7 +159,8 @@ const CHAINS: [(u32, usize, usize, bool); 5] = [
     (0, 1, 65_537, false),
 ];
 
-/// How many subtrees are excluded, of how many octets, how many certificates there are, and whether they are a question.
+/// How many subtrees are excluded, of how many octets, how many certificates there are, and whether
+/// they are a question.
 const SEARCHES: [(usize, usize, usize, bool); 4] = [
     (64, 65_535, 33, true),
     (65, 0, 1, false),

@@ -1,4 +1,5 @@
-//! What is shown of octets. The texts were written by hand; OpenSSL says the same for the certificate and of the list.
+//! What is shown of octets. The texts were written by hand; OpenSSL says the same for the
+//! certificate and of the list.
 
 use std::alloc::Global;
 use std::test::Fail;

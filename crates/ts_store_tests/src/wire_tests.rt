@@ -52,7 +52,8 @@ const FAULTS: &[(u8, &[u8])] = &[
     // A prefix that is cut, and one above 1,000,000.
     (4, b"\x00\x00\x00\x05\x02\x27\x00\x00\x01"),
     (4, b"\x00\x00\x00\x06\x02\x27\x00\x0f\x42\x41"),
-    // Node 0, node 10, position 0, a ballot of round 0, a ballot of node 0, and one of 2^36 and more.
+    // Node 0, node 10, position 0, a ballot of round 0, a ballot of node 0, and one of 2^36 and
+    // more.
     (4, b"\x00\x00\x00\x08\x02\x06\x00\x01\x00\x00\x00\x01"),
     (4, b"\x00\x00\x00\x08\x02\x06\x01\x0a\x00\x00\x00\x01"),
     (4, b"\x00\x00\x00\x08\x02\x06\x01\x02\x00\x00\x00\x00"),
@@ -219,7 +220,8 @@ fn strings(alloc: Global, count: usize, size: usize) -> Result<Vec<Vec<u8>>, All
     Ok(strings)
 }
 
-/// A question about a chain of one certificate of 138 octets, with so many permitted and excluded subtrees of 65,535 octets.
+/// A question about a chain of one certificate of 138 octets, with so many permitted and excluded
+/// subtrees of 65,535 octets.
 fn question(alloc: Global, subtrees: usize) -> Result<Frame, AllocError> {
     let terms = Terms {
         moment: 1_780_272_000,

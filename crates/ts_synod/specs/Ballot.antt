@@ -1,4 +1,5 @@
--- Ballots, the proposal numbers of Paxos Made Simple 2.2. Different nodes choose theirs from disjoint sets of numbers (2.5).
+-- Ballots, the proposal numbers of Paxos Made Simple 2.2. Different nodes choose theirs from
+-- disjoint sets of numbers (2.5).
 use Rattle.std.proofs.Common.{ℕ, ◌+◌, ◌*◌, ◌/◌, ◌%◌}
 
 -- the ballot of a node's round: no two nodes share one, and a later round has a greater one (2.5)

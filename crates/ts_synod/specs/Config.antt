@@ -1,4 +1,5 @@
--- The group of nodes that run the protocol, and which of them this is. Each node is proposer, acceptor and learner (Paxos Made Simple 2.5).
+-- The group of nodes that run the protocol, and which of them this is. Each node is proposer,
+-- acceptor and learner (Paxos Made Simple 2.5).
 use Rattle.std.proofs.Common.{ℕ, Bool, nat_le, ◌&&◌}
 
 -- the number of nodes, and this node's number

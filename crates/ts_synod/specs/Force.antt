@@ -1,7 +1,8 @@
--- The force of a node's facts, which is all that a step reads of its stable storage (Paxos Made Simple 2.5): the greatest round
--- that it used, and for each position the greatest ballot that it promised or took, the vote of the greatest ballot, and the command
--- that it learned.
-use Rattle.std.proofs.Common.{ℕ, max, List, [], Option, Some, None, nat_lt, ◌≡◌, ◌∷◌, ◌==◌, if◌then◌else◌}
+-- The force of a node's facts, which is all that a step reads of its stable storage (Paxos Made
+-- Simple 2.5): the greatest round that it used, and for each position the greatest ballot that it
+-- promised or took, the vote of the greatest ballot, and the command that it learned.
+use Rattle.std.proofs.Common.{ℕ, max, List, [], Option, Some, None, nat_lt, ◌≡◌, ◌∷◌, ◌==◌}
+use Rattle.std.proofs.Common.{if◌then◌else◌}
 use Rattle.ts_synod.specs.declared.message.Fact.TheVariants.{Chosen, Promised, Took, Used}
 use Rattle.ts_synod.specs.declared.message.Fact.{Fact}
 use Rattle.ts_synod.specs.declared.message.Vote.{Vote}
@@ -43,7 +44,8 @@ vote_at p (Promised q b) = None
 vote_at p (Took q b c) = if q == p then Some (record { ballot = b; command = c }) else None
 vote_at p (Chosen q c) = None
 
--- the vote of the greatest ballot at p: 'the highest-numbered proposal (if any) that it has accepted' (2.2)
+-- the vote of the greatest ballot at p: 'the highest-numbered proposal (if any) that it has
+-- accepted' (2.2)
 abbrev pub taken_vote : {C : Type 0} → ℕ → List (Fact C) → Option (Vote C)
 taken_vote p [] = None
 taken_vote p (f ∷ fs) = greater_vote (vote_at p f) (taken_vote p fs)

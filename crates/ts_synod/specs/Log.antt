@@ -1,6 +1,8 @@
--- The learner's rules (Paxos Made Simple 2.3), and the log of learned commands (3). In each, `learned` is the command learned at a
--- position, and `received` the Accepted messages received there.
-use Rattle.std.proofs.Common.{ℕ, zero, suc, List, [], Option, Some, None, Bool, false, nat_lt, nat_le, is_some, length, ◌∷◌, ◌==◌, if◌then◌else◌}
+-- The learner's rules (Paxos Made Simple 2.3), and the log of learned commands (3). In each,
+-- `learned` is the command learned at a position, and `received` the Accepted messages received
+-- there.
+use Rattle.std.proofs.Common.{ℕ, zero, suc, List, [], Option, Some, None, Bool, false, nat_lt}
+use Rattle.std.proofs.Common.{nat_le, is_some, length, ◌∷◌, ◌==◌, if◌then◌else◌}
 use Rattle.ts_synod.specs.declared.message.Body.TheVariants.{Ask, Give}
 use Rattle.ts_synod.specs.declared.message.Fact.TheVariants.{Chosen}
 use Rattle.ts_synod.specs.declared.message.Fact.{Fact}
@@ -27,7 +29,8 @@ prefix learned = leading last_position 1 learned
 
 -- the position after the prefix, or None where the log is full
 abbrev pub next_position : {C : Type 0} → (ℕ → Option C) → Option ℕ
-next_position learned = if nat_le last_position (length (prefix learned)) then None else Some (suc (length (prefix learned)))
+next_position learned = if nat_le last_position (length (prefix learned)) then None
+    else Some (suc (length (prefix learned)))
 
 -- the prefix has grown
 abbrev pub has_grown : {C : Type 0} → (ℕ → Option C) → (ℕ → Option C) → Bool
@@ -46,11 +49,17 @@ pub record LogStep (C : Type 0) : Type 0 where
 
 -- no position is learned, and the received votes are these
 abbrev pub keep_received : {C : Type 0} → (ℕ → Option C) → Received C → LogStep C
-keep_received learned received = record { facts = []; messages = []; learned = learned; received = received }
+keep_received learned received = record
+    { facts = []; messages = []; learned = learned; received = received }
 
 -- c is learned at p and kept as chosen, and the votes received there are forgotten (2.3)
 abbrev pub learn : {C : Type 0} → (ℕ → Option C) → Received C → ℕ → C → List (Message C) → LogStep C
-learn learned received p c messages = record { facts = Chosen p c ∷ []; messages = messages; learned = put learned p (Some c); received = put received p (λ a. None) }
+learn learned received p c messages = record {
+  facts = Chosen p c ∷ [];
+  messages = messages;
+  learned = put learned p (Some c);
+  received = put received p (λ a. None);
+}
 
 -- the vote is of ballot b
 abbrev pub is_vote_in : {C : Type 0} → ℕ → Option (Vote C) → Bool
@@ -58,7 +67,8 @@ is_vote_in b None = false
 is_vote_in b (Some v) = v.ballot == b
 
 -- where the votes of a majority are of ballot b, its command is chosen, and learned (2.3)
-abbrev pub count_votes : {C : Type 0} → Config → (ℕ → Option C) → Received C → ℕ → ℕ → C → (ℕ → Option (Vote C)) → LogStep C
+abbrev pub count_votes : {C : Type 0} → Config → (ℕ → Option C) → Received C → ℕ → ℕ → C
+    → (ℕ → Option (Vote C)) → LogStep C
 count_votes config learned received p b c votes =
     if is_majority config.nodes (λ a. is_vote_in b (votes a))
     then learn learned received p c []
@@ -69,11 +79,13 @@ abbrev pub with_vote : {C : Type 0} → (ℕ → Option (Vote C)) → ℕ → Vo
 with_vote votes from vote = put votes from (greater_vote (votes from) (Some vote))
 
 -- Accepted of ballot b and command c at p: it counts where p is not learned yet (2.3)
-abbrev pub on_accepted : {C : Type 0} → Config → (ℕ → Option C) → Received C → ℕ → ℕ → ℕ → C → LogStep C
+abbrev pub on_accepted : {C : Type 0} → Config → (ℕ → Option C) → Received C → ℕ → ℕ → ℕ → C
+    → LogStep C
 on_accepted config learned received from p b c =
     if is_some (learned p)
     then keep_received learned received
-    else count_votes config learned received p b c (with_vote (received p) from (record { ballot = b; command = c }))
+    else count_votes config learned received p b c
+    (with_vote (received p) from (record { ballot = b; command = c }))
 
 -- Ask a node for the next position, where there is one
 abbrev pub ask_next : {C : Type 0} → Config → ℕ → Option ℕ → List (Message C)
@@ -82,9 +94,11 @@ ask_next config node (Some p) = send config.me node (Ask p) ∷ []
 
 -- where the prefix has grown, ask the giver for the next position
 abbrev pub ask_back : {C : Type 0} → Config → (ℕ → Option C) → (ℕ → Option C) → ℕ → List (Message C)
-ask_back config before now node = if has_grown before now then ask_next config node (next_position now) else []
+ask_back config before now node =
+    if has_grown before now then ask_next config node (next_position now) else []
 
--- Give of command c at p, which its sender has learned: it is learned here too (2.3: a learner can ask another)
+-- Give of command c at p, which its sender has learned: it is learned here too (2.3: a learner can
+-- ask another)
 abbrev pub on_give : {C : Type 0} → Config → (ℕ → Option C) → Received C → ℕ → ℕ → C → LogStep C
 on_give config learned received from p c =
     if is_some (learned p)

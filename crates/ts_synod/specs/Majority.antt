@@ -1,4 +1,5 @@
--- Majorities (Paxos Made Simple 2.1, 2.2): a set of nodes is a test of node numbers, and any two majorities share a node.
+-- Majorities (Paxos Made Simple 2.1, 2.2): a set of nodes is a test of node numbers, and any two
+-- majorities share a node.
 use Rattle.std.proofs.Common.{ℕ, zero, suc, Bool, nat_lt, ◌+◌, ◌/◌, ◌≤◌, if◌then◌else◌}
 
 -- how many of the nodes 1 to n are in the set

@@ -15,4 +15,5 @@ broadcast me (suc n) body = broadcast me n body ++ send me (suc n) body ∷ []
 -- the same body to nodes 1 to n except the sender
 abbrev pub broadcast_to_others : {C : Type 0} → ℕ → ℕ → Body C → List (Message C)
 broadcast_to_others me zero body = []
-broadcast_to_others me (suc n) body = if suc n == me then broadcast_to_others me n body else broadcast_to_others me n body ++ send me (suc n) body ∷ []
+broadcast_to_others me (suc n) body = if suc n == me then broadcast_to_others me n body
+    else broadcast_to_others me n body ++ send me (suc n) body ∷ []

@@ -4,8 +4,10 @@ use Rattle.std.specs.declared.cmp.Ordering.{Ordering}
 use Rattle.std.specs.BTreeMap.{BTreeMap, get, is_at}
 
 -- the new map is the old one, but v at the key q
-abbrev pub PutsAt : {K V : Type 0} → (K → K → Ordering) → BTreeMap K V → BTreeMap K V → K → V → Type 0
-PutsAt {K} cmp old new q v = (p : K) → get cmp new p ≡ cond (is_at (cmp q) p) (Some v) (get cmp old p)
+abbrev pub PutsAt : {K V : Type 0} → (K → K → Ordering) → BTreeMap K V → BTreeMap K V → K → V
+    → Type 0
+PutsAt {K} cmp old new q v = (p : K)
+    → get cmp new p ≡ cond (is_at (cmp q) p) (Some v) (get cmp old p)
 
 -- the value at a place, where an empty place is as none
 abbrev pub or_none : {A : Type 0} → Option (Option A) → Option A

@@ -1,6 +1,8 @@
--- The proposer's rules (Paxos Made Simple 2.2, 'Putting the actions of the proposer and acceptor together', and 2.5). In each,
+-- The proposer's rules (Paxos Made Simple 2.2, 'Putting the actions of the proposer and acceptor
+-- together', and 2.5). In each,
 -- `used` is the greatest round that the node kept as used.
-use Rattle.std.proofs.Common.{ℕ, zero, suc, max, List, [], Option, Some, None, Bool, nat_le, is_some, ◌∷◌, ◌==◌, ◌&&◌, if◌then◌else◌}
+use Rattle.std.proofs.Common.{ℕ, zero, suc, max, List, [], Option, Some, None, Bool, nat_le}
+use Rattle.std.proofs.Common.{is_some, ◌∷◌, ◌==◌, ◌&&◌, if◌then◌else◌}
 use Rattle.ts_synod.specs.declared.message.Body.TheVariants.{Accept, Prepare}
 use Rattle.ts_synod.specs.declared.message.Fact.{Fact}
 use Rattle.ts_synod.specs.declared.message.Message.{Message}
@@ -24,7 +26,8 @@ pub record Round (C : Type 0) : Type 0 where
   pub position : ℕ
   pub phase : Phase C
 
--- what a proposer remembers until it restarts: the command that a client wants, the current round, and the greatest round seen in a Busy
+-- what a proposer remembers until it restarts: the command that a client wants, the current round,
+-- and the greatest round seen in a Busy
 pub record ProposerState (C : Type 0) : Type 0 where
   pub wanted : Option C
   pub round : Option (Round C)
@@ -52,19 +55,25 @@ greatest_round used state = max used state.seen
 abbrev pub rounds_are_exhausted : {C : Type 0} → ℕ → ProposerState C → Bool
 rounds_are_exhausted used state = nat_le last_round (greatest_round used state)
 
--- begin phase 1 for c at p, in a round above all used and seen (2.2, 2.5). The round is kept as used first, so a restart cannot use it again.
+-- begin phase 1 for c at p, in a round above all used and seen (2.2, 2.5). The round is kept as
+-- used first, so a restart cannot use it again.
 abbrev pub begin_round : {C : Type 0} → Config → ℕ → ProposerState C → ℕ → C → ProposerStep C
 begin_round config used state p c =
     let r = suc (greatest_round used state) in
     record {
       facts = Used r ∷ [];
       messages = broadcast config.me config.nodes (Prepare p (ballot config.me r));
-      state = record { wanted = Some c; round = Some (record { number = r; position = p; phase = Preparing (λ a. None) }); seen = state.seen };
+      state = record {
+        wanted = Some c;
+        round = Some (record { number = r; position = p; phase = Preparing (λ a. None) });
+        seen = state.seen;
+      };
     }
 
 -- propose c at p in place of any other command; None says that the rounds are exhausted
 abbrev pub propose : {C : Type 0} → Config → ℕ → ProposerState C → ℕ → C → Option (ProposerStep C)
-propose config used state p c = if rounds_are_exhausted used state then None else Some (begin_round config used state p c)
+propose config used state p c = if rounds_are_exhausted used state then None
+    else Some (begin_round config used state p c)
 
 -- the vote that a node's promise reports
 abbrev pub reported : {C : Type 0} → Option (Option (Vote C)) → Option (Vote C)
@@ -74,9 +83,11 @@ reported (Some taken) = taken
 -- of the votes reported by nodes 1 to n, the one of the greatest ballot (2.2)
 abbrev pub greatest_reported : {C : Type 0} → (ℕ → Option (Option (Vote C))) → ℕ → Option (Vote C)
 greatest_reported promises zero = None
-greatest_reported promises (suc n) = greater_vote (greatest_reported promises n) (reported (promises (suc n)))
+greatest_reported promises (suc n) =
+    greater_vote (greatest_reported promises n) (reported (promises (suc n)))
 
--- 'the value of the highest-numbered proposal among the responses', or the wanted command if no proposal is reported (2.2)
+-- 'the value of the highest-numbered proposal among the responses', or the wanted command if no
+-- proposal is reported (2.2)
 abbrev pub command_to_propose : {C : Type 0} → Option (Vote C) → Option C → Option C
 command_to_propose None wanted = wanted
 command_to_propose (Some v) wanted = Some v.command
@@ -86,24 +97,35 @@ abbrev pub with_round : {C : Type 0} → ProposerState C → Option (Round C) �
 with_round state round = record { wanted = state.wanted; round = round; seen = state.seen }
 
 -- begin phase 2: Accept goes to all nodes (phase 2 a of 2.2)
-abbrev pub begin_phase_2 : {C : Type 0} → Config → ProposerState C → Round C → Option C → ProposerStep C
+abbrev pub begin_phase_2 : {C : Type 0} → Config → ProposerState C → Round C → Option C
+    → ProposerStep C
 begin_phase_2 config state round None = only_state state
 begin_phase_2 config state round (Some c) =
     record {
       facts = [];
-      messages = broadcast config.me config.nodes (Accept round.position (ballot config.me round.number) c);
-      state = with_round state (Some (record { number = round.number; position = round.position; phase = Accepting }));
+      messages = broadcast config.me config.nodes
+          (Accept round.position (ballot config.me round.number) c);
+      state = with_round state (Some
+          (record { number = round.number; position = round.position; phase = Accepting }));
     }
 
 -- with the promises of a majority phase 2 begins, and with fewer phase 1 goes on (2.2)
-abbrev pub count_promises : {C : Type 0} → Config → ProposerState C → Round C → (ℕ → Option (Option (Vote C))) → ProposerStep C
+abbrev pub count_promises : {C : Type 0} → Config → ProposerState C → Round C
+    → (ℕ → Option (Option (Vote C))) → ProposerStep C
 count_promises config state round promises =
     if is_majority config.nodes (λ a. is_some (promises a))
-    then begin_phase_2 config state round (command_to_propose (greatest_reported promises config.nodes) state.wanted)
-    else only_state (with_round state (Some (record { number = round.number; position = round.position; phase = Preparing promises })))
+    then begin_phase_2 config state round
+    (command_to_propose (greatest_reported promises config.nodes) state.wanted)
+    else only_state (with_round state
+    (Some (record {
+      number = round.number;
+      position = round.position;
+      phase = Preparing promises;
+    })))
 
 -- a promise counts in phase 1 only, and only the first of each sender
-abbrev pub promise_in_phase : {C : Type 0} → Config → ProposerState C → ℕ → Option (Vote C) → Round C → Phase C → ProposerStep C
+abbrev pub promise_in_phase : {C : Type 0} → Config → ProposerState C → ℕ → Option (Vote C)
+    → Round C → Phase C → ProposerStep C
 promise_in_phase config state from taken round Accepting = only_state state
 promise_in_phase config state from taken round (Preparing promises) =
     if is_some (promises from)
@@ -115,7 +137,8 @@ abbrev pub is_current : {C : Type 0} → Config → Round C → ℕ → ℕ → 
 is_current config round p b = (p == round.position) && (b == ballot config.me round.number)
 
 -- a promise counts for the current round only
-abbrev pub promise_in_round : {C : Type 0} → Config → ProposerState C → ℕ → ℕ → ℕ → Option (Vote C) → Option (Round C) → ProposerStep C
+abbrev pub promise_in_round : {C : Type 0} → Config → ProposerState C → ℕ → ℕ → ℕ → Option (Vote C)
+    → Option (Round C) → ProposerStep C
 promise_in_round config state from p b taken None = only_state state
 promise_in_round config state from p b taken (Some round) =
     if is_current config round p b
@@ -123,18 +146,21 @@ promise_in_round config state from p b taken (Some round) =
     else only_state state
 
 -- Promise of ballot b at p, with the vote that its sender took there (phase 2 a of 2.2)
-abbrev pub on_promise : {C : Type 0} → Config → ProposerState C → ℕ → ℕ → ℕ → Option (Vote C) → ProposerStep C
+abbrev pub on_promise : {C : Type 0} → Config → ProposerState C → ℕ → ℕ → ℕ → Option (Vote C)
+    → ProposerStep C
 on_promise config state from p b taken = promise_in_round config state from p b taken state.round
 
 -- a Busy for the current round ends it, and the round of the promised ballot is seen
-abbrev pub end_round : {C : Type 0} → Config → ProposerState C → ℕ → ℕ → ℕ → Option (Round C) → ProposerState C
+abbrev pub end_round : {C : Type 0} → Config → ProposerState C → ℕ → ℕ → ℕ → Option (Round C)
+    → ProposerState C
 end_round config state p b promised None = state
 end_round config state p b promised (Some round) =
     if is_current config round p b
     then record { wanted = state.wanted; round = None; seen = max state.seen (round_of promised) }
     else state
 
--- Busy for ballot b at p, with the ballot that its sender has promised (2.4: the proposer abandons the proposal)
+-- Busy for ballot b at p, with the ballot that its sender has promised (2.4: the proposer abandons
+-- the proposal)
 abbrev pub on_busy : {C : Type 0} → Config → ProposerState C → ℕ → ℕ → ℕ → ProposerStep C
 on_busy config state p b promised = only_state (end_round config state p b promised state.round)
 
@@ -143,15 +169,19 @@ abbrev pub drop_wanted : {C : Type 0} → ProposerState C → ProposerStep C
 drop_wanted state = only_state (record { wanted = None; round = None; seen = state.seen })
 
 -- a new round for the wanted command, or none if it has no position or the rounds are exhausted
-abbrev pub propose_again : {C : Type 0} → Config → ℕ → ProposerState C → C → Option ℕ → ProposerStep C
+abbrev pub propose_again : {C : Type 0} → Config → ℕ → ProposerState C → C → Option ℕ
+    → ProposerStep C
 propose_again config used state c None = drop_wanted state
-propose_again config used state c (Some p) = if rounds_are_exhausted used state then drop_wanted state else begin_round config used state p c
+propose_again config used state c (Some p) =
+    if rounds_are_exhausted used state then drop_wanted state else begin_round config used state p c
 
 -- the current round ends, and a wanted command is proposed again
-abbrev pub after_growth : {C : Type 0} → Config → ℕ → ProposerState C → Option C → Option ℕ → ProposerStep C
+abbrev pub after_growth : {C : Type 0} → Config → ℕ → ProposerState C → Option C → Option ℕ
+    → ProposerStep C
 after_growth config used state None next = only_state (with_round state None)
 after_growth config used state (Some c) next = propose_again config used state c next
 
--- the prefix of the log grew (3). `next` is where the wanted command can be proposed: None if its id is in the prefix, or if the log is full.
+-- the prefix of the log grew (3). `next` is where the wanted command can be proposed: None if its
+-- id is in the prefix, or if the log is full.
 abbrev pub on_growth : {C : Type 0} → Config → ℕ → ProposerState C → Option ℕ → ProposerStep C
 on_growth config used state next = after_growth config used state state.wanted next

@@ -1,6 +1,8 @@
--- The replicated state machine (Paxos Made Simple 3): any deterministic fold over the chosen commands, and any answer over the state
--- that it makes. C is the commands, O their outcomes, T the state, Q the questions and V the answers to them.
-use Rattle.std.proofs.Common.{ℕ, suc, List, [], Option, Some, None, Bool, true, false, ◌∷◌, ◌==◌, ◌&&◌, if◌then◌else◌}
+-- The replicated state machine (Paxos Made Simple 3): any deterministic fold over the chosen
+-- commands, and any answer over the state that it makes. C is the commands, O their outcomes, T the
+-- state, Q the questions and V the answers to them.
+use Rattle.std.proofs.Common.{ℕ, suc, List, [], Option, Some, None, Bool, true, false, ◌∷◌, ◌==◌}
+use Rattle.std.proofs.Common.{◌&&◌, if◌then◌else◌}
 
 -- a state machine, and a client's id in each command
 pub record Store (C O T Q V : Type 0) : Type 0 where
@@ -30,10 +32,14 @@ pub record Settling (O : Type 0) : Type 0 where
   pub position : ℕ
   pub outcome : O
 
--- where the first of the commands with this id is, and its outcome; t is the state before them, and p the position of the first
-abbrev pub found : {C O T Q V : Type 0} → Store C O T Q V → List ℕ → T → ℕ → List C → Option (Settling O)
+-- where the first of the commands with this id is, and its outcome; t is the state before them, and
+-- p the position of the first
+abbrev pub found : {C O T Q V : Type 0} → Store C O T Q V → List ℕ → T → ℕ → List C
+    → Option (Settling O)
 found store id t p [] = None
-found store id t p (c ∷ cs) = if same_id (store.id_of c) id then Some (record { position = p; outcome = (store.step t c).1 }) else found store id (store.step t c).0 (suc p) cs
+found store id t p (c ∷ cs) = if same_id (store.id_of c) id
+    then Some (record { position = p; outcome = (store.step t c).1 })
+    else found store id (store.step t c).0 (suc p) cs
 
 -- where an id first is among the commands of positions 1, 2 and so on
 abbrev pub settling : {C O T Q V : Type 0} → Store C O T Q V → List C → List ℕ → Option (Settling O)

@@ -1,13 +1,15 @@
--- The world of Paxos Made Simple 2.1: n nodes that work at any speed, stop and restart, and messages that 'can take arbitrarily long
--- to be delivered, can be duplicated, and can be lost'. A message that was sent can be delivered at any time and any number of times;
--- one that is never delivered is lost.
+-- The world of Paxos Made Simple 2.1: n nodes that work at any speed, stop and restart, and
+-- messages that 'can take arbitrarily long to be delivered, can be duplicated, and can be lost'. A
+-- message that was sent can be delivered at any time and any number of times; one that is never
+-- delivered is lost.
 use Rattle.std.proofs.Common.{ℕ, List, [], ◌∷◌, ◌++◌, if◌then◌else◌}
 use Rattle.ts_synod.specs.declared.message.Fact.{Fact}
 use Rattle.ts_synod.specs.declared.message.Message.{Message}
 use Rattle.ts_synod.specs.Lists.{put}
 use Rattle.ts_synod.specs.Config.{Config, is_node}
 use Rattle.ts_synod.specs.Store.{Store}
-use Rattle.ts_synod.specs.Node.{CatchUp, Deliver, Input, Node, Outcome, Question, Reply, Status, Step, Submit, initial, step}
+use Rattle.ts_synod.specs.Node.{CatchUp, Deliver, Input, Node, Outcome, Question, Reply, Status}
+use Rattle.ts_synod.specs.Node.{Step, Submit, initial, step}
 
 -- the nodes by number, every message ever sent, and every reply ever given
 pub record World (C O Q V : Type 0) : Type 0 where
@@ -23,13 +25,20 @@ pub data Event (C Q : Type 0) : Type 0 where
 
 -- no node has kept anything, and nothing was sent
 abbrev pub start_world : {C O Q V : Type 0} → World C O Q V
-start_world = record { nodes = λ i. record { facts = []; volatile = initial }; sent = []; replies = [] }
+start_world = record {
+  nodes = λ i. record { facts = []; volatile = initial };
+  sent = [];
+  replies = [];
+}
 
 -- after a step of node i
 abbrev pub with_step : {C O Q V : Type 0} → World C O Q V → ℕ → Step C O Q V → World C O Q V
 with_step w i s =
     record {
-      nodes = put w.nodes i (record { facts = (w.nodes i).facts ++ s.effect.facts; volatile = s.effect.volatile });
+      nodes = put w.nodes i (record {
+        facts = (w.nodes i).facts ++ s.effect.facts;
+        volatile = s.effect.volatile;
+      });
       sent = w.sent ++ s.effect.messages;
       replies = w.replies ++ s.reply ∷ [];
     }
@@ -57,13 +66,17 @@ abbrev pub config_of : ℕ → ℕ → Config
 config_of n i = record { nodes = n; me = i }
 
 -- the world after an event; an event at a number that is no node does nothing
-abbrev pub after_event : {C O T Q V : Type 0} → ℕ → Store C O T Q V → World C O Q V → Event C Q → World C O Q V
-after_event n store w (Handle i input) = if is_node n i then with_step w i (step store (config_of n i) (w.nodes i) w.sent input) else w
+abbrev pub after_event : {C O T Q V : Type 0} → ℕ → Store C O T Q V → World C O Q V → Event C Q
+    → World C O Q V
+after_event n store w (Handle i input) =
+    if is_node n i then with_step w i (step store (config_of n i) (w.nodes i) w.sent input) else w
 after_event n store w (Restart i) = if is_node n i then with_restart w i else w
-after_event n store w (Stop i input) = if is_node n i then with_stop w i (step store (config_of n i) (w.nodes i) w.sent input).effect.facts else w
+after_event n store w (Stop i input) = if is_node n i
+    then with_stop w i (step store (config_of n i) (w.nodes i) w.sent input).effect.facts else w
 
 -- the world after events in turn
-abbrev pub after_events : {C O T Q V : Type 0} → ℕ → Store C O T Q V → List (Event C Q) → World C O Q V → World C O Q V
+abbrev pub after_events : {C O T Q V : Type 0} → ℕ → Store C O T Q V → List (Event C Q)
+    → World C O Q V → World C O Q V
 after_events n store [] w = w
 after_events n store (e ∷ es) w = after_events n store es (after_event n store w e)
 

@@ -1,7 +1,8 @@
 //! The synod: Lamport's 'Paxos Made Simple', position by position, as a pure machine.
 //!
-//! The definitions in `specs/` are the protocol: the rules of acceptor, proposer and log, the step of a node that plays all three, and
-//! the world of `n` nodes whose messages come late, twice or never. The laws say what holds after every list of events. The crates
+//! The definitions in `specs/` are the protocol: the rules of acceptor, proposer and log, the step
+//! of a node that plays all three, and the world of `n` nodes whose messages come late, twice or
+//! never. The laws say what holds after every list of events. The crates
 //! `ts_acceptor`, `ts_proposer` and `ts_log` make the rules as code, and their contracts cite the very definitions that the world's step uses.
 //!
 //! ```text

@@ -6,7 +6,8 @@ use crate::ballots::Ballot;
 use crate::command::Command;
 use std::alloc::{AllocError, Global};
 
-/// A command that was taken in a ballot ('Paxos Made Simple' 2.2: a proposal that an acceptor accepted).
+/// A command that was taken in a ballot ('Paxos Made Simple' 2.2: a proposal that an acceptor
+/// accepted).
 #[derive(Drop)]
 pub struct Vote<C> {
     pub ballot: Ballot,

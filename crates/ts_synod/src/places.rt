@@ -1,4 +1,5 @@
-//! Places in a map. A role's call makes an empty place for what its step will change, so that keeping the step takes no memory.
+//! Places in a map. A role's call makes an empty place for what its step will change, so that
+//! keeping the step takes no memory.
 
 ghost use Rattle.std.specs.Prelude.{◌≡◌, is_some, true, Some};
 ghost use Rattle.std.specs.BTreeMap.{get};

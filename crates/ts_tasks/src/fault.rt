@@ -43,7 +43,8 @@ pub enum Fault {
     Frame(FrameFault),
 }
 
-/// The name of the reason, with the offset or the line where it has one: `Damaged(35)`, `TableLine(3)`, `Kind`.
+/// The name of the reason, with the offset or the line where it has one: `Damaged(35)`,
+/// `TableLine(3)`, `Kind`.
 impl fmt::Display for Fault {
     fn fmt<W: fmt::Write>(&self, f: &mut fmt::Formatter<W>) -> fmt::Result {
         let name = match self {

@@ -12,7 +12,8 @@ use ts_file::{FileDisk, create, open};
 use ts_record::Record;
 use ts_store::Command;
 
-/// The most octets that are read of a file that holds a certificate, a list, a command or a question: as many as a frame may have.
+/// The most octets that are read of a file that holds a certificate, a list, a command or a
+/// question: as many as a frame may have.
 pub const MAX_LENGTH: u64 = 8_388_608;
 
 /// Why a file is not read.
@@ -100,7 +101,8 @@ fn create_empty<R: Files>(rt: &R, alloc: Global, path: &str) -> Result<FileDisk<
     }
 }
 
-/// Makes the empty record of a node, on two files that hold no octets or are missing: what is there is never written over.
+/// Makes the empty record of a node, on two files that hold no octets or are missing: what is there
+/// is never written over.
 ///
 /// # Errors
 ///
@@ -123,8 +125,8 @@ pub fn format_files<R: Files>(
     Ok(())
 }
 
-/// Makes a record from one of version 1, on two files that hold no octets or are missing, and answers the number of its facts. The old
-/// file is not written.
+/// Makes a record from one of version 1, on two files that hold no octets or are missing, and
+/// answers the number of its facts. The old file is not written.
 ///
 /// # Errors
 ///

@@ -1,5 +1,5 @@
-//! The tasks of the program, but the lab: the record of a node is made and served; commands, questions and messages are brought to servers; and what
-//! these programs read is made.
+//! The tasks of the program, but the lab: the record of a node is made and served; commands,
+//! questions and messages are brought to servers; and what these programs read is made.
 //!
 //! ```text
 //! run(&rt, &task)?;                                               // `Fault` says why a task fails

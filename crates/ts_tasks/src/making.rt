@@ -1,4 +1,5 @@
-//! Files for the programs of a client: encoded commands and questions; the ids of anchors and lists; what files hold.
+//! Files for the programs of a client: encoded commands and questions; the ids of anchors and
+//! lists; what files hold.
 
 use crate::fault::Fault;
 use crate::files::{read_all, read_file, second};
@@ -24,7 +25,8 @@ fn draw_id<R: Files>(rt: &R) -> Result<[u8; 16], Fault> {
     }
 }
 
-/// The id of a command: the one that is given, or a new one, which is printed on standard error, so that the command can be known again.
+/// The id of a command: the one that is given, or a new one, which is printed on standard error, so
+/// that the command can be known again.
 fn id_of(
     rt: &(impl AllocGlobal + Files + Eprint),
     words: &CommandWords,
@@ -52,7 +54,8 @@ fn put(rt: &impl Print, octets: &[u8]) -> Result<(), Fault> {
 ///
 /// # Errors
 ///
-/// Those of the file with the certificate or list; `TooLong`; `File` where no id can be drawn; `Write`.
+/// Those of the file with the certificate or list; `TooLong`; `File` where no id can be drawn;
+/// `Write`.
 pub fn make_command(
     rt: &(impl AllocGlobal + Files + Print + Eprint),
     words: &CommandWords,
@@ -106,7 +109,8 @@ pub fn print_id(rt: &(impl AllocGlobal + Files + Print), file: &str) -> Result<(
     }
 }
 
-/// Prints what a file holds. A record lies in two files; where the second can't be read it is taken for an empty one.
+/// Prints what a file holds. A record lies in two files; where the second can't be read it is taken
+/// for an empty one.
 ///
 /// # Errors
 ///

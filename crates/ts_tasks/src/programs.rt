@@ -81,8 +81,9 @@ fn serve_node<
     Ok(())
 }
 
-/// Serves the node whose record lies in a file and the one beside it, to so many connections, one after the other. A table decides which
-/// signatures are good; without one it is the stand-in, which is no security.
+/// Serves the node whose record lies in a file and the one beside it, to so many connections, one
+/// after the other. A table decides which signatures are good; without one it is the stand-in,
+/// which is no security.
 ///
 /// # Errors
 ///

@@ -120,7 +120,8 @@ pub fn server_at<'a, R: Net>(
     Ok(TcpPeer::new(alloc, rt, String::from_str(alloc, address)?))
 }
 
-/// Submits the command that a file holds to the server at an address, and prints what it is answered.
+/// Submits the command that a file holds to the server at an address, and prints what it is
+/// answered.
 ///
 /// # Errors
 ///
@@ -158,7 +159,8 @@ pub fn ask_file(
     say(rt, line.as_str())
 }
 
-/// Carries messages between the servers at these addresses, the first being node 1, for so many rounds, and prints how many were delivered.
+/// Carries messages between the servers at these addresses, the first being node 1, for so many
+/// rounds, and prints how many were delivered.
 ///
 /// # Errors
 ///

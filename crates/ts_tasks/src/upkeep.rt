@@ -1,4 +1,5 @@
-//! What keeps a node in order: its state is asked for, what it missed is asked of the others, its record is rewritten.
+//! What keeps a node in order: its state is asked for, what it missed is asked of the others, its
+//! record is rewritten.
 
 use crate::fault::Fault;
 use crate::requests::{answer_of, say, server_at};
@@ -13,7 +14,8 @@ use ts_wire::{Frame, FrameFault};
 pub enum Upkeep {
     /// How many commands it knows.
     Status,
-    /// That it asks the others for what it lacks. What they give comes with the messages that are carried then.
+    /// That it asks the others for what it lacks. What they give comes with the messages that are
+    /// carried then.
     CatchUp,
     /// That it makes one step of the rewriting of its record.
     Compact,
@@ -48,8 +50,8 @@ fn line_of(alloc: Global, upkeep: Upkeep, answer: &Frame) -> Result<String, Faul
     }
 }
 
-/// Asks this of a peer, and gives the line that says what it is answered: `prefix K`, `catchup`, or `compact working`, and `compact switched` where the
-/// rewriting is done.
+/// Asks this of a peer, and gives the line that says what it is answered: `prefix K`, `catchup`, or
+/// `compact working`, and `compact switched` where the rewriting is done.
 ///
 /// # Errors
 ///

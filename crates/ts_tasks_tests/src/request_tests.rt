@@ -1,4 +1,5 @@
-//! What no clause says of a client's lines: a command is submitted to a node in memory, its messages are carried, and a question is asked.
+//! What no clause says of a client's lines: a command is submitted to a node in memory, its
+//! messages are carried, and a question is asked.
 
 ghost use Rattle.std.specs.Prelude.{IfOk, IfSome};
 ghost use Rattle.ts_disk.specs.Memory.{state_of};
@@ -25,7 +26,8 @@ const QUESTION: &[u8] =
 
 /// A new node that is alone, in memory.
 fn lone(alloc: Global) -> Result<Option<Lone>, AllocError>
-    ensures { IfOk result (λ found. IfSome found (λ peer. IsSound state_of octets_of ⟦<Answers<DigestCheck> as ts_node::Machine<Command>>⟧.commands peer.server.node)) }
+    ensures { IfOk result (λ found. IfSome found
+        (λ peer. IsSound state_of octets_of ⟦<Answers<DigestCheck> as ts_node::Machine<Command>>⟧.commands peer.server.node)) }
 {
     let mut a = MemDisk::new(alloc, Vec::new(alloc))?;
     let mut b = MemDisk::new(alloc, Vec::new(alloc))?;

@@ -1,6 +1,8 @@
--- The Gregorian calendar of ISO 8601, on which X.680 bases UTCTime and GeneralizedTime, carried back before its
--- introduction, and the number of each day, counted from 1970-01-01, the epoch of POSIX.
-use Rattle.std.specs.Prelude.{ℕ, zero, suc, ◌+◌, ◌-◌, ◌%◌, ◌≤◌, Bool, not, ◌&&◌, ◌||◌, ◌==◌, if◌then◌else◌, ℤ, pos, ◌-ℤ◌}
+-- The Gregorian calendar of ISO 8601, on which X.680 bases UTCTime and GeneralizedTime, carried
+-- back before its introduction, and the number of each day, counted from 1970-01-01, the epoch of
+-- POSIX.
+use Rattle.std.specs.Prelude.{ℕ, zero, suc, ◌+◌, ◌-◌, ◌%◌, ◌≤◌, Bool, not, ◌&&◌, ◌||◌, ◌==◌}
+use Rattle.std.specs.Prelude.{if◌then◌else◌, ℤ, pos, ◌-ℤ◌}
 
 -- every fourth year is a leap year, but of the centuries only every fourth
 abbrev pub is_leap_year : ℕ → Bool
@@ -10,7 +12,8 @@ is_leap_year year = (year % 4 == 0) && (not (year % 100 == 0) || (year % 400 == 
 abbrev pub days_in_year : ℕ → ℕ
 days_in_year year = if is_leap_year year then 366 else 365
 
--- thirty days have September, April, June and November; February has 28, and in a leap year 29; all others have 31
+-- thirty days have September, April, June and November; February has 28, and in a leap year 29; all
+-- others have 31
 abbrev pub days_in_month : ℕ → ℕ → ℕ
 days_in_month year month =
     if month == 2 then (if is_leap_year year then 29 else 28)

@@ -1,10 +1,11 @@
--- Times as a calendar and a clock show them, in UTC, and the moments that they name: seconds since the epoch of POSIX,
--- which counts no leap seconds.
+-- Times as a calendar and a clock show them, in UTC, and the moments that they name: seconds since
+-- the epoch of POSIX, which counts no leap seconds.
 use Rattle.std.specs.Prelude.{ℕ, ◌+◌, ◌*◌, ◌≤◌, ℤ, pos, ◌+ℤ◌, ◌*ℤ◌, ◌<ℤ◌, ◌≤ℤ◌}
 use Rattle.ts_time.specs.declared.civil.CivilTime.{CivilTime}
 use Rattle.ts_time.specs.Calendar.{IsDate, day_number}
 
--- there is such a time: a day of the calendar in the years 0 to 9999, hours 00 to 23, minutes and seconds 00 to 59
+-- there is such a time: a day of the calendar in the years 0 to 9999, hours 00 to 23, minutes and
+-- seconds 00 to 59
 pub record Exists (t : CivilTime) : Type 0 where
   pub date : IsDate t.year t.month t.day
   pub hour : t.hour ≤ 23

@@ -1,6 +1,8 @@
--- The two forms in which certificates write times: UTCTime (RFC 5280 4.1.2.5.1, X.690 11.8) and GeneralizedTime
--- (RFC 5280 4.1.2.5.2, X.690 11.7), always with seconds, without a fraction, and in UTC, which the Z says.
-use Rattle.std.specs.Prelude.{◌≡◌, ℕ, ◌+◌, ◌/◌, ◌%◌, ◌<◌, nat_lt, if◌then◌else◌, List, [], ◌∷◌, ◌++◌, ℤ, codes}
+-- The two forms in which certificates write times: UTCTime (RFC 5280 4.1.2.5.1, X.690 11.8) and
+-- GeneralizedTime (RFC 5280 4.1.2.5.2, X.690 11.7), always with seconds, without a fraction, and in
+-- UTC, which the Z says.
+use Rattle.std.specs.Prelude.{◌≡◌, ℕ, ◌+◌, ◌/◌, ◌%◌, ◌<◌, nat_lt, if◌then◌else◌, List, [], ◌∷◌}
+use Rattle.std.specs.Prelude.{◌++◌, ℤ, codes}
 use Rattle.ts_time.specs.declared.civil.CivilTime.{CivilTime}
 use Rattle.ts_time.specs.Civil.{Exists, moment_of}
 

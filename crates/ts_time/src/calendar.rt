@@ -6,7 +6,8 @@ ghost use Rattle.ts_time.specs.Calendar.{IsDate, day_number};
 
 use jiff::civil;
 
-/// The days from 1970-01-01 to a date of the years 0 to 9999; none where the calendar has no such date.
+/// The days from 1970-01-01 to a date of the years 0 to 9999; none where the calendar has no such
+/// date.
 pub(crate) fn number_of_date(year: u16, month: u8, day: u8) -> Option<i64>
     ensures value { SomeIff result (IsDate year month day) (day_number year month day) }
     ensures bound { IfSome result (IsWithin 5_000_000) }

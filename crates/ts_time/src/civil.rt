@@ -8,7 +8,8 @@ use crate::calendar::{date_of_number, number_of_date};
 /// The seconds of a day.
 const DAY: i64 = 86_400;
 
-/// What a calendar and a clock show in UTC. Any numbers may be here: `moment` tells whether there is such a time.
+/// What a calendar and a clock show in UTC. Any numbers may be here: `moment` tells whether there
+/// is such a time.
 #[derive(Clone, Copy)]
 pub(crate) struct CivilTime {
     pub year: u16,
@@ -35,7 +36,8 @@ impl CivilTime {
         Some(Moment(number * DAY + seconds))
     }
 
-    /// The time that names this moment, if it lies in the years from `first` to `last`, both included.
+    /// The time that names this moment, if it lies in the years from `first` to `last`, both
+    /// included.
     pub(crate) fn in_years(moment: Moment, first: u16, last: u16) -> Option<CivilTime>
         requires { last ≤ 9999 }
         ensures found { IfSome result (λ t. Exists t × (moment_of t ≡ moment)) }

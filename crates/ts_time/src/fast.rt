@@ -1,4 +1,5 @@
-//! Fast path. `false` or `None` means undecided; the caller then uses the full reader. Removing it changes speed alone.
+//! Fast path. `false` or `None` means undecided; the caller then uses the full reader. Removing it
+//! changes speed alone.
 //!
 //! UTCTimes recognised without their moments.
 
@@ -42,11 +43,12 @@ fn days_of(yy: u32, month: u32) -> u32
     }
 }
 
-/// Whether there are sixteen octets or more, of which the first thirteen are the content of a UTCTime, as `read_utc` reads
-/// it (RFC 5280 4.1.2.5.1).
+/// Whether there are sixteen octets or more, of which the first thirteen are the content of a
+/// UTCTime, as `read_utc` reads it (RFC 5280 4.1.2.5.1).
 #[inline(always)]
 pub fn begins_with_utc(octets: &[u8]) -> bool
-    ensures { IsTrue result ↔ (16 ≤ length octets.now) × ((moment : ℤ) × IsUtc (take 13 octets.now) moment) }
+    ensures { IsTrue result ↔ (16 ≤ length octets.now)
+        × ((moment : ℤ) × IsUtc (take 13 octets.now) moment) }
 {
     if octets.len() < 16 {
         return false;

@@ -12,7 +12,8 @@ use crate::digits::{print_two, read_two};
 use crate::in_year::{print_in_year, read_in_year};
 use ts_der::DerFault;
 
-/// The moment that the content octets of a GeneralizedTime name: `YYYYMMDDHHMMSSZ`, of the years 0000 to 9999.
+/// The moment that the content octets of a GeneralizedTime name: `YYYYMMDDHHMMSSZ`, of the years
+/// 0000 to 9999.
 ///
 /// # Errors
 ///
@@ -41,7 +42,8 @@ fn find_general(content: &[u8]) -> Option<Moment>
     read_in_year(century as u16 * 100 + year as u16, rest)?.moment()
 }
 
-/// The content octets of the GeneralizedTime that names this moment; none where it lies outside the years 0 to 9999.
+/// The content octets of the GeneralizedTime that names this moment; none where it lies outside the
+/// years 0 to 9999.
 pub fn print_general(moment: Moment) -> Option<[u8; 15]>
     ensures found { IfSome result (λ text. IsGeneral text moment) }
     ensures only { (text : List ℕ) → IsGeneral text moment → result ≡ Some text }

@@ -7,8 +7,8 @@ ghost use Rattle.ts_time.specs.Text.{text_in_year, HasTwoDigits, IsInYear};
 use crate::civil::CivilTime;
 use crate::digits::{print_two, read_two};
 
-/// The time in that year that the octets write; none where they have another form. Whether there is such a time is
-/// not looked at.
+/// The time in that year that the octets write; none where they have another form. Whether there is
+/// such a time is not looked at.
 #[inline(always)]
 pub(crate) fn read_in_year(year: u16, content: &[u8]) -> Option<CivilTime>
     ensures found { IfSome result (IsInYear year content.now) }

@@ -1,5 +1,5 @@
-//! Moments, and the two forms in which certificates write them: UTCTime and GeneralizedTime of RFC 5280
-//! 4.1.2.5, read and printed exactly, without memory.
+//! Moments, and the two forms in which certificates write them: UTCTime and GeneralizedTime of RFC
+//! 5280 4.1.2.5, read and printed exactly, without memory.
 #![tactic(auto)]
 
 mod calendar;

@@ -2,8 +2,8 @@
 
 use std::marker::Model;
 
-/// A point in time: the seconds since 1970-01-01T00:00:00Z, negative before it, with leap seconds not counted. A
-/// contract sees a moment as this number.
+/// A point in time: the seconds since 1970-01-01T00:00:00Z, negative before it, with leap seconds
+/// not counted. A contract sees a moment as this number.
 #[derive(Clone, Copy, Debug, PartialEq, Eq, PartialOrd, Ord)]
 pub struct Moment(pub i64);
 

@@ -12,8 +12,8 @@ use crate::digits::{print_two, read_two};
 use crate::in_year::{print_in_year, read_in_year};
 use ts_der::DerFault;
 
-/// The moment that the content octets of a UTCTime name: `YYMMDDHHMMSSZ`, where YY from 50 on is 19YY, and below it
-/// 20YY.
+/// The moment that the content octets of a UTCTime name: `YYMMDDHHMMSSZ`, where YY from 50 on is
+/// 19YY, and below it 20YY.
 ///
 /// # Errors
 ///
@@ -53,7 +53,8 @@ fn full_year(yy: u8) -> u16
     }
 }
 
-/// The content octets of the UTCTime that names this moment; none where it lies outside the years 1950 to 2049.
+/// The content octets of the UTCTime that names this moment; none where it lies outside the years
+/// 1950 to 2049.
 pub fn print_utc(moment: Moment) -> Option<[u8; 13]>
     ensures found { IfSome result (λ text. IsUtc text moment) }
     ensures only { (text : List ℕ) → IsUtc text moment → result ≡ Some text }

@@ -1,7 +1,9 @@
--- The command lines as `clap` sees them: of the program, of `trustd command` and of `trustd question`.
+-- The command lines as `clap` sees them: of the program, of `trustd command` and of `trustd
+-- question`.
 use Rattle.std.specs.Prelude.{true, false, List, [], ◌∷◌, ◌++◌, Some, codes, ◌≡◌}
 use Rattle.clap.specs.Walk.{Rule, Text, is_empty}
-use Rattle.clap.specs.Simple.{App, Shape, app_of, new_rule, new_shape, shape_of, with_rule, with_subcommand}
+use Rattle.clap.specs.Simple.{App, Shape, app_of, new_rule, new_shape, shape_of, with_rule}
+use Rattle.clap.specs.Simple.{with_subcommand}
 use Rattle.clap.specs.declared.builder.action.ArgAction.TheVariants.{Set, Append, SetTrue}
 use Rattle.clap.specs.declared.builder.command.Command.{Command}
 use Rattle.clap.specs.declared.builder.command.Command.TheViews.{out-Command}
@@ -44,7 +46,8 @@ with_argument shape rule = record shape { rules = shape.rules ++ rule ∷ [] }
 -- a command that wants a subcommand, and has none for help
 abbrev pub choice : Text → List Rule → List Shape → App
 choice name rules subs = record {
-  top = record (leaf name rules) { is_leaf = is_empty subs; subcommand_required = true; disable_help_subcommand = true };
+  top = record (leaf name rules)
+      { is_leaf = is_empty subs; subcommand_required = true; disable_help_subcommand = true };
   subs = subs;
 }
 
@@ -79,13 +82,15 @@ unfoldable pub lab : Shape
 lab = leaf (codes "lab") []
 
 unfoldable pub format : Shape
-format = leaf (codes "format") (word (codes "file") ∷ needed (option (codes "id")) ∷ needed (option (codes "nodes")) ∷ [])
+format = leaf (codes "format")
+    (word (codes "file") ∷ needed (option (codes "id")) ∷ needed (option (codes "nodes")) ∷ [])
 
 unfoldable pub migrate : Shape
 migrate = leaf (codes "migrate") (word (codes "old") ∷ word (codes "new") ∷ [])
 
 unfoldable pub serve : Shape
-serve = leaf (codes "serve") (word (codes "file") ∷ needed (option (codes "listen")) ∷ option (codes "table") ∷ option (codes "connections") ∷ [])
+serve = leaf (codes "serve") (word (codes "file") ∷ needed (option (codes "listen"))
+    ∷ option (codes "table") ∷ option (codes "connections") ∷ [])
 
 -- an address and a file
 abbrev pub sending : Text → Shape
@@ -96,7 +101,8 @@ abbrev pub reaching : Text → Shape
 reaching name = leaf name (word (codes "address") ∷ [])
 
 unfoldable pub carry : Shape
-carry = leaf (codes "carry") (needed (words (codes "addresses")) ∷ needed (option (codes "rounds")) ∷ [])
+carry = leaf (codes "carry") (needed (words (codes "addresses")) ∷ needed (option (codes "rounds"))
+    ∷ [])
 
 -- whose words go to another command line
 abbrev pub named : Text → Shape
@@ -104,14 +110,19 @@ named name = leaf name []
 
 -- the tasks of a node
 unfoldable pub node_tasks : App
-node_tasks = with_tasks (choice (codes "trustd") [] []) (lab ∷ format ∷ migrate ∷ serve ∷ sending (codes "submit") ∷ sending (codes "ask") ∷ carry ∷ [])
+node_tasks = with_tasks (choice (codes "trustd") [] [])
+    (lab ∷ format ∷ migrate ∷ serve ∷ sending (codes "submit") ∷ sending (codes "ask") ∷ carry
+    ∷ [])
 
 -- the tasks of a node's upkeep, after others
 unfoldable pub with_upkeep : App → App
-with_upkeep app = with_tasks app (reaching (codes "status") ∷ reaching (codes "catchup") ∷ reaching (codes "compact") ∷ [])
+with_upkeep app = with_tasks app
+    (reaching (codes "status") ∷ reaching (codes "catchup") ∷ reaching (codes "compact") ∷ [])
 
 unfoldable pub program : App
-program = with_upkeep (with_tasks node_tasks (named (codes "command") ∷ named (codes "question") ∷ reading (codes "id") ∷ reading (codes "show") ∷ []))
+program = with_upkeep (with_tasks node_tasks
+    (named (codes "command") ∷ named (codes "question") ∷ reading (codes "id")
+    ∷ reading (codes "show") ∷ []))
 
 -- ---- `trustd command`
 
@@ -124,7 +135,8 @@ purposes = leaf (codes "purposes") (word (codes "anchor") ∷ words (codes "purp
 
 unfoldable pub commands : App
 commands = with_tasks (with_rule (choice (codes "command") [] []) (option (codes "id"))) (
-    reading (codes "add") ∷ naming (codes "withdraw") (codes "anchor") ∷ reading (codes "load") ∷ naming (codes "drop") (codes "list")
+    reading (codes "add") ∷ naming (codes "withdraw") (codes "anchor") ∷ reading (codes "load")
+    ∷ naming (codes "drop") (codes "list")
     ∷ purposes ∷ leaf (codes "noop") [] ∷ []
     )
 
@@ -136,7 +148,9 @@ with_arguments shape [] = shape
 with_arguments shape (rule ∷ rules) = with_arguments (with_argument shape rule) rules
 
 unfoldable pub with_flags : Shape → Shape
-with_flags own = with_arguments own (flag (codes "hard") ∷ flag (codes "deltas") ∷ flag (codes "explicit") ∷ flag (codes "nomap") ∷ flag (codes "noany") ∷ [])
+with_flags own = with_arguments own
+    (flag (codes "hard") ∷ flag (codes "deltas") ∷ flag (codes "explicit") ∷ flag (codes "nomap")
+    ∷ flag (codes "noany") ∷ [])
 
 -- what both questions take after arguments of their own
 unfoldable pub with_terms : Shape → Shape
@@ -145,7 +159,8 @@ with_terms own =
     with_arguments (with_flags begun) (options (codes "policy") ∷ option (codes "purpose") ∷ [])
 
 unfoldable pub chain : Shape
-chain = with_terms (leaf (codes "chain") (needed (option (codes "anchor")) ∷ needed (words (codes "certificates")) ∷ []))
+chain = with_terms (leaf (codes "chain")
+    (needed (option (codes "anchor")) ∷ needed (words (codes "certificates")) ∷ []))
 
 unfoldable pub search : Shape
 search = with_terms (leaf (codes "search") (word (codes "leaf") ∷ words (codes "pool") ∷ []))

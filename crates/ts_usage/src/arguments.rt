@@ -1,12 +1,14 @@
 //! Arguments of command lines.
 //!
-//! A command that is still being made is a `Result`, which each call hands on: what a step owns is then let go in the step alone, and a chain of
-//! steps has one exit.
+//! A command that is still being made is a `Result`, which each call hands on: what a step owns is
+//! then let go in the step alone, and a chain of steps has one exit.
 
 ghost use Rattle.std.specs.Prelude.{◌≡◌, [], false, IfOk};
 ghost use Rattle.clap.specs.Simple.{App, Shape, with_rule};
 ghost use Rattle.clap.specs.Walk.{Rule, rule_of};
-ghost use Rattle.ts_usage.specs.Shapes.{option, options, flag, word, words, needed, leaf, with_argument, choice, among, reading, IsApp, IsLocal, IsShape};
+ghost use Rattle.ts_usage.specs.Shapes.{option, options, flag, word, words, needed, leaf};
+ghost use Rattle.ts_usage.specs.Shapes.{with_argument, choice, among, reading, IsApp, IsLocal};
+ghost use Rattle.ts_usage.specs.Shapes.{IsShape};
 
 use clap::{Arg, ArgAction, Command};
 use std::alloc::{AllocError, Global};
@@ -29,7 +31,8 @@ pub(crate) fn with<'a>(
     arg: Arg<'a>,
 ) -> Result<Command<'a>, AllocError>
     requires { arg.global ≡ false }
-    ensures shape { (shape : Shape) (rule : Rule) → rule_of arg.entry ≡ rule → IfOk command.entry (IsShape shape) → IfOk result (IsShape (with_argument shape rule)) }
+    ensures shape { (shape : Shape) (rule : Rule) → rule_of arg.entry ≡ rule
+        → IfOk command.entry (IsShape shape) → IfOk result (IsShape (with_argument shape rule)) }
     ensures local { IfOk command.entry IsLocal → IfOk result IsLocal }
 {
     command?.arg(arg)
@@ -57,7 +60,8 @@ pub(crate) fn with_own<'a>(
     arg: Arg<'a>,
 ) -> Result<Command<'a>, AllocError>
     requires { arg.global ≡ false }
-    ensures { (app : App) (rule : Rule) → rule_of arg.entry ≡ rule → IfOk command.entry (IsApp app) → IfOk result (IsApp (with_rule app rule)) }
+    ensures { (app : App) (rule : Rule) → rule_of arg.entry ≡ rule → IfOk command.entry (IsApp app)
+        → IfOk result (IsApp (with_rule app rule)) }
 {
     command?.arg(arg)
 }
@@ -68,7 +72,8 @@ pub(crate) fn among<'a>(
     sub: Result<Command<'a>, AllocError>,
 ) -> Result<Command<'a>, AllocError>
     requires { IfOk sub IsLocal }
-    ensures { (app : App) (shape : Shape) → IfOk command.entry (IsApp app) → IfOk sub.entry (IsShape shape) → IfOk result (IsApp (among app shape)) }
+    ensures { (app : App) (shape : Shape) → IfOk command.entry (IsApp app)
+        → IfOk sub.entry (IsShape shape) → IfOk result (IsApp (among app shape)) }
 {
     let command = command?;
     command.subcommand(sub?)

@@ -1,17 +1,19 @@
-//! What the command lines of `trustd` take, as `clap` parses it: which subcommands there are, and the arguments of each, with their help.
+//! What the command lines of `trustd` take, as `clap` parses it: which subcommands there are, and
+//! the arguments of each, with their help.
 //!
 //! ```text
 //! let matches = program(alloc)?.try_get_matches_from(words)?;      // or `commands`, `questions`
 //! ```
 //!
-//! There are three command lines, each of one level, so that the parser's contracts say all of it: the program's own, that of `trustd command`
-//! and that of `trustd question`.
+//! There are three command lines, each of one level, so that the parser's contracts say all of it:
+//! the program's own, that of `trustd command` and that of `trustd question`.
 //!
 //! | Call | What its clause says |
 //! |---|---|
 //! | [`program`], [`commands`], [`questions`] | the command line is the one of that name in `specs/Shapes`, with each argument: its kind, how often it may be given, and whether it has to be |
 //!
-//! The text of help and of errors is what `clap` makes of the words here; no clause says it. The error is that memory ran out.
+//! The text of help and of errors is what `clap` makes of the words here; no clause says it. The
+//! error is that memory ran out.
 #![tactic(auto)]
 
 mod arguments;

@@ -86,7 +86,8 @@ fn with_upkeep<'a>(
     alloc: Global,
     program: Result<Command<'a>, AllocError>,
 ) -> Result<Command<'a>, AllocError>
-    ensures { (app : App) → IfOk program.entry (IsApp app) → IfOk result (IsApp (shapes.with_upkeep app)) }
+    ensures { (app : App) → IfOk program.entry (IsApp app)
+        → IfOk result (IsApp (shapes.with_upkeep app)) }
 {
     let what = "Prints how many commands a node knows";
     let program = among(program, reaching(alloc, "status", what));
@@ -131,7 +132,8 @@ fn node_tasks<'a>(alloc: Global) -> Result<Command<'a>, AllocError>
     among(program, carry(alloc))
 }
 
-/// The command line of the program. The words of `trustd command` and `trustd question` go to command lines of their own.
+/// The command line of the program. The words of `trustd command` and `trustd question` go to
+/// command lines of their own.
 pub fn program<'a>(alloc: Global) -> Result<Command<'a>, AllocError>
     ensures { IfOk result (λ r. app_of r ≡ shapes.program) }
 {

@@ -14,7 +14,8 @@ fn with_flags<'a>(
     alloc: Global,
     own: Result<Command<'a>, AllocError>,
 ) -> Result<Command<'a>, AllocError>
-    ensures shape { (shape : Shape) → IfOk own.entry (IsShape shape) → IfOk result (IsShape (shapes.with_flags shape)) }
+    ensures shape { (shape : Shape) → IfOk own.entry (IsShape shape)
+        → IfOk result (IsShape (shapes.with_flags shape)) }
     ensures local { IfOk own.entry IsLocal → IfOk result IsLocal }
 {
     let help = "Refuse a certificate of unknown status";
@@ -33,7 +34,8 @@ fn with_terms<'a>(
     alloc: Global,
     own: Result<Command<'a>, AllocError>,
 ) -> Result<Command<'a>, AllocError>
-    ensures shape { (shape : Shape) → IfOk own.entry (IsShape shape) → IfOk result (IsShape (shapes.with_terms shape)) }
+    ensures shape { (shape : Shape) → IfOk own.entry (IsShape shape)
+        → IfOk result (IsShape (shapes.with_terms shape)) }
     ensures local { IfOk own.entry IsLocal → IfOk result IsLocal }
 {
     let at = option(alloc, "at", "TIME", "The moment, as 20260101000000Z");

@@ -1,28 +1,40 @@
 -- The fields of a frame read from front to back.
-use Rattle.std.specs.Prelude.{◌==◌, ℕ, Bool, nat_le, List, [], ◌∷◌, length, Option, Some, None, Result, Ok, Err, if◌then◌else◌}
+use Rattle.std.specs.Prelude.{◌==◌, ℕ, Bool, nat_le, List, [], ◌∷◌, length, Option, Some, None}
+use Rattle.std.specs.Prelude.{Result, Ok, Err, if◌then◌else◌}
 use Rattle.std.specs.Int.{w32, w64}
-use Rattle.ts_question.specs.Reading.{◌>>=◌, provided, octet_at, number_at, octets_at, blob32_at, whole, lookup}
+use Rattle.ts_question.specs.Reading.{◌>>=◌, provided, octet_at, number_at, octets_at, blob32_at}
+use Rattle.ts_question.specs.Reading.{whole, lookup}
 use Rattle.ts_question.specs.Question.{Asked}
 use Rattle.ts_question.specs.QuestionReading.{question_at, position_at as prefix_at}
 use Rattle.ts_question.specs.ReplyReading.{answer_at}
 use Rattle.ts_synod.specs.declared.message.Body.{Body}
-use Rattle.ts_synod.specs.declared.message.Body.TheVariants.{Prepare, Promise, Busy, Accept, Accepted, Ask, Give}
+use Rattle.ts_synod.specs.declared.message.Body.TheVariants.{Prepare, Promise, Busy, Accept}
+use Rattle.ts_synod.specs.declared.message.Body.TheVariants.{Accepted, Ask, Give}
 use Rattle.ts_synod.specs.declared.message.Vote.{Vote}
 use Rattle.ts_store.specs.declared.command.Command.{Command}
 use Rattle.ts_store.specs.declared.outcome.Outcome.{Outcome as Came}
 use Rattle.ts_store.specs.declared.outcome.Outcome.TheVariants.{Applied, Repeated, Refused}
 use Rattle.ts_store.specs.declared.outcome.Refusal.{Refusal}
-use Rattle.ts_store.specs.declared.outcome.Refusal.TheVariants.{AnchorThere, NoAnchor, Malformed, OlderCrl, CriticalCrlExtension, StoreFull, DeltaCrl, NoCrl, RelativeName, Indirect}
+use Rattle.ts_store.specs.declared.outcome.Refusal.TheVariants.{AnchorThere, NoAnchor, Malformed}
+use Rattle.ts_store.specs.declared.outcome.Refusal.TheVariants.{OlderCrl, CriticalCrlExtension}
+use Rattle.ts_store.specs.declared.outcome.Refusal.TheVariants.{StoreFull, DeltaCrl, NoCrl}
+use Rattle.ts_store.specs.declared.outcome.Refusal.TheVariants.{RelativeName, Indirect}
 use Rattle.ts_wire.specs.Commands.{parsed}
 use Rattle.ts_wire.specs.Outcomes.{is_node, is_position, is_ballot}
 use Rattle.ts_wire.specs.Frames.{is_kind}
 use Rattle.ts_wire.specs.declared.route.Route.{Route}
 use Rattle.ts_wire.specs.declared.fault.NodeFault.{NodeFault as NodeFaultOf}
-use Rattle.ts_wire.specs.declared.fault.NodeFault.TheVariants.{Memory, DiskFailed, Broken, RoundsExhausted, PositionsExhausted, GenerationsExhausted}
+use Rattle.ts_wire.specs.declared.fault.NodeFault.TheVariants.{Memory, DiskFailed, Broken}
+use Rattle.ts_wire.specs.declared.fault.NodeFault.TheVariants.{RoundsExhausted, PositionsExhausted}
+use Rattle.ts_wire.specs.declared.fault.NodeFault.TheVariants.{GenerationsExhausted}
 use Rattle.ts_wire.specs.declared.fault.FrameFault.{FrameFault as FrameFaultOf}
-use Rattle.ts_wire.specs.declared.fault.FrameFault.TheVariants.{Length, Version, Kind, Field, Trailing}
+use Rattle.ts_wire.specs.declared.fault.FrameFault.TheVariants.{Length, Version, Kind, Field}
+use Rattle.ts_wire.specs.declared.fault.FrameFault.TheVariants.{Trailing}
 use Rattle.ts_wire.specs.declared.frame.Frame.{Frame}
-use Rattle.ts_wire.specs.declared.frame.Frame.TheVariants.{Peer, Submit, Question, Take, Outcome, CatchUp, Status, Compact, Done, Started, Settled, Answer, Unknown, NodeFault, FrameFault, Prefix}
+use Rattle.ts_wire.specs.declared.frame.Frame.TheVariants.{Peer, Submit, Question, Take, Outcome}
+use Rattle.ts_wire.specs.declared.frame.Frame.TheVariants.{CatchUp, Status, Compact, Done, Started}
+use Rattle.ts_wire.specs.declared.frame.Frame.TheVariants.{Settled, Answer, Unknown, NodeFault}
+use Rattle.ts_wire.specs.declared.frame.Frame.TheVariants.{FrameFault, Prefix}
 
 unfoldable pub node_at : List ℕ → Option (ℕ × List ℕ)
 node_at octets = do
@@ -147,7 +159,9 @@ started_at octets = do
   Some (Started position.0 ballot.0, ballot.1)
 
 abbrev pub refusals : List (ℕ × Refusal)
-refusals = (1, AnchorThere) ∷ (2, NoAnchor) ∷ (3, Malformed) ∷ (4, OlderCrl) ∷ (5, CriticalCrlExtension) ∷ (6, StoreFull) ∷ (7, DeltaCrl) ∷ (8, NoCrl) ∷ (9, RelativeName) ∷ (10, Indirect) ∷ []
+refusals = (1, AnchorThere) ∷ (2, NoAnchor) ∷ (3, Malformed) ∷ (4, OlderCrl)
+    ∷ (5, CriticalCrlExtension) ∷ (6, StoreFull) ∷ (7, DeltaCrl) ∷ (8, NoCrl) ∷ (9, RelativeName)
+    ∷ (10, Indirect) ∷ []
 
 unfoldable pub repeated_at : List ℕ → Option (Came × List ℕ)
 repeated_at octets = do
@@ -166,7 +180,8 @@ applied_at octets = Some (Applied, octets)
 unfoldable pub outcome_at : List ℕ → Option (Came × List ℕ)
 outcome_at octets = do
   form ← octet_at octets
-  if form.0 == 0 then applied_at form.1 else if form.0 == 1 then repeated_at form.1 else if form.0 == 2 then refused_at form.1 else None
+  if form.0 == 0 then applied_at form.1 else if form.0 == 1 then repeated_at form.1
+      else if form.0 == 2 then refused_at form.1 else None
 
 unfoldable pub settled_at : List ℕ → Option (Frame × List ℕ)
 settled_at octets = do
@@ -180,7 +195,8 @@ replied_at octets = do
   Some (Answer answer.0, answer.1)
 
 abbrev pub node_faults : List (ℕ × NodeFaultOf)
-node_faults = (1, Memory) ∷ (2, DiskFailed) ∷ (3, Broken) ∷ (4, RoundsExhausted) ∷ (5, PositionsExhausted) ∷ (6, GenerationsExhausted) ∷ []
+node_faults = (1, Memory) ∷ (2, DiskFailed) ∷ (3, Broken) ∷ (4, RoundsExhausted)
+    ∷ (5, PositionsExhausted) ∷ (6, GenerationsExhausted) ∷ []
 
 unfoldable pub node_fault_at : List ℕ → Option (Frame × List ℕ)
 node_fault_at octets = do
@@ -208,9 +224,12 @@ bare frame octets = Some (frame, octets)
 
 -- how the fields of each kind are read
 abbrev pub readers : List (ℕ × (List ℕ → Option (Frame × List ℕ)))
-readers = (1, prepare_at) ∷ (2, promise_at) ∷ (3, busy_at) ∷ (4, accept_at) ∷ (5, accepted_at) ∷ (6, ask_at) ∷ (7, give_at)
-    ∷ (16, submit_at) ∷ (17, asked_at) ∷ (18, bare Take) ∷ (19, inquiry_at) ∷ (20, bare CatchUp) ∷ (21, bare Status) ∷ (22, bare Compact)
-    ∷ (32, done_at) ∷ (33, started_at) ∷ (34, settled_at) ∷ (35, replied_at) ∷ (36, bare Unknown) ∷ (37, node_fault_at) ∷ (38, frame_fault_at) ∷ (39, known_at) ∷ []
+readers = (1, prepare_at) ∷ (2, promise_at) ∷ (3, busy_at) ∷ (4, accept_at) ∷ (5, accepted_at)
+    ∷ (6, ask_at) ∷ (7, give_at)
+    ∷ (16, submit_at) ∷ (17, asked_at) ∷ (18, bare Take) ∷ (19, inquiry_at) ∷ (20, bare CatchUp)
+    ∷ (21, bare Status) ∷ (22, bare Compact)
+    ∷ (32, done_at) ∷ (33, started_at) ∷ (34, settled_at) ∷ (35, replied_at) ∷ (36, bare Unknown)
+    ∷ (37, node_fault_at) ∷ (38, frame_fault_at) ∷ (39, known_at) ∷ []
 
 unfoldable pub fields_at : ℕ → List ℕ → Option (Frame × List ℕ)
 fields_at kind octets = lookup kind readers >>= λ read. read octets
@@ -224,4 +243,5 @@ ended (Some frame) = if length frame.1 == 0 then Ok frame.0 else Err Trailing
 unfoldable pub frame_in : List ℕ → Result Frame FrameFaultOf
 frame_in [] = Err Length
 frame_in (version ∷ []) = Err Length
-frame_in (version ∷ kind ∷ octets) = if version == 2 then (if is_kind kind then ended (fields_at kind octets) else Err Kind) else Err Version
+frame_in (version ∷ kind ∷ octets) = if version == 2
+    then (if is_kind kind then ended (fields_at kind octets) else Err Kind) else Err Version

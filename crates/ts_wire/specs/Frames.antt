@@ -1,17 +1,23 @@
 -- Frames, how each is encoded, and which have an encoding.
-use Rattle.std.specs.Prelude.{◌≡◌, ◌≤◌, ◌+◌, ◌||◌, ◌&&◌, ℕ, Bool, true, nat_le, nat_lt, List, [], ◌∷◌, ◌++◌, length, Option, Some, None}
+use Rattle.std.specs.Prelude.{◌≡◌, ◌≤◌, ◌+◌, ◌||◌, ◌&&◌, ℕ, Bool, true, nat_le, nat_lt, List, []}
+use Rattle.std.specs.Prelude.{◌∷◌, ◌++◌, length, Option, Some, None}
 use Rattle.std.specs.Int.{to_be_bytes, w32, w64}
 use Rattle.ts_synod.specs.declared.message.Body.{Body}
-use Rattle.ts_synod.specs.declared.message.Body.TheVariants.{Prepare, Promise, Busy, Accept, Accepted, Ask, Give}
+use Rattle.ts_synod.specs.declared.message.Body.TheVariants.{Prepare, Promise, Busy, Accept}
+use Rattle.ts_synod.specs.declared.message.Body.TheVariants.{Accepted, Ask, Give}
 use Rattle.ts_synod.specs.declared.message.Vote.{Vote}
 use Rattle.ts_store.specs.declared.command.Command.{Command}
 use Rattle.ts_store.specs.Commands.{encoding as command_octets, Fits as CommandFits}
 use Rattle.ts_question.specs.Parts.{blob32}
 use Rattle.ts_question.specs.Question.{encoding as question_octets, Fits as QuestionFits}
 use Rattle.ts_question.specs.Reply.{encoding as answer_octets, Fits as AnswerFits}
-use Rattle.ts_wire.specs.Outcomes.{is_node, is_position, is_ballot, outcome_encoding, OutcomeFits, node_fault_code, frame_fault_code}
+use Rattle.ts_wire.specs.Outcomes.{is_node, is_position, is_ballot, outcome_encoding, OutcomeFits}
+use Rattle.ts_wire.specs.Outcomes.{node_fault_code, frame_fault_code}
 use Rattle.ts_wire.specs.declared.frame.Frame.{Frame}
-use Rattle.ts_wire.specs.declared.frame.Frame.TheVariants.{Peer, Submit, Question, Take, Outcome, CatchUp, Status, Compact, Done, Started, Settled, Answer, Unknown, NodeFault, FrameFault, Prefix}
+use Rattle.ts_wire.specs.declared.frame.Frame.TheVariants.{Peer, Submit, Question, Take, Outcome}
+use Rattle.ts_wire.specs.declared.frame.Frame.TheVariants.{CatchUp, Status, Compact, Done, Started}
+use Rattle.ts_wire.specs.declared.frame.Frame.TheVariants.{Settled, Answer, Unknown, NodeFault}
+use Rattle.ts_wire.specs.declared.frame.Frame.TheVariants.{FrameFault, Prefix}
 
 abbrev pub body_kind : Body Command → ℕ
 body_kind (Prepare position ballot) = 1
@@ -43,19 +49,25 @@ kind_of (Prefix prefix) = 39
 
 -- 01 to 07, 10 to 16 and 20 to 27, hexadecimal
 abbrev pub is_kind : ℕ → Bool
-is_kind kind = (nat_le 1 kind && nat_le kind 7) || (nat_le 16 kind && nat_le kind 22) || (nat_le 32 kind && nat_le kind 39)
+is_kind kind = (nat_le 1 kind && nat_le kind 7) || (nat_le 16 kind && nat_le kind 22)
+    || (nat_le 32 kind && nat_le kind 39)
 
 -- 00, or 01, the ballot and the command
 abbrev pub taken_encoding : Option (Vote Command) → List ℕ
 taken_encoding None = 0 ∷ []
-taken_encoding (Some vote) = 1 ∷ (to_be_bytes w64 vote.ballot ++ blob32 (command_octets vote.command))
+taken_encoding (Some vote) = 1
+    ∷ (to_be_bytes w64 vote.ballot ++ blob32 (command_octets vote.command))
 
 abbrev pub body_encoding : Body Command → List ℕ
 body_encoding (Prepare position ballot) = to_be_bytes w32 position ++ to_be_bytes w64 ballot
-body_encoding (Promise position ballot taken) = to_be_bytes w32 position ++ (to_be_bytes w64 ballot ++ taken_encoding taken)
-body_encoding (Busy position ballot promised) = to_be_bytes w32 position ++ (to_be_bytes w64 ballot ++ to_be_bytes w64 promised)
-body_encoding (Accept position ballot command) = to_be_bytes w32 position ++ (to_be_bytes w64 ballot ++ blob32 (command_octets command))
-body_encoding (Accepted position ballot command) = to_be_bytes w32 position ++ (to_be_bytes w64 ballot ++ blob32 (command_octets command))
+body_encoding (Promise position ballot taken) =
+    to_be_bytes w32 position ++ (to_be_bytes w64 ballot ++ taken_encoding taken)
+body_encoding (Busy position ballot promised) =
+    to_be_bytes w32 position ++ (to_be_bytes w64 ballot ++ to_be_bytes w64 promised)
+body_encoding (Accept position ballot command) =
+    to_be_bytes w32 position ++ (to_be_bytes w64 ballot ++ blob32 (command_octets command))
+body_encoding (Accepted position ballot command) =
+    to_be_bytes w32 position ++ (to_be_bytes w64 ballot ++ blob32 (command_octets command))
 body_encoding (Ask position) = to_be_bytes w32 position
 body_encoding (Give position command) = to_be_bytes w32 position ++ blob32 (command_octets command)
 
@@ -89,16 +101,21 @@ TakenFits (Some vote) = (is_ballot vote.ballot ≡ true) × CommandFits vote.com
 
 abbrev pub BodyFits : Body Command → Type 0
 BodyFits (Prepare position ballot) = (is_position position ≡ true) × (is_ballot ballot ≡ true)
-BodyFits (Promise position ballot taken) = (is_position position ≡ true) × (is_ballot ballot ≡ true) × TakenFits taken
-BodyFits (Busy position ballot promised) = (is_position position ≡ true) × (is_ballot ballot ≡ true) × (is_ballot promised ≡ true)
-BodyFits (Accept position ballot command) = (is_position position ≡ true) × (is_ballot ballot ≡ true) × CommandFits command
-BodyFits (Accepted position ballot command) = (is_position position ≡ true) × (is_ballot ballot ≡ true) × CommandFits command
+BodyFits (Promise position ballot taken) =
+    (is_position position ≡ true) × (is_ballot ballot ≡ true) × TakenFits taken
+BodyFits (Busy position ballot promised) =
+    (is_position position ≡ true) × (is_ballot ballot ≡ true) × (is_ballot promised ≡ true)
+BodyFits (Accept position ballot command) =
+    (is_position position ≡ true) × (is_ballot ballot ≡ true) × CommandFits command
+BodyFits (Accepted position ballot command) =
+    (is_position position ≡ true) × (is_ballot ballot ≡ true) × CommandFits command
 BodyFits (Ask position) = is_position position ≡ true
 BodyFits (Give position command) = (is_position position ≡ true) × CommandFits command
 
 -- each field is in its range
 abbrev pub FieldsFit : Frame → Type 0
-FieldsFit (Peer message) = (is_node message.from ≡ true) × (is_node message.to ≡ true) × BodyFits message.body
+FieldsFit (Peer message) = (is_node message.from ≡ true) × (is_node message.to ≡ true)
+    × BodyFits message.body
 FieldsFit (Submit command) = CommandFits command
 FieldsFit (Question question) = QuestionFits question
 FieldsFit (Outcome id) = length id ≡ 16

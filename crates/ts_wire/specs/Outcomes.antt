@@ -4,11 +4,17 @@ use Rattle.std.specs.Int.{to_be_bytes, w32}
 use Rattle.ts_store.specs.declared.outcome.Outcome.{Outcome}
 use Rattle.ts_store.specs.declared.outcome.Outcome.TheVariants.{Applied, Repeated, Refused}
 use Rattle.ts_store.specs.declared.outcome.Refusal.{Refusal}
-use Rattle.ts_store.specs.declared.outcome.Refusal.TheVariants.{AnchorThere, NoAnchor, Malformed, OlderCrl, CriticalCrlExtension, StoreFull, DeltaCrl, NoCrl, RelativeName, Indirect}
+use Rattle.ts_store.specs.declared.outcome.Refusal.TheVariants.{AnchorThere, NoAnchor, Malformed}
+use Rattle.ts_store.specs.declared.outcome.Refusal.TheVariants.{OlderCrl, CriticalCrlExtension}
+use Rattle.ts_store.specs.declared.outcome.Refusal.TheVariants.{StoreFull, DeltaCrl, NoCrl}
+use Rattle.ts_store.specs.declared.outcome.Refusal.TheVariants.{RelativeName, Indirect}
 use Rattle.ts_wire.specs.declared.fault.NodeFault.{NodeFault}
-use Rattle.ts_wire.specs.declared.fault.NodeFault.TheVariants.{Memory, DiskFailed, Broken, RoundsExhausted, PositionsExhausted, GenerationsExhausted}
+use Rattle.ts_wire.specs.declared.fault.NodeFault.TheVariants.{Memory, DiskFailed, Broken}
+use Rattle.ts_wire.specs.declared.fault.NodeFault.TheVariants.{RoundsExhausted, PositionsExhausted}
+use Rattle.ts_wire.specs.declared.fault.NodeFault.TheVariants.{GenerationsExhausted}
 use Rattle.ts_wire.specs.declared.fault.FrameFault.{FrameFault}
-use Rattle.ts_wire.specs.declared.fault.FrameFault.TheVariants.{Length, Version, Kind, Field, Trailing}
+use Rattle.ts_wire.specs.declared.fault.FrameFault.TheVariants.{Length, Version, Kind, Field}
+use Rattle.ts_wire.specs.declared.fault.FrameFault.TheVariants.{Trailing}
 
 -- a node's number is 1 to 9
 abbrev pub is_node : ℕ → Bool

@@ -1,11 +1,13 @@
 -- What taking a frame from a stream answers.
-use Rattle.std.specs.Prelude.{◌≡◌, ◌≤◌, ◌+◌, ◌++◌, ℕ, List, length, drop, Option, Some, None, Result, Ok, Err}
+use Rattle.std.specs.Prelude.{◌≡◌, ◌≤◌, ◌+◌, ◌++◌, ℕ, List, length, drop, Option, Some, None}
+use Rattle.std.specs.Prelude.{Result, Ok, Err}
 use Rattle.std.specs.List.{flat_map, AllByRecursion}
 use Rattle.std.specs.Int.{to_be_bytes, w32}
 use Rattle.ts_wire.specs.Frames.{encoding, Fits}
 use Rattle.ts_wire.specs.Stream.{IsLength, IsPartial, IsFault, Ends}
 use Rattle.ts_wire.specs.declared.fault.FrameFault.{FrameFault}
-use Rattle.ts_wire.specs.declared.fault.FrameFault.TheVariants.{Length, Version, Kind, Field, Trailing}
+use Rattle.ts_wire.specs.declared.fault.FrameFault.TheVariants.{Length, Version, Kind, Field}
+use Rattle.ts_wire.specs.declared.fault.FrameFault.TheVariants.{Trailing}
 use Rattle.ts_wire.specs.declared.frame.Frame.{Frame}
 use Rattle.ts_wire.specs.declared.wire_error.FeedError.{FeedError}
 use Rattle.ts_wire.specs.declared.wire_error.FeedError.TheVariants.{Memory, Frame as Wrong}
@@ -33,7 +35,8 @@ SizeOr octets (Ok (Some n)) = Sized octets n
 SizeOr octets (Err fault) = IsFault fault octets × (fault ≡ Length)
 
 -- frames that fit were taken from the front of octets, up to a fault or to less than a whole frame
-pub record Drains (old : List ℕ) (before : List Frame) (new : List ℕ) (after : List Frame) (fault : Option FrameFault) : Type 0 where
+pub record Drains (old : List ℕ) (before : List Frame) (new : List ℕ) (after : List Frame)
+    (fault : Option FrameFault) : Type 0 where
   pub taken : List Frame
   pub each : AllByRecursion Fits taken
   pub more : after ≡ before ++ taken

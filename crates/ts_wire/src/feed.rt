@@ -1,6 +1,8 @@
 //! A stream that comes in pieces is read as frames.
 
-ghost use Rattle.std.specs.Prelude.{◌≡◌, ◌≤◌, ◌<◌, ◌^◌, ◌++◌, ◌||◌, [], None, ℕ, List, length, drop, nat_eq, OnOk, OnErr, IfOk, IfSome, IfNone, MatchResult, MatchOption, ⊤};
+ghost use Rattle.std.specs.Prelude.{◌≡◌, ◌≤◌, ◌<◌, ◌^◌, ◌++◌, ◌||◌, [], None, ℕ, List, length};
+ghost use Rattle.std.specs.Prelude.{drop, nat_eq, OnOk, OnErr, IfOk, IfSome, IfNone, MatchResult};
+ghost use Rattle.std.specs.Prelude.{MatchOption, ⊤};
 ghost use Rattle.std.specs.Int.{to_be_bytes, w32};
 ghost use Rattle.ts_wire.specs.Frames.{is_kind, encoding, Fits};
 ghost use Rattle.ts_wire.specs.FrameReading.{frame_in};
@@ -51,7 +53,8 @@ fn frame_of(alloc: Global, body: &[u8]) -> Result<Frame, FeedError>
 
 /// The number that begins here.
 fn length_at(octets: &[u8]) -> Option<u32>
-    ensures found { MatchOption result (length octets.now < 4) (λ n. octets.now ≡ to_be_bytes w32 n ++ drop 4 octets.now) }
+    ensures found { MatchOption result (length octets.now < 4)
+        (λ n. octets.now ≡ to_be_bytes w32 n ++ drop 4 octets.now) }
     ensures range { IfSome result (λ n. n < 2 ^ 32) }
     ensures enough { IfSome result (λ _. 4 ≤ length octets.now) }
 {
@@ -81,7 +84,9 @@ fn size_of(octets: &[u8]) -> Result<Option<usize>, FrameFault>
 /// The frame that begins here, and the length of its octets.
 fn first(alloc: Global, octets: &[u8]) -> Result<Option<(Frame, usize)>, FeedError>
     ensures { MatchResult result
-        (λ found. MatchOption found (IsPartial octets.now) (λ x. Fits x.0 × (x.1 ≤ length octets.now) × (octets.now ≡ encoding x.0 ++ drop x.1 octets.now)))
+        (λ found. MatchOption found (IsPartial octets.now)
+        (λ x. Fits x.0 × (x.1 ≤ length octets.now)
+        × (octets.now ≡ encoding x.0 ++ drop x.1 octets.now)))
         (λ e. IsWrong e octets.now) }
 {
     let size = match size_of(octets) {
@@ -98,7 +103,8 @@ fn first(alloc: Global, octets: &[u8]) -> Result<Option<(Frame, usize)>, FeedErr
 
 /// A stream's octets of which no frame was taken yet. Contracts see these.
 ///
-/// A frame that comes octet by octet is copied about twice, as the room for it doubles, and is looked into once it is whole.
+/// A frame that comes octet by octet is copied about twice, as the room for it doubles, and is
+/// looked into once it is whole.
 #[derive(Drop)]
 pub struct Feed {
     alloc: Global,
@@ -170,12 +176,15 @@ impl Feed {
     ///
     /// # Errors
     ///
-    /// Memory that is refused; `Frame` with the fault that is in a frame's place. Nothing changes then: a fault is answered again,
-    /// whatever comes after it.
+    /// Memory that is refused; `Frame` with the fault that is in a frame's place. Nothing changes
+    /// then: a fault is answered again, whatever comes after it.
     pub fn take(&mut self) -> Result<Option<Frame>, FeedError>
-        ensures frame { IfOk result (λ found. IfSome found (λ frame. Fits frame × (self.old ≡ encoding frame ++ self.new))) }
-        ensures partial { IfOk result (λ found. IfNone found (IsPartial self.old × (self.new ≡ self.old))) }
-        ensures wrong { MatchResult result (λ _. ⊤) (λ e. IsWrong e self.old × (self.new ≡ self.old)) }
+        ensures frame { IfOk result (λ found. IfSome found
+            (λ frame. Fits frame × (self.old ≡ encoding frame ++ self.new))) }
+        ensures partial { IfOk result (λ found. IfNone found
+            (IsPartial self.old × (self.new ≡ self.old))) }
+        ensures wrong { MatchResult result (λ _. ⊤)
+            (λ e. IsWrong e self.old × (self.new ≡ self.old)) }
     {
         match first(self.alloc, &self.buffer[self.start..])? {
             Some((frame, size)) => {

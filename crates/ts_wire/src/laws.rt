@@ -8,13 +8,16 @@ ghost use Rattle.ts_wire.specs.declared.frame.Frame.{Frame};
 
 /// No frame's encoding is the beginning of another's.
 pub fn no_front()
-    ensures frame { (f g : Frame) (a b : List ℕ) → Fits f → Fits g → encoding f ++ a ≡ encoding g ++ b → f ≡ g }
-    ensures rest { (f g : Frame) (a b : List ℕ) → Fits f → Fits g → encoding f ++ a ≡ encoding g ++ b → a ≡ b }
+    ensures frame { (f g : Frame) (a b : List ℕ) → Fits f → Fits g
+        → encoding f ++ a ≡ encoding g ++ b → f ≡ g }
+    ensures rest { (f g : Frame) (a b : List ℕ) → Fits f → Fits g
+        → encoding f ++ a ≡ encoding g ++ b → a ≡ b }
 {}
 
 /// A stream is one list of frames, up to one fault or none.
 pub fn one_reading()
-    ensures frames { (stream : List ℕ) (frames others : List Frame) (fault other : Option FrameFault)
+    ensures frames { (stream : List ℕ) (frames others : List Frame)
+        (fault other : Option FrameFault)
         → Splits stream frames fault → Splits stream others other → frames ≡ others }
     ensures fault { (stream : List ℕ) (frames others : List Frame) (fault other : Option FrameFault)
         → Splits stream frames fault → Splits stream others other → fault ≡ other }
@@ -22,5 +25,6 @@ pub fn one_reading()
 
 /// A fault stays, whatever comes after it.
 pub fn fault_stays()
-    ensures { (fault : FrameFault) (octets more : List ℕ) → IsFault fault octets → IsFault fault (octets ++ more) }
+    ensures { (fault : FrameFault) (octets more : List ℕ) → IsFault fault octets
+        → IsFault fault (octets ++ more) }
 {}

@@ -7,9 +7,9 @@
 //! while let Some(frame) = feed.take()? { .. }       // Frame(fault) where a fault is in a frame's place
 //! ```
 //!
-//! A frame is four octets of the length of what follows (2 to 8,388,608), the version, 02, an octet of the kind, and fields
-//! (`specs/Frames`). Numbers are big endian. Nodes are 1 to 9, positions 1 to 1,000,000; a ballot has a round of at least 1 and a node
-//! in the low four bits.
+//! A frame is four octets of the length of what follows (2 to 8,388,608), the version, 02, an octet
+//! of the kind, and fields (`specs/Frames`). Numbers are big endian. Nodes are 1 to 9, positions 1
+//! to 1,000,000; a ballot has a round of at least 1 and a node in the low four bits.
 //!
 //! | Call | Clauses |
 //! |---|---|

@@ -4,7 +4,13 @@ ghost use Rattle.std.specs.Prelude.{◌≡◌, IfOk};
 ghost use Rattle.ts_question.specs.Reading.{Gives, lookup, whole, octets_at};
 ghost use Rattle.ts_question.specs.QuestionReading.{question_at};
 ghost use Rattle.ts_wire.specs.Commands.{parsed};
-ghost use Rattle.ts_wire.specs.FrameReading.{blob_command_at, blob_question_at, vote_at, taken_at, peer, prepare_at, promise_at, busy_at, accept_at, accepted_at, ask_at, give_at, submit_at, asked_at, inquiry_at, done_at, started_at, refusals, repeated_at, refused_at, outcome_at, settled_at, replied_at, node_faults, node_fault_at, frame_faults, frame_fault_at, known_at, fields_at};
+ghost use Rattle.ts_wire.specs.FrameReading.{blob_command_at, blob_question_at, vote_at, taken_at};
+ghost use Rattle.ts_wire.specs.FrameReading.{peer, prepare_at, promise_at, busy_at, accept_at};
+ghost use Rattle.ts_wire.specs.FrameReading.{accepted_at, ask_at, give_at, submit_at, asked_at};
+ghost use Rattle.ts_wire.specs.FrameReading.{inquiry_at, done_at, started_at, refusals};
+ghost use Rattle.ts_wire.specs.FrameReading.{repeated_at, refused_at, outcome_at, settled_at};
+ghost use Rattle.ts_wire.specs.FrameReading.{replied_at, node_faults, node_fault_at, frame_faults};
+ghost use Rattle.ts_wire.specs.FrameReading.{frame_fault_at, known_at, fields_at};
 
 use crate::fault::{FrameFault, NodeFault};
 use crate::frame::Frame;

@@ -1,6 +1,7 @@
 //! A whole stream, in whatever pieces it comes.
 
-ghost use Rattle.std.specs.Prelude.{◌≡◌, ◌≤◌, ◌<◌, ◌++◌, ℕ, List, Option, length, map, slice_index, IfOk};
+ghost use Rattle.std.specs.Prelude.{◌≡◌, ◌≤◌, ◌<◌, ◌++◌, ℕ, List, Option, length, map, slice_index};
+ghost use Rattle.std.specs.Prelude.{IfOk};
 ghost use Rattle.std.specs.List.{flat_map, AllByRecursion};
 ghost use Rattle.ts_wire.specs.Frames.{encoding, Fits};
 ghost use Rattle.ts_wire.specs.Stream.{Ends, Splits};
@@ -16,7 +17,8 @@ use std::alloc::{AllocError, Global};
 
 /// Takes the frames that are whole, up to a fault, and puts them after others.
 fn drain(feed: &mut Feed, frames: &mut Vec<Frame>) -> Result<Option<FrameFault>, AllocError>
-    ensures { IfOk result (λ fault. Drains feed.old frames.old.items feed.new frames.new.items fault) }
+    ensures { IfOk result (λ fault. Drains feed.old frames.old.items feed.new frames.new.items
+        fault) }
 {
     loop {
         match feed.take() {
@@ -28,7 +30,8 @@ fn drain(feed: &mut Feed, frames: &mut Vec<Frame>) -> Result<Option<FrameFault>,
     }
 }
 
-/// The frames of a stream that comes in these pieces, and the fault that follows them in a frame's place, if one does.
+/// The frames of a stream that comes in these pieces, and the fault that follows them in a frame's
+/// place, if one does.
 ///
 /// # Errors
 ///
@@ -38,9 +41,11 @@ pub fn decode(
     pieces: &[Vec<u8>],
 ) -> Result<(Vec<Frame>, Option<FrameFault>), AllocError>
     // The stream is these frames, up to the fault or to less than a whole frame.
-    ensures splits { IfOk result (λ read. Splits (flat_map (λ piece. piece.items) pieces.now) read.0.items read.1) }
+    ensures splits { IfOk result (λ read. Splits
+        (flat_map (λ piece. piece.items) pieces.now) read.0.items read.1) }
     // No others are, however the stream was cut into pieces.
-    ensures only { IfOk result (λ read. (others : List Frame) (other : Option FrameFault) → Splits (flat_map (λ piece. piece.items) pieces.now) others other
+    ensures only { IfOk result (λ read. (others : List Frame) (other : Option FrameFault)
+        → Splits (flat_map (λ piece. piece.items) pieces.now) others other
         → (read.0.items ≡ others) × (read.1 ≡ other)) }
 {
     let mut feed = Feed::new(alloc);

@@ -6,7 +6,8 @@ ghost use Rattle.ts_question.specs.Parts.{blob32};
 ghost use Rattle.ts_store.specs.Commands.{encoding as command_octets};
 ghost use Rattle.ts_question.specs.Question.{encoding as question_octets};
 ghost use Rattle.ts_wire.specs.Outcomes.{refusal_code, outcome_encoding};
-ghost use Rattle.ts_wire.specs.Frames.{body_kind, kind_of, taken_encoding, body_encoding, fields, encoding};
+ghost use Rattle.ts_wire.specs.Frames.{body_kind, kind_of, taken_encoding, body_encoding, fields};
+ghost use Rattle.ts_wire.specs.Frames.{encoding};
 ghost use Rattle.ts_wire.specs.declared.wire_error.WriteError.TheVariants.{Length};
 
 use crate::frame::Frame;
