@@ -12,7 +12,7 @@ use std::alloc::{AllocError, Global};
 use ts_der::{Oid, OidRef};
 use ts_history::LentAnchor;
 use ts_path::{Reason as PathReason, Verdict};
-use ts_question::{Oids, Places, Reason, Reply, identifier};
+use ts_question::{Oids, Places, Reason, Reply};
 use ts_search::Answer as SearchAnswer;
 use ts_shape::CertFault;
 
@@ -67,7 +67,7 @@ fn policies_of(alloc: Global, policies: &[&[u8]]) -> Result<Oids, AllocError>
 {
     let mut oids = Vec::new(alloc);
     for policy in policies {
-        let Some(oid) = identifier(policy) else {
+        let Some(oid) = OidRef::from_content(policy) else {
             return Err(AllocError);
         };
         oids.push(owned(alloc, oid)?)?;

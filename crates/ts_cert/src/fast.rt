@@ -15,11 +15,11 @@ ghost use Rattle.ts_field.specs.Time.{IsTime};
 ghost use Rattle.ts_cert.specs.Layout.{Spans, AreLaidOut, AreValidExplicit, IsRepeated, IsVersion3};
 ghost use Rattle.ts_cert.specs.Encoding.{IsValidity, IsKeyInfo};
 
-use crate::fields::{BIT_STRING, INTEGER, OBJECT_IDENTIFIER, SEQUENCE, UTC_TIME};
 use crate::layout::Layout;
 use crate::optional_reading::EXTENSIONS;
 use crate::version::{VERSION, Version};
-use ts_der::{Bounds, Element, are_equal, bounds_at, lie_between};
+use ts_der::{Bounds, OidRef, are_equal, bounds_at, lie_between};
+use ts_der::tag::{BIT_STRING, INTEGER, OBJECT_IDENTIFIER, SEQUENCE, UTC_TIME};
 use ts_ext::are_sound_extensions;
 use ts_name::is_name;
 use ts_time::begins_with_utc;
@@ -60,17 +60,7 @@ fn oid_end(octets: &[u8], at: usize) -> Option<usize>
     ensures { IfSome result (Spans (Within 0x06 IsOid) octets.now at) }
 {
     let Bounds { start, end } = bounds_at(octets, at, OBJECT_IDENTIFIER)?;
-    let content = &octets[start..end];
-    let element = Element {
-        tag: OBJECT_IDENTIFIER,
-        content,
-        whole: content,
-        at: 0,
-        start: 0,
-    };
-    let Ok(_) = element.oid() else {
-        return None;
-    };
+    let _oid = OidRef::from_content(&octets[start..end])?;
     Some(end)
 }
 

@@ -5,17 +5,8 @@ ghost use Rattle.ts_name.specs.NameView.{rdns_in};
 ghost use Rattle.ts_name.specs.Names.{name_at};
 
 use ts_der::{Fault, Reader};
+use ts_der::tag::SEQUENCE;
 use ts_name::Name;
-
-pub(crate) const INTEGER: u8 = 0x02;
-
-pub(crate) const BIT_STRING: u8 = 0x03;
-
-pub(crate) const OBJECT_IDENTIFIER: u8 = 0x06;
-
-pub(crate) const UTC_TIME: u8 = 0x17;
-
-pub(crate) const SEQUENCE: u8 = 0x30;
 
 /// The distinguished name that is next, which may have the octets of another. The reader has then
 /// passed it.

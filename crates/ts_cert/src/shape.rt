@@ -8,11 +8,11 @@ ghost use Rattle.ts_cert.specs.CertView.{unagreed_in, parts_in};
 
 use crate::algorithm::read_algorithm_beside;
 use crate::certificate::MAX_CERTIFICATE;
-use crate::fields::SEQUENCE;
 use crate::parts::Parts;
 use crate::rules::broken_rule;
 use crate::tbs::read_tbs;
 use ts_der::{DerFault, Element, Reader};
+use ts_der::tag::SEQUENCE;
 use ts_field::next_bits;
 use ts_shape::{CertFault, CertRule};
 

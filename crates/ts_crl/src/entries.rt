@@ -23,9 +23,8 @@ use crate::mark::Mark;
 use crate::noting::note_next;
 use crate::revoked::Revoked;
 use ts_der::{Element, Fault, Integer, Reader};
+use ts_der::tag::SEQUENCE;
 use ts_shape::{FromElement, SequenceItems};
-
-const SEQUENCE: u8 = 0x30;
 
 impl<'a> Revoked<'a> {
     /// The entries, in their order.

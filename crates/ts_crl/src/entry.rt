@@ -10,11 +10,10 @@ ghost use Rattle.ts_crl.specs.Reading.{entry_of};
 use crate::placed::{Placed, next_extensions_if_any};
 use crate::values::value_if_any;
 use ts_der::{Element, Fault, Integer};
+use ts_der::tag::SEQUENCE;
 use ts_ext::{Ext, Extensions, Holder, InvalidityDate, Known, ReasonCode};
 use ts_field::{Stamp, Time, next_integer, next_time};
 use ts_shape::{FromElement, tagged_as};
-
-const SEQUENCE: u8 = 0x30;
 
 /// A certificate that a list says to be revoked, as it lies in the source (RFC 5280 5.1.2.6).
 #[derive(Clone, Copy)]

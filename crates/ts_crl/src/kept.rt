@@ -24,11 +24,10 @@ use crate::tbs::{TbsCertList, stamp_if_any};
 use crate::update::next_update;
 use crate::version::next_version;
 use ts_der::{Element, Fault, Reader};
+use ts_der::tag::SEQUENCE;
 use ts_field::{Stamp, next_algorithm, next_bits, next_time, read_algorithm};
 use ts_name::Name;
 use ts_shape::{CertFault, tagged_as};
-
-const SEQUENCE: u8 = 0x30;
 
 /// The tag of a list's extensions, which are explicit (RFC 5280 5.1).
 const CRL_EXTENSIONS: u8 = 0xA0;

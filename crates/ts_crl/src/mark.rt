@@ -6,9 +6,8 @@ ghost use Rattle.ts_crl.specs.Marks.{mark_of};
 ghost use Rattle.ts_crl.specs.MarkView.{mark_as};
 
 use ts_der::{Element, Fault};
+use ts_der::tag::INTEGER;
 use ts_shape::FromElement;
-
-const INTEGER: u8 = 0x02;
 
 /// An entry of a list that was read before, of which no more is read again than its serial number.
 #[derive(Clone, Copy)]

@@ -25,11 +25,10 @@ use crate::findings::Findings;
 use crate::placed::Placed;
 use crate::rules::rule_fault;
 use ts_der::{DerFault, Element, Fault, Reader};
+use ts_der::tag::SEQUENCE;
 use ts_ext::{Extension, Holder};
 use ts_field::{next_integer, next_time};
 use ts_shape::{CertFault, FromElement, tagged_as};
-
-const SEQUENCE: u8 = 0x30;
 
 /// The next extension, which the reader has then passed.
 #[tactic(auto, unfolding(ts_shape::specs::Items::each))]

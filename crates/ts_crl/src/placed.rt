@@ -12,9 +12,8 @@ ghost use Rattle.ts_crl.specs.Reading.{extensions_of, wrapped_extensions_of};
 
 use crate::extension_list::ExtensionList;
 use ts_der::{Element, Fault, Reader};
+use ts_der::tag::SEQUENCE;
 use ts_shape::tagged_as;
-
-const SEQUENCE: u8 = 0x30;
 
 /// The tag of a list's extensions, which are explicit (RFC 5280 5.1).
 const CRL_EXTENSIONS: u8 = 0xA0;

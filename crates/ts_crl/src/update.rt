@@ -6,11 +6,8 @@ ghost use Rattle.ts_field.specs.Time.{time_of};
 ghost use Rattle.ts_crl.specs.Reading.{next_update_at};
 
 use ts_der::{Fault, Reader};
+use ts_der::tag::{GENERALIZED_TIME, UTC_TIME};
 use ts_field::{Time, read_time};
-
-const UTC_TIME: u8 = 0x17;
-
-const GENERALIZED_TIME: u8 = 0x18;
 
 /// A time in one of its forms, where an element of its tag is next.
 #[tactic(auto, unfolding(ts_shape::specs::Fields::optional_of, ts_der::specs::Reading::optional_at))]

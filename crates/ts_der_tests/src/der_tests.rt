@@ -3,14 +3,7 @@
 
 use std::alloc::{AllocError, Global};
 use ts_der::{Bits, DerFault, Element, Fault, OidRef, Reader, Writer};
-
-const BOOLEAN: u8 = 0x01;
-
-const INTEGER: u8 = 0x02;
-
-const OCTET_STRING: u8 = 0x04;
-
-const SEQUENCE: u8 = 0x30;
+use ts_der::tag::{BOOLEAN, INTEGER, OCTET_STRING, SEQUENCE};
 
 /// A fault and its place.
 type Place = (DerFault, usize);

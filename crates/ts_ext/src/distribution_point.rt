@@ -12,9 +12,10 @@ ghost use Rattle.ts_ext.specs.NameViews.{point_name_in, point_in};
 ghost use Rattle.ts_ext.specs.Points.{point_name_of, wrapped_name_of, point_of, point_fields};
 ghost use Rattle.ts_ext.specs.Points.{IsPoint, Point};
 
-use crate::fields::{SEQUENCE, next_flags_if_any, next_names_if_any};
+use crate::fields::{next_flags_if_any, next_names_if_any};
 use crate::reason_flags::ReasonFlags;
 use ts_der::{DerFault, Element, Fault, Reader};
+use ts_der::tag::SEQUENCE;
 use ts_name::{GeneralNames, Rdn};
 use ts_shape::{FromElement, SequenceOf, tagged_as};
 

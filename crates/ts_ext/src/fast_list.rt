@@ -14,9 +14,9 @@ use crate::checked_extensions::judge_each;
 use crate::extension::read_extension;
 use crate::fast::fast_arc;
 use crate::fast_extension::fast_size;
-use crate::fields::SEQUENCE;
 use crate::known::Holder;
 use ts_der::{Element, Reader};
+use ts_der::tag::SEQUENCE;
 use ts_shape::{Keyed, LastOctets};
 
 /// A list of more octets is not looked at: one that breaks a rule is walked once more, and may be
@@ -100,13 +100,7 @@ pub(crate) fn have_ends_of_their_own(content: &[u8]) -> bool
 fn are_others(content: &[u8]) -> bool
     ensures { IsTrue result ↔ AreValidOnce content.now }
 {
-    let list = Element {
-        tag: SEQUENCE,
-        content,
-        whole: content,
-        at: 0,
-        start: 0,
-    };
+    let list = Element::of_content(SEQUENCE, content);
     match judge_each(list, Holder::Certificate) {
         Ok(judged) => judged.fault.is_none(),
         Err(_) => false,

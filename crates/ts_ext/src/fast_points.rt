@@ -8,8 +8,8 @@ ghost use Rattle.ts_shape.specs.Fields.{Within};
 ghost use Rattle.ts_ext.specs.Points.{IsPoint, ArePoints, point_of_uri};
 
 use crate::distribution_point::{FULL_NAME, POINT_NAME};
-use crate::fields::SEQUENCE;
 use ts_der::are_ascii;
+use ts_der::tag::SEQUENCE;
 
 /// The tag of a URI among general names (RFC 5280 4.2.1.6).
 const URI: u8 = 0x86;

@@ -11,20 +11,9 @@ ghost use Rattle.ts_ext.specs.NameViews.{names_in};
 
 use crate::reason_flags::ReasonFlags;
 use ts_der::{Fault, OidRef, Reader};
+use ts_der::tag::{INTEGER, OBJECT_IDENTIFIER, SEQUENCE};
 use ts_name::GeneralNames;
 use ts_shape::SequenceOf;
-
-pub(crate) const BOOLEAN: u8 = 0x01;
-
-pub(crate) const INTEGER: u8 = 0x02;
-
-pub(crate) const BIT_STRING: u8 = 0x03;
-
-pub(crate) const OCTET_STRING: u8 = 0x04;
-
-pub(crate) const OBJECT_IDENTIFIER: u8 = 0x06;
-
-pub(crate) const SEQUENCE: u8 = 0x30;
 
 /// An OBJECT IDENTIFIER.
 #[tactic(auto, unfolding(ts_shape::specs::Fields::oid_at, ts_shape::specs::Fields::within))]

@@ -5,12 +5,8 @@ ghost use Rattle.ts_ext.specs.Known.{arc_of, certificate_extension, list_extensi
 ghost use Rattle.ts_ext.specs.Known.{entry_extension, extension_of, known_at};
 ghost use Rattle.ts_ext.specs.Ext.{layout_of};
 
-use crate::fields::{BIT_STRING, INTEGER, OCTET_STRING, SEQUENCE};
 use ts_der::OidRef;
-
-const ENUMERATED: u8 = 0x0A;
-
-const GENERALIZED_TIME: u8 = 0x18;
+use ts_der::tag::{BIT_STRING, ENUMERATED, GENERALIZED_TIME, INTEGER, OCTET_STRING, SEQUENCE};
 
 /// What has extensions.
 #[derive(Clone, Copy, Debug, PartialEq, Eq)]

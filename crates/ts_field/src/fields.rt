@@ -7,15 +7,8 @@ ghost use Rattle.ts_shape.specs.Fields.{oid_at, integer_at, bits_at};
 ghost use Rattle.ts_name.specs.Names.{name_at};
 
 use ts_der::{Fault, Integer, Reader};
+use ts_der::tag::{BIT_STRING, INTEGER, OBJECT_IDENTIFIER, SEQUENCE};
 use ts_name::Name;
-
-const INTEGER: u8 = 0x02;
-
-const BIT_STRING: u8 = 0x03;
-
-const OBJECT_IDENTIFIER: u8 = 0x06;
-
-pub(crate) const SEQUENCE: u8 = 0x30;
 
 /// The content octets of an OBJECT IDENTIFIER.
 #[tactic(auto, unfolding(ts_shape::specs::Fields::oid_at, ts_shape::specs::Fields::within))]

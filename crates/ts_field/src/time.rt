@@ -6,11 +6,8 @@ ghost use Rattle.ts_shape.specs.Steps.{Takes};
 ghost use Rattle.ts_field.specs.Time.{time_of, time_at};
 
 use ts_der::{DerFault, Element, Fault, Reader};
+use ts_der::tag::{GENERALIZED_TIME, UTC_TIME};
 use ts_time::{Moment, read_general, read_utc};
-
-const UTC_TIME: u8 = 0x17;
-
-const GENERALIZED_TIME: u8 = 0x18;
 
 /// The two forms in which a certificate or a list writes a moment (RFC 5280 4.1.2.5, 5.1.2.4).
 #[derive(Clone, Copy, Debug, PartialEq, Eq)]

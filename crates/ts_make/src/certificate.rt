@@ -13,12 +13,13 @@ ghost use Rattle.ts_make.specs.Writing.{Writes};
 ghost use Rattle.ts_make.specs.Making.{AnswersMade, IsRefusal};
 
 use crate::description::CertText;
-use crate::elements::{SEQUENCE, append, append_bits, element};
+use crate::elements::{append, append_bits, element};
 use crate::fault::MakeFault;
 use crate::tbs::write_tbs;
 use crate::times::TimeText;
 use std::alloc::Global;
 use ts_cert::{Cert, MAX_CERTIFICATE};
+use ts_der::tag::SEQUENCE;
 use ts_sig::{STAND_IN_ALGORITHM, digest_signature};
 
 /// What is signed, the algorithm and the signature, as one element (RFC 5280 4.1.1).

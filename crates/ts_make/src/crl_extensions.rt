@@ -10,7 +10,7 @@ ghost use Rattle.ts_make.specs.Told.{IsSmallIfAny};
 ghost use Rattle.ts_make.specs.Writing.{Appends, Writes};
 
 use crate::crl_description::CrlText;
-use crate::elements::{ENUMERATED, INTEGER, SEQUENCE, append_element, element};
+use crate::elements::{append_element, element};
 use crate::extensions::append_sequence;
 use crate::fault::MakeFault;
 use crate::items::{FIRST, URI};
@@ -19,6 +19,7 @@ use crate::serial::append_number;
 use crate::single::{NULL, append_extension};
 use std::alloc::Global;
 use ts_der::OidRef;
+use ts_der::tag::{ENUMERATED, INTEGER, SEQUENCE};
 use ts_ext::ReasonCode;
 
 /// Appends reasonCode (RFC 5280 5.3.1).

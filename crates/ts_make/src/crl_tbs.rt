@@ -17,12 +17,13 @@ ghost use Rattle.ts_make.specs.Writing.{Appends, Writes};
 use crate::crl_description::{CrlText, EntryText};
 use crate::crl_extensions::{append_crl_extensions, append_reason};
 use crate::description::RdnText;
-use crate::elements::{INTEGER, SEQUENCE, append, append_element, element};
+use crate::elements::{append, append_element, element};
 use crate::fault::MakeFault;
 use crate::names::append_name;
 use crate::serial::append_number;
 use crate::times::TimeText;
 use std::alloc::Global;
+use ts_der::tag::{INTEGER, SEQUENCE};
 use ts_sig::STAND_IN_ALGORITHM;
 
 /// The version, 2: INTEGER 1 (RFC 5280 5.1.2.1).

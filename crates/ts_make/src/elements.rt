@@ -8,22 +8,7 @@ use crate::fault::MakeFault;
 use std::alloc::Global;
 use ts_crl::MAX_CRL;
 use ts_der::Writer;
-
-pub(crate) const BOOLEAN: u8 = 0x01;
-
-pub(crate) const INTEGER: u8 = 0x02;
-
-pub(crate) const BIT_STRING: u8 = 0x03;
-
-pub(crate) const OCTET_STRING: u8 = 0x04;
-
-pub(crate) const OBJECT_IDENTIFIER: u8 = 0x06;
-
-pub(crate) const ENUMERATED: u8 = 0x0a;
-
-pub(crate) const SEQUENCE: u8 = 0x30;
-
-pub(crate) const SET: u8 = 0x31;
+use ts_der::tag::BIT_STRING;
 
 /// [3] EXPLICIT, the extensions of a certificate.
 pub(crate) const EXTENSIONS: u8 = 0xa3;

@@ -9,13 +9,14 @@ ghost use Rattle.ts_make.specs.Extensions.{of_kind, alone, described_extensions,
 ghost use Rattle.ts_make.specs.Writing.{Appends, Writes};
 
 use crate::description::ExtensionText;
-use crate::elements::{EXTENSIONS, SEQUENCE, append_element, element};
+use crate::elements::{EXTENSIONS, append_element, element};
 use crate::fault::MakeFault;
 use crate::items::{Items, append_items};
 use crate::key_usage::append_key_usage;
 use crate::kind::{KINDS, Kind};
 use crate::single::{append_alone, append_extension};
 use std::alloc::Global;
+use ts_der::tag::SEQUENCE;
 
 /// Appends the extension of an arc of id-ce whose value is a SEQUENCE, unless that would be empty.
 pub(crate) fn append_sequence(

@@ -8,10 +8,11 @@ ghost use Rattle.ts_make.specs.Items.{policy_information, policy_mapping, item, 
 ghost use Rattle.ts_make.specs.Writing.{Appends};
 
 use crate::description::{ExtensionText, NameText};
-use crate::elements::{OBJECT_IDENTIFIER, SEQUENCE, append_element, element};
+use crate::elements::{append_element, element};
 use crate::fault::MakeFault;
 use crate::serial::append_number;
 use std::alloc::Global;
+use ts_der::tag::{OBJECT_IDENTIFIER, SEQUENCE};
 
 /// A list within the value of an extension (RFC 5280 4.2.1).
 #[derive(Clone, Copy)]

@@ -3,9 +3,10 @@
 ghost use Rattle.ts_make.specs.Made.{key_octets};
 ghost use Rattle.ts_make.specs.Writing.{Appends};
 
-use crate::elements::{SEQUENCE, append, append_bits, append_element};
+use crate::elements::{append, append_bits, append_element};
 use crate::fault::MakeFault;
 use std::alloc::Global;
+use ts_der::tag::SEQUENCE;
 use ts_sig::STAND_IN_ALGORITHM;
 
 /// Appends a public key of the stand-in's algorithm (RFC 5280 4.1.2.7).

@@ -9,10 +9,11 @@ ghost use Rattle.ts_make.specs.KeyUsage.{usage_content, Collects};
 ghost use Rattle.ts_make.specs.Writing.{Appends, Writes};
 
 use crate::description::ExtensionText;
-use crate::elements::{BIT_STRING, element};
+use crate::elements::element;
 use crate::fault::MakeFault;
 use crate::single::append_extension;
 use std::alloc::Global;
+use ts_der::tag::BIT_STRING;
 
 /// The numbers of the bits that the parts set.
 fn numbers(alloc: Global, parts: &[ExtensionText<'_>]) -> Result<Vec<u32>, MakeFault>

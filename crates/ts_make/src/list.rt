@@ -15,11 +15,12 @@ ghost use Rattle.ts_make.specs.CrlDescription.{IsCrlDescribed, IsCrlSignedBy, Is
 
 use crate::crl_description::CrlText;
 use crate::crl_tbs::write_crl_tbs;
-use crate::elements::{SEQUENCE, append, append_bits, element};
+use crate::elements::{append, append_bits, element};
 use crate::fault::MakeFault;
 use crate::times::TimeText;
 use std::alloc::Global;
 use ts_crl::{Crl, CrlFault, MAX_CRL};
+use ts_der::tag::SEQUENCE;
 use ts_sig::{STAND_IN_ALGORITHM, digest_signature};
 
 /// What is signed, the algorithm and the signature, as one element (RFC 5280 5.1.1).

@@ -9,10 +9,10 @@ ghost use Rattle.ts_make.specs.Sayable.{AreTexts};
 ghost use Rattle.ts_make.specs.Writing.{Appends};
 
 use crate::description::RdnText;
-use crate::elements::{OBJECT_IDENTIFIER, SEQUENCE, SET, append_element, element};
+use crate::elements::{append_element, element};
 use crate::fault::MakeFault;
 use std::alloc::Global;
-use ts_name::UTF8_STRING;
+use ts_der::tag::{OBJECT_IDENTIFIER, SEQUENCE, SET, UTF8_STRING};
 
 /// Appends a relative distinguished name of one attribute: SET { SEQUENCE { OBJECT IDENTIFIER,
 /// UTF8String } }.

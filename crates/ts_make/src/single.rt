@@ -7,13 +7,12 @@ ghost use Rattle.ts_make.specs.Extensions.{basic_constraints_value, path_length}
 ghost use Rattle.ts_make.specs.Writing.{Appends, Writes};
 
 use crate::description::ExtensionText;
-use crate::elements::{
-    BOOLEAN, INTEGER, OBJECT_IDENTIFIER, OCTET_STRING, SEQUENCE, append, append_element, element,
-};
+use crate::elements::{append, append_element, element};
 use crate::fault::MakeFault;
 use crate::kind::Kind;
 use crate::serial::append_number;
 use std::alloc::Global;
+use ts_der::tag::{BOOLEAN, INTEGER, OBJECT_IDENTIFIER, OCTET_STRING, SEQUENCE};
 
 /// The content of BOOLEAN TRUE (X.690 8.2, 11.1).
 const TRUE: u8 = 0xff;

@@ -7,7 +7,7 @@ ghost use Rattle.ts_make.specs.Sayable.{IsSayable};
 ghost use Rattle.ts_make.specs.Writing.{Writes};
 
 use crate::description::CertText;
-use crate::elements::{INTEGER, SEQUENCE, append, element};
+use crate::elements::{append, element};
 use crate::extensions::append_extensions;
 use crate::fault::MakeFault;
 use crate::key::append_key;
@@ -15,6 +15,7 @@ use crate::names::append_name;
 use crate::serial::append_number;
 use crate::times::{TimeText, append_validity};
 use std::alloc::Global;
+use ts_der::tag::{INTEGER, SEQUENCE};
 use ts_sig::STAND_IN_ALGORITHM;
 
 /// The version, 3: [0] EXPLICIT INTEGER 2 (RFC 5280 4.1.2.1).

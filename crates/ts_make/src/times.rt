@@ -6,14 +6,11 @@ ghost use Rattle.ts_make.specs.Times.{IsTimeOf};
 ghost use Rattle.ts_make.specs.TimeView.{time_octets};
 ghost use Rattle.ts_make.specs.Writing.{Appends};
 
-use crate::elements::{SEQUENCE, append_element};
+use crate::elements::append_element;
 use crate::fault::MakeFault;
 use std::alloc::Global;
+use ts_der::tag::{GENERALIZED_TIME, SEQUENCE, UTC_TIME};
 use ts_time::{Moment, print_general, print_utc};
-
-const UTC_TIME: u8 = 0x17;
-
-const GENERALIZED_TIME: u8 = 0x18;
 
 /// The text of a moment in the form that a certificate writes it in (RFC 5280 4.1.2.5).
 #[derive(Clone, Copy)]

@@ -4,13 +4,7 @@ ghost use Rattle.std.specs.Prelude.{◌≡◌, ◌↔◌, IsTrue};
 ghost use Rattle.ts_name.specs.Canon.{is_text, canon_attr};
 
 use crate::folded::same_text;
-
-/// The tag of a UTF8String.
-pub const UTF8_STRING: u8 = 0x0C;
-/// The tag of a PrintableString.
-pub const PRINTABLE_STRING: u8 = 0x13;
-/// The tag of an IA5String.
-pub const IA5_STRING: u8 = 0x16;
+use ts_der::tag::{IA5_STRING, PRINTABLE_STRING, UTF8_STRING};
 
 /// An attribute of a relative distinguished name, as it lies in the source (RFC 5280 4.1.2.4,
 /// `AttributeTypeAndValue`).

@@ -5,9 +5,10 @@ ghost use Rattle.ts_name.specs.Canon.{canon_attr, sort_attrs};
 ghost use Rattle.ts_name.specs.CanonView.{attr_in};
 ghost use Rattle.ts_name.specs.View.{attr_of};
 
-use crate::attribute::{Attribute, UTF8_STRING};
+use crate::attribute::Attribute;
 use crate::folded::Folded;
 use std::alloc::{AllocError, Global};
+use ts_der::tag::UTF8_STRING;
 
 /// An attribute in canonical form.
 #[derive(Debug, Drop, PartialEq, Eq, PartialOrd, Ord)]

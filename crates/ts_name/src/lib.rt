@@ -20,7 +20,7 @@ mod sameness;
 mod subtree;
 mod subtree_reading;
 
-pub use attribute::{Attribute, IA5_STRING, PRINTABLE_STRING, UTF8_STRING};
+pub use attribute::Attribute;
 pub use canon::{Canon, CanonAttribute, CanonRdn, canon_attribute};
 pub use fast_names::is_name;
 pub use folded::same_text;

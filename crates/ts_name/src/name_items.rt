@@ -7,10 +7,11 @@ ghost use Rattle.ts_name.specs.View.{attr_of};
 
 use crate::attribute::Attribute;
 use crate::name::Name;
-use crate::name_reading::{SEQUENCE, SET, read_attribute};
+use crate::name_reading::read_attribute;
 use crate::rdn::Rdn;
 use std::marker::Model;
 use ts_der::Reader;
+use ts_der::tag::{SEQUENCE, SET};
 
 /// The relative distinguished names of a name that are left, in the order of the name. A contract
 /// sees them as the lists of their attributes.

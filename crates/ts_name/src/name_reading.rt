@@ -18,18 +18,13 @@ ghost use Rattle.ts_name.specs.NameRows.{relative_distinguished_name, rdn_fault}
 ghost use Rattle.ts_shape.specs.Shape.{items, judge};
 ghost use Rattle.ts_name.specs.View.{attr_of};
 
-use crate::attribute::{Attribute, IA5_STRING, PRINTABLE_STRING, UTF8_STRING};
+use crate::attribute::Attribute;
 use crate::fast_names::are_short_rdns;
 use crate::name::Name;
 use crate::rdn::Rdn;
 use std::str;
 use ts_der::{DerFault, Element, Fault, Reader};
-
-pub(crate) const OBJECT_IDENTIFIER: u8 = 0x06;
-
-pub(crate) const SEQUENCE: u8 = 0x30;
-
-pub(crate) const SET: u8 = 0x31;
+use ts_der::tag::{IA5_STRING, OBJECT_IDENTIFIER, PRINTABLE_STRING, SEQUENCE, SET, UTF8_STRING};
 
 /// The content of an attribute's value, whose text obeys its character set.
 fn read_value<'a>(value: Element<'a>) -> Result<&'a [u8], Fault>

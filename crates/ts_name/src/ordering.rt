@@ -9,11 +9,12 @@ ghost use Rattle.ts_name.specs.NameView.{attributes_in};
 ghost use Rattle.ts_name.specs.Sorted.{canon_of, AreSorted};
 ghost use Rattle.ts_name.specs.View.{attr_of};
 
-use crate::attribute::{Attribute, UTF8_STRING};
+use crate::attribute::Attribute;
 use crate::folded::Folded;
 use crate::rdn::Rdn;
 use arrayvec::ArrayVec;
 use std::cmp::Ordering;
+use ts_der::tag::UTF8_STRING;
 
 impl Attribute<'_> {
     /// The tag in canonical form, that of UTF8String for every text.

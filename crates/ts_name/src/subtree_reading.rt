@@ -17,9 +17,9 @@ ghost use Rattle.ts_name.specs.SubtreeTable.{subtree_fields, constraint_fault};
 ghost use Rattle.ts_name.specs.SubtreeView.{subtree_in};
 
 use crate::general::General;
-use crate::name_reading::SEQUENCE;
 use crate::subtree::Subtree;
 use ts_der::{DerFault, Element, Fault, Integer, Reader};
+use ts_der::tag::SEQUENCE;
 use ts_shape::{CertFault, CertRule, FromElement, tagged_as};
 
 const MINIMUM: u8 = 0x80;

@@ -3,4 +3,5 @@ pub mod Growing
 pub mod Roles
 pub mod Inputs
 pub mod Node
+pub mod Call
 pub mod Run

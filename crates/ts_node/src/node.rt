@@ -13,6 +13,7 @@ ghost use Rattle.ts_synod.specs.Node as world;
 ghost use Rattle.ts_synod.specs.Node.{initial};
 ghost use Rattle.ts_node.specs.Machine.{store_of};
 ghost use Rattle.ts_node.specs.Inputs.{InputFits, IsInput};
+ghost use Rattle.ts_node.specs.Call.{IsCall};
 ghost use Rattle.ts_record.specs.declared.fault.Fault.TheVariants.{Memory, DiskFailed};
 ghost use Rattle.ts_record.specs.Facts.{AllFit, OpensTo, encodings};
 ghost use Rattle.ts_node.specs.Roles.{IsLatest, facts_in, volatile_after};
@@ -200,41 +201,9 @@ impl<D: Disk, C: Command + Codec, M: Machine<C>> Node<D, C, M> {
     ) -> Result<Output<C, M::Outcome, M::Answer>, NodeFault>
         requires sound { IsSound D.state C.octets M.commands self.old }
         requires fits { InputFits C.octets input.now }
-        // One event of the world: the call keeps, sends and answers what the step of the world's
-        // node does, whose facts are of the force of this node's.
-        ensures step { self.old.kept.broken ≡ false
-            → (kept : List (Fact C)) (sent : List (Message C)) (event : world.Input C M.Question)
-            → SameForce kept (facts self.old) → IsInput sent input.now event
-            → Handles (M.is_answer (M.basis self.old.machine)) self.old result self.new
-            (world.step (store_of M.Question M.client_id M.outcome) (config self.old)
-            (node_with kept (volatile self.old)) sent event) }
-        // A crash at any moment within the call leaves the facts before it, or those after it.
-        ensures moments { self.old.kept.broken ≡ false
-            → (kept : List (Fact C)) (sent : List (Message C)) (event : world.Input C M.Question)
-            → SameForce kept (facts self.old) → IsInput sent input.now event
-            → Moments D.state C.octets self.old
-            (world.step (store_of M.Question M.client_id M.outcome) (config self.old)
-            (node_with kept (volatile self.old)) sent event).effect.facts self.new }
-        // Compaction is no event of the world: it leaves the force of the facts, also where a crash
-        // comes within it.
-        ensures compacts { self.old.kept.broken ≡ false → input.now ≡ Input.Compact
-            → Compacts self.old result self.new
-            × EveryPair (OpensToForce C.octets (owner self.old) (facts self.old))
-            (D.state self.old.kept.a) (D.state self.old.kept.b) (D.state self.new.kept.a)
-            (D.state self.new.kept.b) }
-        // At the last generation there is no next one to rewrite the record in.
-        ensures exhausted { self.old.kept.broken ≡ false → input.now ≡ Input.Compact
-            → self.old.kept.generation + 1 ≡ 2 ^ 64
-            → IsErrOf result NodeFault.GenerationsExhausted }
+        ensures call { IsCall D.state C.octets (store_of M.Question M.client_id M.outcome)
+            M.basis M.is_answer self.old input.now result self.new }
         ensures sound { IsSound D.state C.octets M.commands self.new }
-        ensures config { config self.new ≡ config self.old }
-        ensures basis { M.basis self.new.machine ≡ M.basis self.old.machine }
-        ensures whole { OnOk result (self.new.kept.broken ≡ false) }
-        // After a device failed the node is broken, and does nothing more.
-        ensures failed { IsErrOf result NodeFault.DiskFailed
-            → (self.new.kept.broken ≡ true) × Failed D.state self.old self.new }
-        ensures broken { self.old.kept.broken ≡ true
-            → IsErrOf result NodeFault.Broken × (self.new ≡ self.old) }
     {
         if self.kept.is_broken() {
             return Err(NodeFault::Broken);

@@ -53,7 +53,7 @@ pub use fault::ReadFault;
 pub use lists::{OctetStrings, Oids, Places};
 pub use question::{OutOfLimits, Question, Target};
 pub use reading::{
-    MAX_CERTIFICATE, MAX_CHAIN, MAX_POLICIES, MAX_POSITION, MAX_SEARCH, MAX_SUBTREES, identifier,
+    MAX_CERTIFICATE, MAX_CHAIN, MAX_POLICIES, MAX_POSITION, MAX_SEARCH, MAX_SUBTREES,
 };
 pub use reason::Reason;
 pub use reply::{Answer, Reply};

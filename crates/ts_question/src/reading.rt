@@ -16,7 +16,7 @@ use crate::parts::{blob8, blob16, blob32, number16, number32, number64, octet};
 use crate::question::Target;
 use crate::terms::{Flags, Presence, Terms};
 use std::alloc::Global;
-use ts_der::{Element, Oid, OidRef};
+use ts_der::{Oid, OidRef};
 
 /// The most commands that a store has taken.
 pub const MAX_POSITION: u32 = 1_000_000;
@@ -31,9 +31,6 @@ pub const MAX_POLICIES: usize = 32;
 /// The most initial subtrees of a kind.
 pub const MAX_SUBTREES: usize = 64;
 
-/// The tag of an OBJECT IDENTIFIER (X.690 8.19).
-const OBJECT_IDENTIFIER: u8 = 0x06;
-
 /// A number of commands.
 #[tactic(auto, unfolding(crate::specs::QuestionReading::position_at))]
 pub(crate) fn position(octets: &[u8]) -> Result<(u32, &[u8]), ReadFault>
@@ -46,32 +43,13 @@ pub(crate) fn position(octets: &[u8]) -> Result<(u32, &[u8]), ReadFault>
     Ok((k, rest))
 }
 
-/// The object identifier that these contents octets are. `None` exactly where they are those of
-/// none (X.690 8.19).
-pub fn identifier(content: &[u8]) -> Option<OidRef<'_>>
-    ensures { MatchOption result (is_oid content.now ≡ false)
-        (λ oid. (oid.content.now ≡ content.now) × (is_oid content.now ≡ true)) }
-{
-    let element = Element {
-        tag: OBJECT_IDENTIFIER,
-        content,
-        whole: content,
-        at: 0,
-        start: 0,
-    };
-    match element.oid() {
-        Ok(oid) => Some(oid),
-        Err(_) => None,
-    }
-}
-
 /// The contents octets of an object identifier, after an octet of their length.
 #[tactic(auto, unfolding(crate::specs::QuestionReading::oid_at))]
 pub(crate) fn oid(alloc: Global, octets: &[u8]) -> Result<(Oid, &[u8]), ReadFault>
     ensures { Gives (λ x. (x.0, x.1.now)) result (oid_at octets.now) }
 {
     let (content, rest) = blob8(octets)?;
-    let Some(oid) = identifier(content) else {
+    let Some(oid) = OidRef::from_content(content) else {
         return Err(ReadFault::Form);
     };
     Ok((Oid::from_oid(alloc, oid)?, rest))

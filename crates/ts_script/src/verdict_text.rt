@@ -4,11 +4,8 @@ ghost use Rattle.std.specs.Prelude.{IfOk, string_bytes};
 ghost use Rattle.ts_script.specs.CheckLine.{IsVerdictText};
 
 use std::alloc::{AllocError, Global};
-use ts_der::Reader;
+use ts_der::OidRef;
 use ts_path::Verdict;
-
-/// The tag of an OBJECT IDENTIFIER (X.690 8.19).
-const OBJECT_IDENTIFIER: u8 = 0x06;
 
 /// The policies that are accepted, in dotted form, or `-` where there is none.
 fn print_policies(alloc: Global, policies: &[&[u8]]) -> Result<String, AllocError> {
@@ -23,23 +20,11 @@ fn print_policies(alloc: Global, policies: &[&[u8]]) -> Result<String, AllocErro
     Ok(text)
 }
 
-/// The dotted form of an object identifier of these contents octets, of which there are at most
-/// 128.
+/// The dotted form of the object identifier that has these contents octets.
 fn dotted(alloc: Global, content: &[u8]) -> Result<String, AllocError> {
-    let mut element = Vec::new(alloc);
-    let Ok(length) = u8::try_from(content.len()) else {
-        return Ok(String::new(alloc));
-    };
-    element.push(OBJECT_IDENTIFIER)?;
-    if length >= 128 {
-        element.push(0x81)?;
-    }
-    element.push(length)?;
-    element.extend_from_slice(content)?;
-    let mut reader = Reader::new(&element);
-    match reader.element(OBJECT_IDENTIFIER).and_then(|e| e.oid()) {
-        Ok(oid) => format!(in alloc; "{oid}"),
-        Err(_) => Ok(String::new(alloc)),
+    match OidRef::from_content(content) {
+        Some(oid) => format!(in alloc; "{oid}"),
+        None => Ok(String::new(alloc)),
     }
 }
 

@@ -25,7 +25,8 @@ use Rattle.ts_node.specs.declared.input.Reply.TheVariants as replies
 use Rattle.ts_node.specs.Inputs.{IsReply}
 use Rattle.ts_node.specs.Node.{config, facts, volatile}
 use Rattle.ts_serve.specs.Replies.{HasFrame, IsWithin}
-use Rattle.ts_serve.specs.Turn.{IsCall}
+use Rattle.ts_node.specs.Call.{IsCall}
+use Rattle.ts_store.specs.Octets.{octets_of}
 
 -- of the world's replies: a prefix that is not yet k is below it
 abbrev InRange : world.Reply Outcome Asked (List Command) → Type 0
@@ -89,7 +90,7 @@ module _ {D M B : Type 0} (state : D → State) (store : Store Command Outcome (
   itself : (fs : List (Fact Command)) → SameForce fs fs
   itself fs = record { used = refl; promised = λ p. refl; taken = λ p. refl; learned = λ p. refl }
 
-  reply_framed : (old new : Node D Command M) (input : Input Command Asked) (output : Output Command Outcome Answered) → IsCall state store basis is_answer old input (Ok output) new → IsWithin input → old.kept.broken ≡ false → HasFrame output.reply
+  reply_framed : (old new : Node D Command M) (input : Input Command Asked) (output : Output Command Outcome Answered) → IsCall state octets_of store basis is_answer old input (Ok output) new → IsWithin input → old.kept.broken ≡ false → HasFrame output.reply
   reply_framed old new (inputs.Deliver m) output call within whole =
       framed (is_answer (basis old.machine)) output.reply world.Done (call.step whole (facts old) (m ∷ []) (world.Deliver 0) (itself (facts old)) refl).reply tt
   reply_framed old new (inputs.Submit c) output call within whole =
@@ -109,10 +110,10 @@ module _ {D M B : Type 0} (state : D → State) (store : Store Command Outcome (
       let rewrites = (call.compacts whole refl).0 in subst HasFrame (sym rewrites.reply) tt
 
   -- a broken node answers no reply
-  has_frame : (old new : Node D Command M) (input : Input Command Asked) (output : Output Command Outcome Answered) → IsCall state store basis is_answer old input (Ok output) new → IsWithin input → HasFrame output.reply
+  has_frame : (old new : Node D Command M) (input : Input Command Asked) (output : Output Command Outcome Answered) → IsCall state octets_of store basis is_answer old input (Ok output) new → IsWithin input → HasFrame output.reply
   has_frame old new input output call within =
       bool_cases old.kept.broken (λ broken. (let h = call.broken broken in absurd (cc (h.0)))) (reply_framed old new input output call within)
 
-  pub all_framed : (old new : Node D Command M) (input : Input Command Asked) (result : Result (Output Command Outcome Answered) NodeFault) → IsCall state store basis is_answer old input result new → IsWithin input → IfOk result (λ output. HasFrame output.reply)
+  pub all_framed : (old new : Node D Command M) (input : Input Command Asked) (result : Result (Output Command Outcome Answered) NodeFault) → IsCall state octets_of store basis is_answer old input result new → IsWithin input → IfOk result (λ output. HasFrame output.reply)
   all_framed old new input (Ok output) call within = has_frame old new input output call within
   all_framed old new input (Err fault) call within = tt

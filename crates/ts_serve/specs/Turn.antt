@@ -33,44 +33,12 @@ use Rattle.ts_serve.specs.Replies.{answer_to, messages_of}
 module _ {D M B : Type 0} (state : D → State)
     (store : Store Command Outcome (List Command) Asked (List Command)) (basis : M → B)
     (is_answer : B → List Command → Asked → Answered → Type 0) where
-  -- the step of the world at a node, of any facts that have the force of its own
-  abbrev pub step_of : Node D Command M → List (Fact Command) → List (Message Command)
-      → world.Input Command Asked → world.Step Command Outcome Asked (List Command)
-  step_of node kept sent event = world.step store (config node)
-      (node_with kept (volatile node)) sent event
-
-  -- A call of a node with an input, in the words of `Node::handle`: one event of the world, which a
-  -- crash at any moment leaves undone or done; or a step of a rewrite, which is none.
-  pub record IsCall (old : Node D Command M) (input : Input Command Asked)
-      (result : Result (Output Command Outcome Answered) NodeFault)
-      (new : Node D Command M) : Type 0 where
-    pub step : old.kept.broken ≡ false
-        → (kept : List (Fact Command)) (sent : List (Message Command))
-        (event : world.Input Command Asked) → SameForce kept (facts old)
-        → IsInput sent input event
-        → Handles (is_answer (basis old.machine)) old result new (step_of old kept sent event)
-    pub moments : old.kept.broken ≡ false
-        → (kept : List (Fact Command)) (sent : List (Message Command))
-        (event : world.Input Command Asked) → SameForce kept (facts old)
-        → IsInput sent input event
-        → Moments state octets_of old (step_of old kept sent event).effect.facts new
-    pub compacts : old.kept.broken ≡ false → input ≡ inputs.Compact → Compacts old result new
-        × EveryPair (OpensToForce octets_of (owner old) (facts old)) (state old.kept.a)
-        (state old.kept.b) (state new.kept.a) (state new.kept.b)
-    pub exhausted : old.kept.broken ≡ false → input ≡ inputs.Compact
-        → old.kept.generation + 1 ≡ 2 ^ 64 → IsErrOf result GenerationsExhausted
-    pub same_config : config new ≡ config old
-    pub same_basis : basis new.machine ≡ basis old.machine
-    pub whole : OnOk result (new.kept.broken ≡ false)
-    pub failed : IsErrOf result DiskFailed → (new.kept.broken ≡ true) × Failed state old new
-    pub broken : old.kept.broken ≡ true → IsErrOf result Broken × (new ≡ old)
-
   -- The node takes the input. Its reply is the answer, and its messages go after those in the
   -- outbox, of which the first 256 stay.
   pub record Handled (old : Server D M) (input : Input Command Asked) (replies : List Frame)
       (new : Server D M) : Type 0 where
     pub result : Result (Output Command Outcome Answered) NodeFault
-    pub call : IsCall old.node input result new.node
+    pub call : IsCall state octets_of store basis is_answer old.node input result new.node
     pub said : replies ≡ answer_to result ∷ []
     pub outbox : new.outbox ≡ take 256 (old.outbox ++ messages_of result)
 

@@ -10,6 +10,7 @@ ghost use Rattle.ts_shape.specs.Steps.{Takes};
 
 use std::marker::PhantomData;
 use ts_der::{DerFault, Element, Fault, OidRef, Reader};
+use ts_der::tag::OBJECT_IDENTIFIER;
 
 /// What an element can be read as, by its tag and its content.
 pub trait FromElement<'a>: Sized + Drop {
@@ -48,8 +49,6 @@ pub fn tagged_as<'a>(element: Element<'a>, tag: u8) -> Result<Element<'a>, Fault
     }
     Ok(element)
 }
-
-const OBJECT_IDENTIFIER: u8 = 0x06;
 
 impl<'a> FromElement<'a> for OidRef<'a> {
     ghost use Rattle.std.specs.Prelude.{ℕ, List};

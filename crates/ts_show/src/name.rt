@@ -3,11 +3,8 @@
 use crate::line::Line;
 use crate::lines::Lines;
 use std::alloc::{AllocError, Global};
-use ts_der::Reader;
+use ts_der::OidRef;
 use ts_name::{Attribute, General, Name, Rdn};
-
-/// The tag of an OBJECT IDENTIFIER (X.690 8.19).
-const OBJECT_IDENTIFIER: u8 = 0x06;
 
 /// The short names of attribute types, by the contents octets of their object identifiers (RFC 4514
 /// 3, RFC 5280 4.1.2.6).
@@ -21,31 +18,14 @@ const SHORT_NAMES: [(&[u8], &str); 7] = [
     (b"\x2a\x86\x48\x86\xf7\x0d\x01\x09\x01", "emailAddress"),
 ];
 
-/// The element of an object identifier of these contents octets, of which there are at most 128.
-fn element_of(alloc: Global, content: &[u8]) -> Result<Vec<u8>, AllocError> {
-    let mut element = Vec::new(alloc);
-    let Ok(length) = u8::try_from(content.len()) else {
-        return Ok(element);
-    };
-    element.push(OBJECT_IDENTIFIER)?;
-    if length >= 128 {
-        element.push(0x81)?;
-    }
-    element.push(length)?;
-    element.extend_from_slice(content)?;
-    Ok(element)
-}
-
-/// Writes the dotted form of the object identifier of these contents octets.
+/// Writes the dotted form of the object identifier that has these contents octets.
 pub(crate) fn write_oid(alloc: Global, line: &mut Line, content: &[u8]) -> Result<(), AllocError> {
-    let element = element_of(alloc, content)?;
-    let mut reader = Reader::new(&element);
-    match reader.element(OBJECT_IDENTIFIER).and_then(|e| e.oid()) {
-        Ok(oid) => {
+    match OidRef::from_content(content) {
+        Some(oid) => {
             let dotted = format!(in alloc; "{oid}")?;
             line.text(dotted.as_bytes())
         }
-        Err(_) => line.hex(content),
+        None => line.hex(content),
     }
 }
 

@@ -4,7 +4,6 @@ ghost use Rattle.std.specs.Prelude.{◌≡◌, ◌≢◌, ◌≤◌, ◌<◌, �
 ghost use Rattle.std.specs.Prelude.{true, false, MatchOption, IfSome, IfOk, Option};
 ghost use Rattle.std.specs.List.{flat_map, list_all};
 ghost use Rattle.std.specs.Int.{to_be_bytes, w32};
-ghost use Rattle.ts_der.specs.Element.{encode};
 ghost use Rattle.ts_der.specs.ObjectIdentifier.{is_oid};
 ghost use Rattle.ts_store.specs.Commands.{blob8, blob32, purposes_encoding};
 ghost use Rattle.ts_store.specs.Purposes.{ArePurposes};
@@ -16,36 +15,16 @@ use crate::values::{CertificateOctets, CrlOctets};
 use std::alloc::{AllocError, Global};
 use ts_cert::MAX_CERTIFICATE;
 use ts_crl::MAX_CRL;
-use ts_der::{Oid, Reader, Writer};
+use ts_der::{Oid, OidRef};
 
-/// The tag of an OBJECT IDENTIFIER (X.690 8.19).
-const OBJECT_IDENTIFIER: u8 = 0x06;
-
-/// The element of an object identifier that has these contents octets.
-fn element_of(alloc: Global, content: &[u8]) -> Result<Vec<u8>, AllocError>
-    requires { length content.now < 2 ^ 32 }
-    ensures { IfOk result (λ octets. octets.items ≡ encode 6 content.now) }
-{
-    let mut writer = Writer::new(alloc);
-    writer.tlv(OBJECT_IDENTIFIER, content)?;
-    Ok(writer.finish())
-}
-
-/// The object identifier that these contents octets are. They are read as those of an element,
-/// which is written first.
+/// The object identifier that these contents octets are.
 fn oid_of(alloc: Global, content: &[u8]) -> Result<Option<Oid>, AllocError>
-    requires { length content.now < 2 ^ 32 }
     ensures { IfOk result (λ found. MatchOption found (is_oid content.now ≡ false)
         (λ oid. (oid ≡ content.now) × (is_oid content.now ≡ true))) }
 {
-    let octets = element_of(alloc, content)?;
-    let mut reader = Reader::new(octets.as_slice());
-    let Ok(element) = reader.element(OBJECT_IDENTIFIER) else {
-        return Ok(None);
-    };
-    match element.oid() {
-        Ok(oid) => Ok(Some(Oid::from_oid(alloc, oid)?)),
-        Err(_) => Ok(None),
+    match OidRef::from_content(content) {
+        Some(oid) => Ok(Some(Oid::from_oid(alloc, oid)?)),
+        None => Ok(None),
     }
 }
 

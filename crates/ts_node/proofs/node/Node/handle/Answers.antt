@@ -5,8 +5,8 @@ use Rattle.ts_node.specs.Machine.{store_of}
 use Rattle.ts_node.specs.Node.{Handles, Moments, config, facts, volatile}
 use Rattle.ts_node.proofs.node.Node.handle.Goals as goal
 
-pub returns-in_default : goal.returns-in_default
-returns-in_default g c =
+pub returns-in_default-clause-call : goal.returns-in_default-clause-call
+returns-in_default-clause-call g c =
     let old = c.args.self.now in
     let m = g.M.Machine in
     let store = store_of g.row.M-Question.Denot m.client_id m.outcome in
@@ -15,9 +15,8 @@ returns-in_default g c =
       moments = λ whole kept sent event force is. subst (λ (s : Step g.row.C.Denot g.row.M-Outcome.Denot g.row.M-Question.Denot (List g.row.C.Denot)). Moments g.D.Disk.state g.C.Codec.octets old s.effect.facts c.take.new.self) (sym (same_step store (config old) kept (facts old) force (volatile old) sent event)) (c.take.ensures.moments sent event is);
       compacts = λ whole is. absurd (c.in_default.not-Compact is);
       exhausted = λ whole is. absurd (c.in_default.not-Compact is);
-      sound = c.take.ensures.sound;
-      config = c.take.ensures.config;
-      basis = c.take.ensures.basis;
+      same_config = c.take.ensures.config;
+      same_basis = c.take.ensures.basis;
       whole = c.take.ensures.whole;
       failed = c.take.ensures.failed;
       broken = λ broken. absurd (true≢false (sym broken ∙ sym c.is_broken.ensures ∙ c.if-is_broken.false));

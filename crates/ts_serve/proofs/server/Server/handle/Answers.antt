@@ -11,32 +11,12 @@ use Rattle.ts_serve.proofs.server.Server.handle.Goals as goal
 pub answer_of-frame-requires : goal.answer_of-frame-requires
 answer_of-frame-requires g c =
     all_framed g.D.Disk.state (store_of Asked g.M.Machine.client_id g.M.Machine.outcome) g.M.Machine.basis g.M.Machine.is_answer c.args.self.now.node c.handle-called.new.self c.args.input.now c.handle-called.result
-    (record {
-      step = c.handle-called.ensures.step;
-      moments = c.handle-called.ensures.moments;
-      compacts = c.handle-called.ensures.compacts;
-      exhausted = c.handle-called.ensures.exhausted;
-      same_config = c.handle-called.ensures.config;
-      same_basis = c.handle-called.ensures.basis;
-      whole = c.handle-called.ensures.whole;
-      failed = c.handle-called.ensures.failed;
-      broken = c.handle-called.ensures.broken;
-    }) c.requires.within
+    c.handle-called.ensures.call c.requires.within
 
 pub returns-clause-handled : goal.returns-clause-handled
 returns-clause-handled g c = record {
   result = c.handle-called.result;
-  call = record {
-    step = c.handle-called.ensures.step;
-    moments = c.handle-called.ensures.moments;
-    compacts = c.handle-called.ensures.compacts;
-    exhausted = c.handle-called.ensures.exhausted;
-    same_config = c.handle-called.ensures.config;
-    same_basis = c.handle-called.ensures.basis;
-    whole = c.handle-called.ensures.whole;
-    failed = c.handle-called.ensures.failed;
-    broken = c.handle-called.ensures.broken;
-  };
+  call = c.handle-called.ensures.call;
   said = ap (λ (f : Frame). f ∷ []) c.answer_of-frame.ensures.frame;
   outbox = c.put.ensures ∙ ap (λ (l : List (Message Command)). take 256 (c.args.self.now.outbox ++ l)) c.answer_of-frame.ensures.messages;
 }
