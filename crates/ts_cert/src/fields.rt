@@ -4,8 +4,8 @@ ghost use Rattle.ts_shape.specs.Steps.{Takes};
 ghost use Rattle.ts_name.specs.NameView.{rdns_in};
 ghost use Rattle.ts_name.specs.Names.{name_at};
 
-use ts_der::{Fault, Reader};
 use ts_der::tag::SEQUENCE;
+use ts_der::{Fault, Reader};
 use ts_name::Name;
 
 /// The distinguished name that is next, which may have the octets of another. The reader has then

@@ -6,8 +6,8 @@ ghost use Rattle.ts_shape.specs.Steps.{Takes};
 ghost use Rattle.ts_cert.specs.Reading.{key_of, key_at};
 ghost use Rattle.ts_cert.specs.View.{key_in};
 
-use ts_der::{Element, Fault, Reader};
 use ts_der::tag::SEQUENCE;
+use ts_der::{Element, Fault, Reader};
 use ts_field::{AlgorithmIdentifier, next_algorithm, next_bits};
 
 /// The subject's public key and its algorithm, as they lie in the source (RFC 5280 4.1.2.7).

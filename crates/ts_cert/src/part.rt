@@ -19,8 +19,8 @@ ghost use Rattle.ts_cert.specs.View.{key_in};
 use crate::key::{SubjectPublicKeyInfo, next_key};
 use crate::optional_reading::{EXTENSIONS, next_unique_id};
 use crate::validity::{Validity, next_validity};
-use ts_der::{Bits, Element, Integer, Reader};
 use ts_der::tag::SEQUENCE;
+use ts_der::{Bits, Element, Integer, Reader};
 use ts_field::{AlgorithmIdentifier, next_algorithm, next_bits, next_integer};
 use ts_name::Name;
 

@@ -11,8 +11,8 @@ use crate::certificate::MAX_CERTIFICATE;
 use crate::parts::Parts;
 use crate::rules::broken_rule;
 use crate::tbs::read_tbs;
-use ts_der::{DerFault, Element, Reader};
 use ts_der::tag::SEQUENCE;
+use ts_der::{DerFault, Element, Reader};
 use ts_field::next_bits;
 use ts_shape::{CertFault, CertRule};
 

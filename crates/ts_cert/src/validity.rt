@@ -5,8 +5,8 @@ ghost use Rattle.ts_der.specs.View.{now};
 ghost use Rattle.ts_shape.specs.Steps.{Takes};
 ghost use Rattle.ts_cert.specs.Reading.{validity_of, validity_at};
 
-use ts_der::{Element, Fault, Reader};
 use ts_der::tag::SEQUENCE;
+use ts_der::{Element, Fault, Reader};
 use ts_field::{Stamp, Time, next_time};
 
 /// From when to when a certificate is valid, both moments included (RFC 5280 4.1.2.5).

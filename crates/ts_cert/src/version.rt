@@ -6,8 +6,8 @@ ghost use Rattle.ts_der.specs.View.{now};
 ghost use Rattle.ts_cert.specs.Version.{number_of, version_of, version_at};
 ghost use Rattle.ts_shape.specs.Steps.{TakesIn};
 
-use ts_der::{DerFault, Element, Reader};
 use ts_der::tag::INTEGER;
+use ts_der::{DerFault, Element, Reader};
 use ts_shape::{CertFault, CertRule};
 
 /// The tag of the version, which is explicit (RFC 5280 4.1).

@@ -22,8 +22,8 @@ use crate::findings::Findings;
 use crate::mark::Mark;
 use crate::noting::note_next;
 use crate::revoked::Revoked;
-use ts_der::{Element, Fault, Integer, Reader};
 use ts_der::tag::SEQUENCE;
+use ts_der::{Element, Fault, Integer, Reader};
 use ts_shape::{FromElement, SequenceItems};
 
 impl<'a> Revoked<'a> {

@@ -9,8 +9,8 @@ ghost use Rattle.ts_crl.specs.Reading.{entry_of};
 
 use crate::placed::{Placed, next_extensions_if_any};
 use crate::values::value_if_any;
-use ts_der::{Element, Fault, Integer};
 use ts_der::tag::SEQUENCE;
+use ts_der::{Element, Fault, Integer};
 use ts_ext::{Ext, Extensions, Holder, InvalidityDate, Known, ReasonCode};
 use ts_field::{Stamp, Time, next_integer, next_time};
 use ts_shape::{FromElement, tagged_as};

@@ -5,8 +5,8 @@ ghost use Rattle.ts_der.specs.View.{now};
 ghost use Rattle.ts_crl.specs.Marks.{mark_of};
 ghost use Rattle.ts_crl.specs.MarkView.{mark_as};
 
-use ts_der::{Element, Fault};
 use ts_der::tag::INTEGER;
+use ts_der::{Element, Fault};
 use ts_shape::FromElement;
 
 /// An entry of a list that was read before, of which no more is read again than its serial number.

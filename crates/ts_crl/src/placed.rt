@@ -11,8 +11,8 @@ ghost use Rattle.ts_crl.specs.EntryView.{listed_in, placed_in};
 ghost use Rattle.ts_crl.specs.Reading.{extensions_of, wrapped_extensions_of};
 
 use crate::extension_list::ExtensionList;
-use ts_der::{Element, Fault, Reader};
 use ts_der::tag::SEQUENCE;
+use ts_der::{Element, Fault, Reader};
 use ts_shape::tagged_as;
 
 /// The tag of a list's extensions, which are explicit (RFC 5280 5.1).

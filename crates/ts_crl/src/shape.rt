@@ -7,8 +7,8 @@ ghost use Rattle.ts_crl.specs.Reading.{signed_of, whole_of, shape_of};
 
 use crate::crl::{Crl, MAX_CRL};
 use crate::tbs::read_tbs;
-use ts_der::{DerFault, Element, Reader};
 use ts_der::tag::SEQUENCE;
+use ts_der::{DerFault, Element, Reader};
 use ts_field::{next_bits, read_algorithm};
 use ts_shape::{CertFault, CertRule};
 

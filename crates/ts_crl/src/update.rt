@@ -5,8 +5,8 @@ ghost use Rattle.ts_shape.specs.Steps.{Takes};
 ghost use Rattle.ts_field.specs.Time.{time_of};
 ghost use Rattle.ts_crl.specs.Reading.{next_update_at};
 
-use ts_der::{Fault, Reader};
 use ts_der::tag::{GENERALIZED_TIME, UTC_TIME};
+use ts_der::{Fault, Reader};
 use ts_field::{Time, read_time};
 
 /// A time in one of its forms, where an element of its tag is next.

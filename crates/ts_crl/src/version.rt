@@ -5,8 +5,8 @@ ghost use Rattle.ts_der.specs.View.{now};
 ghost use Rattle.ts_shape.specs.Steps.{TakesIn};
 ghost use Rattle.ts_crl.specs.Version.{version_of, version_at};
 
-use ts_der::{Element, Reader};
 use ts_der::tag::INTEGER;
+use ts_der::{Element, Reader};
 use ts_shape::{CertFault, CertRule};
 
 /// The version of a list (RFC 5280 5.1.2.1).

@@ -2,8 +2,8 @@
 //! written.
 
 use std::alloc::{AllocError, Global};
-use ts_der::{Bits, DerFault, Element, Fault, OidRef, Reader, Writer};
 use ts_der::tag::{BOOLEAN, INTEGER, OCTET_STRING, SEQUENCE};
+use ts_der::{Bits, DerFault, Element, Fault, OidRef, Reader, Writer};
 
 /// A fault and its place.
 type Place = (DerFault, usize);

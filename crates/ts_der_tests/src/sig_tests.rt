@@ -33,7 +33,7 @@ fn key(parameters: Option<&[u8]>) -> WorkingKey<'_> {
     }
 }
 
-// As a path validator asks: through the bound.
+/// As a path validator asks: through the bound.
 fn answer<S: SignatureCheck>(check: &S, key: &WorkingKey<'_>, signature: &[u8]) -> bool {
     check.good(&STAND_IN_ALGORITHM, key, b"bc", signature)
 }
@@ -71,7 +71,7 @@ fn takes_what_is_listed(rt: HostRuntime) -> Result<(), Fail> {
     Ok(())
 }
 
-// How many digests a text has, or why it is refused.
+/// How many digests a text has, or why it is refused.
 fn count(alloc: Global, text: &[u8]) -> Result<usize, TableFault> {
     let table = TableCheck::read(alloc, text)?;
     Ok(table.len())

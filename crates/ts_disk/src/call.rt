@@ -1,4 +1,4 @@
-// A call that a disk in memory has made.
+//! A call that a disk in memory has made.
 
 /// A call that a disk in memory has made.
 #[derive(Debug, Drop)]

@@ -1,4 +1,5 @@
-// What a crash leaves of a disk in memory.
+//! What a crash leaves of a disk in memory.
+
 ghost use Rattle.std.specs.Prelude.{◌≡◌, IfOk, OnOk};
 ghost use Rattle.ts_disk.specs.Crash.{written_within, torn_by, read_after, left_after, left_of};
 
@@ -68,7 +69,7 @@ fn step(
     Ok(())
 }
 
-// The image that a crash leaves after these calls on a durable disk.
+/// The image that a crash leaves after these calls on a durable disk.
 pub(crate) fn leave(
     alloc: Global,
     torn: Torn,

@@ -1,4 +1,5 @@
-// A disk: what a read gives, and what a crash may leave.
+//! A disk: what a read gives, and what a crash may leave.
+
 ghost use Rattle.std.specs.Prelude.{◌≡◌, ◌≤◌, length, IfOk, OnOk, IfErr};
 ghost use Rattle.ts_disk.specs.declared.fault.DiskFault.TheVariants.{Failed};
 ghost use Rattle.ts_disk.specs.Disk.{State, IsDisk, Call, Same, Torn, written, IsDurable, HasCause};

@@ -1,4 +1,5 @@
-// A write with its sync.
+//! A write with its sync.
+
 ghost use Rattle.std.specs.Prelude.{◌≡◌, ◌≤◌, length, OnOk, IfErr};
 ghost use Rattle.ts_disk.specs.declared.fault.DiskFault.TheVariants.{Failed};
 ghost use Rattle.ts_disk.specs.Disk.{Torn, written, IsDurable, HasCause, EveryImage};

@@ -1,4 +1,5 @@
-// What a call of a disk answers in place of a value.
+//! What a call of a disk answers in place of a value.
+
 ghost use Rattle.std.specs.Prelude.{◌≡◌};
 ghost use Rattle.ts_disk.specs.declared.fault.DiskFault.TheVariants.{Memory};
 

@@ -1,4 +1,5 @@
-// A disk in memory, which keeps a record of its calls, and fails when a test wants it to.
+//! A disk in memory, which keeps a record of its calls, and fails when a test wants it to.
+
 ghost use Rattle.std.specs.Prelude.{◌≡◌, IfOk, ◌⊎◌, ◌<◌, ◌≤◌, ◌^◌, ◌-◌, List, ℕ, [], ◌∷◌, ◌++◌};
 ghost use Rattle.std.specs.Prelude.{length, true, Some, None, Err, OnOk, OnErr, IfErr, IsErr};
 ghost use Rattle.ts_disk.specs.declared.call.DiskCall.TheVariants.{Read, Write, Sync};
@@ -115,7 +116,7 @@ impl MemDisk {
     }
 }
 
-// Whether a disk's next call fails, which it counts as made.
+/// Whether a disk's next call fails, which it counts as made.
 fn refuses(made: &mut u64, fuse: Option<u64>, fails_at: Option<u64>) -> bool
     ensures refused { result ≡ is_refused
         (record { made = made.old; passing = fuse; fails_at = fails_at }) }
@@ -125,7 +126,7 @@ fn refuses(made: &mut u64, fuse: Option<u64>, fails_at: Option<u64>) -> bool
     fuse.is_some_and(|passing| passing < *made) || fails_at == Some(*made)
 }
 
-// A failure of the device, which is counted.
+/// A failure of the device, which is counted.
 fn counted(failures: &mut u64) -> DiskFault
     ensures fault { result ≡ Failed }
     ensures rises { failures.old ≤ failures.new }
@@ -135,7 +136,7 @@ fn counted(failures: &mut u64) -> DiskFault
     DiskFault::Failed
 }
 
-// Writes octets at an offset, over what is there and past the end.
+/// Writes octets at an offset, over what is there and past the end.
 pub(crate) fn overwrite(old: &mut Vec<u8>, at: usize, octets: &[u8]) -> Result<(), AllocError>
     requires { at ≤ length old.old.items }
     ensures written { OnOk result (old.new.items ≡ written old.old.items at octets.now) }
@@ -147,7 +148,7 @@ pub(crate) fn overwrite(old: &mut Vec<u8>, at: usize, octets: &[u8]) -> Result<(
     Ok(())
 }
 
-// Keeps a call.
+/// Keeps a call.
 fn keep(calls: &mut Vec<DiskCall>, call: DiskCall) -> Result<(), AllocError>
     ensures kept { OnOk result (calls.new.items ≡ calls.old.items ++ call ∷ []) }
     ensures unchanged { OnErr result (calls.new.items ≡ calls.old.items) }
@@ -156,7 +157,7 @@ fn keep(calls: &mut Vec<DiskCall>, call: DiskCall) -> Result<(), AllocError>
     Ok(())
 }
 
-// Writes, and keeps the call.
+/// Writes, and keeps the call.
 fn write(
     alloc: Global,
     calls: &mut Vec<DiskCall>,
@@ -189,7 +190,7 @@ impl Disk for MemDisk {
 
     ghost lawful = { lawful_of };
 
-    // A read that is refused its memory is not made.
+    /// A read that is refused its memory is not made.
     fn read(&mut self, alloc: Global) -> Result<Vec<u8>, DiskFault>
         ensures octets { IfOk result (λ octets. octets.items ≡ (state_of self.old).read) }
         ensures same { (state_of self.new).read ≡ (state_of self.old).read }

@@ -8,8 +8,8 @@ ghost use Rattle.ts_shape.specs.Shape.{no_rules};
 ghost use Rattle.ts_ext.specs.Inner.{inner_fault};
 
 use crate::fields::next_small_if_any;
-use ts_der::{Element, Fault};
 use ts_der::tag::{BOOLEAN, INTEGER};
+use ts_der::{Element, Fault};
 
 /// Whether a certificate is that of an authority, and how many may follow it (RFC 5280 4.2.1.9).
 #[derive(Clone, Copy, Debug, PartialEq, Eq)]

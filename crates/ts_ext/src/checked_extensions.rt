@@ -19,8 +19,8 @@ use crate::extensions::Extensions;
 use crate::fast::fast_arc;
 use crate::fast_list::have_ends_of_their_own;
 use crate::known::Holder;
-use ts_der::{DerFault, Element, Fault};
 use ts_der::tag::SEQUENCE;
+use ts_der::{DerFault, Element, Fault};
 use ts_shape::{CertFault, CertRule, Keyed, LastOctets, first_repeated, tagged_as};
 
 /// Extensions that were read, and the first rule that they break.

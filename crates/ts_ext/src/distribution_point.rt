@@ -14,8 +14,8 @@ ghost use Rattle.ts_ext.specs.Points.{IsPoint, Point};
 
 use crate::fields::{next_flags_if_any, next_names_if_any};
 use crate::reason_flags::ReasonFlags;
-use ts_der::{DerFault, Element, Fault, Reader};
 use ts_der::tag::SEQUENCE;
+use ts_der::{DerFault, Element, Fault, Reader};
 use ts_name::{GeneralNames, Rdn};
 use ts_shape::{FromElement, SequenceOf, tagged_as};
 

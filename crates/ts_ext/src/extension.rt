@@ -6,8 +6,8 @@ ghost use Rattle.ts_ext.specs.Extension.{located_of};
 ghost use Rattle.ts_ext.specs.ExtensionView.{located_as};
 
 use crate::fields::next_oid;
-use ts_der::{Element, Fault, OidRef};
 use ts_der::tag::{BOOLEAN, OCTET_STRING, SEQUENCE};
+use ts_der::{Element, Fault, OidRef};
 use ts_shape::{FromElement, Keyed, tagged_as};
 
 /// An extension of a certificate, of a list or of an entry, as it lies in the source (RFC 5280 4.1,

@@ -15,8 +15,8 @@ ghost use Rattle.ts_ext.specs.ValueRules.{IsValidValue, value_fault};
 use crate::authority_key_identifier::KEY_IDENTIFIER;
 use crate::fast_points::are_uris;
 use crate::known::{Holder, Known};
-use ts_der::{Element, bounds_at};
 use ts_der::tag::{BIT_STRING, BOOLEAN, INTEGER, OBJECT_IDENTIFIER, OCTET_STRING, SEQUENCE};
+use ts_der::{Element, bounds_at};
 
 /// The content of the one element that octets are, where it has this tag and the length has at most
 /// two octets after the first. `None` decides nothing.

@@ -15,8 +15,8 @@ use crate::extension::read_extension;
 use crate::fast::fast_arc;
 use crate::fast_extension::fast_size;
 use crate::known::Holder;
-use ts_der::{Element, Reader};
 use ts_der::tag::SEQUENCE;
+use ts_der::{Element, Reader};
 use ts_shape::{Keyed, LastOctets};
 
 /// A list of more octets is not looked at: one that breaks a rule is walked once more, and may be

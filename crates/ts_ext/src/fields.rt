@@ -10,8 +10,8 @@ ghost use Rattle.ts_ext.specs.GeneralNames.{general_names_of};
 ghost use Rattle.ts_ext.specs.NameViews.{names_in};
 
 use crate::reason_flags::ReasonFlags;
-use ts_der::{Fault, OidRef, Reader};
 use ts_der::tag::{INTEGER, OBJECT_IDENTIFIER, SEQUENCE};
+use ts_der::{Fault, OidRef, Reader};
 use ts_name::GeneralNames;
 use ts_shape::SequenceOf;
 

@@ -12,8 +12,8 @@ ghost use Rattle.ts_ext.specs.View.{information_in};
 
 use crate::fields::next_oid;
 use crate::policy_qualifier::PolicyQualifier;
-use ts_der::{Element, Fault, OidRef, Reader};
 use ts_der::tag::SEQUENCE;
+use ts_der::{Element, Fault, OidRef, Reader};
 use ts_shape::{FromElement, Keyed, SequenceOf, tagged_as};
 
 /// A policy of a certificate, as it lies in the source (RFC 5280 4.2.1.4).

@@ -6,8 +6,8 @@ ghost use Rattle.ts_ext.specs.Reading.{policy_mapping_of};
 ghost use Rattle.ts_ext.specs.View.{mapping_in};
 
 use crate::fields::next_oid;
-use ts_der::{Element, Fault, OidRef};
 use ts_der::tag::SEQUENCE;
+use ts_der::{Element, Fault, OidRef};
 use ts_shape::{FromElement, tagged_as};
 
 /// Two policies that an authority considers equivalent (RFC 5280 4.2.1.5).

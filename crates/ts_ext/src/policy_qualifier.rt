@@ -6,8 +6,8 @@ ghost use Rattle.ts_ext.specs.Reading.{policy_qualifier_of};
 ghost use Rattle.ts_ext.specs.View.{qualifier_in};
 
 use crate::fields::next_oid;
-use ts_der::{Element, Fault, OidRef};
 use ts_der::tag::SEQUENCE;
+use ts_der::{Element, Fault, OidRef};
 use ts_shape::{FromElement, tagged_as};
 
 /// A qualifier of a policy, as it lies in the source (RFC 5280 4.2.1.4, `PolicyQualifierInfo`).

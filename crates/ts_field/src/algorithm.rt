@@ -8,8 +8,8 @@ ghost use Rattle.ts_field.specs.Algorithm.{parameters_at, algorithm_of, algorith
 ghost use Rattle.ts_field.specs.View.{algorithm_in};
 
 use crate::fields::next_oid;
-use ts_der::{Element, Fault, Reader};
 use ts_der::tag::SEQUENCE;
+use ts_der::{Element, Fault, Reader};
 
 /// The identifier of an algorithm, as it lies in the source (RFC 5280 4.1.1.2).
 #[derive(Clone, Copy, Debug)]

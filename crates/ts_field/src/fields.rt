@@ -6,8 +6,8 @@ ghost use Rattle.ts_name.specs.NameView.{rdns_in};
 ghost use Rattle.ts_shape.specs.Fields.{oid_at, integer_at, bits_at};
 ghost use Rattle.ts_name.specs.Names.{name_at};
 
-use ts_der::{Fault, Integer, Reader};
 use ts_der::tag::{BIT_STRING, INTEGER, OBJECT_IDENTIFIER, SEQUENCE};
+use ts_der::{Fault, Integer, Reader};
 use ts_name::Name;
 
 /// The content octets of an OBJECT IDENTIFIER.

@@ -5,8 +5,8 @@ ghost use Rattle.ts_der.specs.View.{now};
 ghost use Rattle.ts_shape.specs.Steps.{Takes};
 ghost use Rattle.ts_field.specs.Time.{time_of, time_at};
 
-use ts_der::{DerFault, Element, Fault, Reader};
 use ts_der::tag::{GENERALIZED_TIME, UTC_TIME};
+use ts_der::{DerFault, Element, Fault, Reader};
 use ts_time::{Moment, read_general, read_utc};
 
 /// The two forms in which a certificate or a list writes a moment (RFC 5280 4.1.2.5, 5.1.2.4).

@@ -1,4 +1,5 @@
-// A file as a disk.
+//! A file as a disk.
+
 ghost use Rattle.std.specs.Prelude.{◌≡◌, ◌<◌, ◌≤◌, ◌+◌, ◌-◌, ◌^◌, ◌⊎◌, ◌++◌, length, Err, IfErr};
 ghost use Rattle.std.specs.Prelude.{IfOk, OnOk, vec_len, vec_capacity};
 ghost use Rattle.ts_disk.specs.Disk.{Call, Same, Torn, written, HasCause};
@@ -36,13 +37,13 @@ pub struct FileDisk<F> {
     ghost replayed: { octets.items ≡ (disk_after history.events).read },
 }
 
-// Writes octets over what a file holds at an offset. An interrupted write is tried again.
+/// Writes octets over what a file holds at an offset. An interrupted write is tried again.
 fn put<F: Write + Seek>(file: &mut F, at: usize, octets: &[u8]) -> io::Result<()> {
     file.seek(SeekFrom::Start(at as u64))?;
     file.write_all(octets)
 }
 
-// A failure of the device, which is counted.
+/// A failure of the device, which is counted.
 fn counted(failures: &mut u64) -> DiskFault
     ensures fault { result ≡ Failed }
     ensures rises { failures.old ≤ failures.new }
@@ -53,7 +54,7 @@ fn counted(failures: &mut u64) -> DiskFault
     DiskFault::Failed
 }
 
-// Writes octets at an offset, over what is there and past the end, into the room that is there.
+/// Writes octets at an offset, over what is there and past the end, into the room that is there.
 fn overwrite(old: &mut Vec<u8>, at: usize, octets: &[u8])
     requires within { at ≤ length old.old.items }
     requires room { vec_len old.old + (at + length octets.now - vec_len old.old)

@@ -1,4 +1,5 @@
-// What was done to a file, which only contracts see.
+//! What was done to a file, which only contracts see.
+
 ghost use Rattle.std.specs.Prelude.{◌≡◌, List, [], ◌∷◌};
 ghost use Rattle.std.specs.Borrow.{ftrue};
 ghost use Rattle.ts_file.specs.History.{Event, event_of};
@@ -26,7 +27,7 @@ impl History {
         }
     }
 
-    // Notes a kind and an offset, with octets.
+    /// Notes a kind and an offset, with octets.
     pub(crate) fn note(&mut self, _numbers: &[u64], _octets: &[u8])
         ensures { self.new.events ≡ event_of _numbers.now _octets.now ∷ self.old.events }
     {}

@@ -1,4 +1,5 @@
-// The disk of the file at a path.
+//! The disk of the file at a path.
+
 ghost use Rattle.std.specs.Prelude.{◌≡◌, IfOk};
 ghost use Rattle.ts_file.specs.FileDisk.{state_of};
 
@@ -40,7 +41,7 @@ pub fn create<R: Files>(rt: &R, alloc: Global, path: &str) -> io::Result<FileDis
     FileDisk::new(alloc, file)
 }
 
-// The folder of a path.
+/// The folder of a path.
 fn folder_of(path: &str) -> &str {
     match Path::new(path).parent() {
         Some(folder) if !folder.as_str().is_empty() => folder.as_str(),

@@ -1,4 +1,5 @@
-// Which of two disks is in use.
+//! Which of two disks is in use.
+
 ghost use Rattle.std.specs.Prelude.{◌≡◌, ◌≢◌, true, false, ◌≤◌, ◌<◌, ◌^◌, ◌++◌, ◌∷◌, ℕ, List};
 ghost use Rattle.std.specs.Prelude.{length, IfSome, IfNone};
 ghost use Rattle.ts_journal.specs.Images.{Header, head};

@@ -1,4 +1,5 @@
-// Writes with their syncs.
+//! Writes with their syncs.
+
 ghost use Rattle.std.specs.Prelude.{◌≡◌, ◌≤◌, ◌⊎◌, length, take, OnOk, IfErr};
 ghost use Rattle.ts_disk.specs.declared.fault.DiskFault.TheVariants.{Failed};
 ghost use Rattle.ts_disk.specs.Disk.{IsDurable, HasCause, EveryImage};
@@ -6,8 +7,8 @@ ghost use Rattle.ts_journal.specs.Gate.{Closed, Opened};
 
 use ts_disk::{Disk, DiskFault, put};
 
-// Writes text after the closed gate at end, which it then opens. At every moment the gate is
-// closed, or it is open and the whole text follows it.
+/// Writes text after the closed gate at end, which it then opens. At every moment the gate is
+/// closed, or it is open and the whole text follows it.
 pub(crate) fn extend<D: Disk>(disk: &mut D, end: usize, text: &[u8]) -> Result<(), DiskFault>
     requires durable { IsDurable (D.state disk.old) }
     requires closed { Closed (take end (D.state disk.old).read) (D.state disk.old).read }
@@ -25,7 +26,7 @@ pub(crate) fn extend<D: Disk>(disk: &mut D, end: usize, text: &[u8]) -> Result<(
     put(disk, end, &[1])
 }
 
-// Syncs a durable disk. At every moment its image stays.
+/// Syncs a durable disk. At every moment its image stays.
 pub(crate) fn flush<D: Disk>(disk: &mut D) -> Result<(), DiskFault>
     requires durable { IsDurable (D.state disk.old) }
     ensures durable { OnOk result (IsDurable (D.state disk.new)) }

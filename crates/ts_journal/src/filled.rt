@@ -1,4 +1,5 @@
-// The first images of a journal that has bodies from the start.
+//! The first images of a journal that has bodies from the start.
+
 ghost use Rattle.std.specs.Prelude.{◌≡◌, ◌≤◌, ◌⊎◌, ◌++◌, [], ◌∷◌, false, ℕ, List, length, OnOk};
 ghost use Rattle.std.specs.Prelude.{IfErr};
 ghost use Rattle.ts_disk.specs.declared.fault.DiskFault.TheVariants.{Failed};
@@ -10,8 +11,8 @@ use crate::header::head_octets;
 use crate::rewrite::{LIVE_GATE, begin};
 use ts_disk::{Disk, DiskFault, put};
 
-// Writes the octets before a closed live gate, and a text after it, over what a disk holds, and
-// syncs. A fresh disk is not in use at any moment: its live gate is written first, and closed.
+/// Writes the octets before a closed live gate, and a text after it, over what a disk holds, and
+/// syncs. A fresh disk is not in use at any moment: its live gate is written first, and closed.
 fn lay<D: Disk>(disk: &mut D, octets: &[u8], text: &[u8]) -> Result<(), DiskFault>
     requires length { length octets.now ≡ 24 }
     ensures durable { OnOk result (IsDurable (D.state disk.new)) }

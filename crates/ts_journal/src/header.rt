@@ -1,4 +1,5 @@
-// The first images of a journal.
+//! The first images of a journal.
+
 ghost use Rattle.std.specs.Prelude.{◌≡◌, ◌≤◌, ◌⊎◌, ◌++◌, [], ◌∷◌, drop, OnOk, IfErr};
 ghost use Rattle.ts_disk.specs.declared.fault.DiskFault.TheVariants.{Failed};
 ghost use Rattle.ts_disk.specs.Disk.{IsDurable, HasCause, DeviceFailed};
@@ -17,7 +18,7 @@ pub fn head_octets(node: u8, nodes: u8, generation: u64) -> [u8; 24]
     ]
 }
 
-// Writes a header and two gates over what a disk begins with, and syncs.
+/// Writes a header and two gates over what a disk begins with, and syncs.
 fn write_head<D: Disk>(
     disk: &mut D,
     node: u8,

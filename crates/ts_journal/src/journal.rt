@@ -1,4 +1,5 @@
-// A journal of bodies on two disks, of which one is in use.
+//! A journal of bodies on two disks, of which one is in use.
+
 ghost use Rattle.std.specs.Prelude.{◌≡◌, ◌⊎◌, ◌++◌, ◌<◌, ◌+◌, ◌^◌, [], ◌∷◌, ℕ, List, true, false};
 ghost use Rattle.std.specs.Prelude.{cond, OnOk, OnErr, IfErr};
 ghost use Rattle.ts_disk.specs.declared.fault.DiskFault.TheVariants.{Failed};

@@ -1,4 +1,5 @@
-// The steps that rewrite a journal on its other disk.
+//! The steps that rewrite a journal on its other disk.
+
 ghost use Rattle.std.specs.Prelude.{◌≡◌, ◌++◌, [], ◌∷◌, true, false, length, OnOk, IfErr};
 ghost use Rattle.ts_disk.specs.declared.fault.DiskFault.TheVariants.{Failed};
 ghost use Rattle.ts_disk.specs.Disk.{IsDurable, HasCause, EveryImage};
@@ -9,8 +10,8 @@ use ts_disk::{Disk, DiskFault, put};
 
 pub(crate) const LIVE_GATE: usize = 24;
 
-// Closes the live gate of a disk of an earlier generation, and syncs. A closed gate is never
-// written, as a torn write could open it.
+/// Closes the live gate of a disk of an earlier generation, and syncs. A closed gate is never
+/// written, as a torn write could open it.
 pub(crate) fn shut<D: Disk>(disk: &mut D, is_live: bool, generation: u64) -> Result<(), DiskFault>
     requires durable { IsDurable (D.state disk.old) }
     requires earlier { is_live ≡ true → IsEarlier generation (D.state disk.old).read }
@@ -28,7 +29,7 @@ pub(crate) fn shut<D: Disk>(disk: &mut D, is_live: bool, generation: u64) -> Res
     }
 }
 
-// Writes the octets before the live gate of a shut disk, and a text after it.
+/// Writes the octets before the live gate of a shut disk, and a text after it.
 pub(crate) fn begin<D: Disk>(disk: &mut D, octets: &[u8], text: &[u8]) -> Result<(), DiskFault>
     requires durable { IsDurable (D.state disk.old) }
     requires shut { IsShut (D.state disk.old).read }

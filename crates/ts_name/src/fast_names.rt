@@ -10,8 +10,8 @@ ghost use Rattle.ts_name.specs.Canon.{Attr};
 ghost use Rattle.ts_name.specs.NameEncoding.{IsRdn, IsName, rdn_content, encoded_rdn};
 
 use crate::name_reading::check_rdns;
-use ts_der::{Reader, are_ascii};
 use ts_der::tag::{OBJECT_IDENTIFIER, SEQUENCE, SET};
+use ts_der::{Reader, are_ascii};
 
 /// What follows the relative distinguished name at the front of ASCII, where that is one attribute,
 /// with lengths of one octet and a type of three octets. Where nothing is answered, nothing is

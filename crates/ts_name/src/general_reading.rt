@@ -13,8 +13,8 @@ ghost use Rattle.ts_shape.specs.Shape.{row_fault};
 
 use crate::general::General;
 use crate::name::Name;
-use ts_der::{DerFault, Element, Fault};
 use ts_der::tag::SEQUENCE;
+use ts_der::{DerFault, Element, Fault};
 use ts_shape::{FromElement, SequenceOf};
 
 /// General names, of which there is one or more (RFC 5280 4.2.1.6, `GeneralNames`).

@@ -23,8 +23,8 @@ use crate::fast_names::are_short_rdns;
 use crate::name::Name;
 use crate::rdn::Rdn;
 use std::str;
-use ts_der::{DerFault, Element, Fault, Reader};
 use ts_der::tag::{IA5_STRING, OBJECT_IDENTIFIER, PRINTABLE_STRING, SEQUENCE, SET, UTF8_STRING};
+use ts_der::{DerFault, Element, Fault, Reader};
 
 /// The content of an attribute's value, whose text obeys its character set.
 fn read_value<'a>(value: Element<'a>) -> Result<&'a [u8], Fault>

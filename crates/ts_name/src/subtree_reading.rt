@@ -18,8 +18,8 @@ ghost use Rattle.ts_name.specs.SubtreeView.{subtree_in};
 
 use crate::general::General;
 use crate::subtree::Subtree;
-use ts_der::{DerFault, Element, Fault, Integer, Reader};
 use ts_der::tag::SEQUENCE;
+use ts_der::{DerFault, Element, Fault, Integer, Reader};
 use ts_shape::{CertFault, CertRule, FromElement, tagged_as};
 
 const MINIMUM: u8 = 0x80;

@@ -50,7 +50,7 @@ module _ {D C M O Q A B : Type 0} (state : D → State) (octets : C → List ℕ
     -- within it.
     pub compacts : old.kept.broken ≡ false → input ≡ inputs.Compact → Compacts old result new
         × EveryPair (OpensToForce octets (owner old) (facts old))
-          (state old.kept.a) (state old.kept.b) (state new.kept.a) (state new.kept.b)
+        (state old.kept.a) (state old.kept.b) (state new.kept.a) (state new.kept.b)
     -- At the last generation there is no next one to rewrite the record in.
     pub exhausted : old.kept.broken ≡ false → input ≡ inputs.Compact
         → old.kept.generation + 1 ≡ 2 ^ 64 → IsErrOf result GenerationsExhausted

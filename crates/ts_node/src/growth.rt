@@ -23,32 +23,6 @@ use std::mem::replace;
 use ts_log::{LAST_POSITION, Step as LogStep};
 use ts_synod::{Ballot, Command, Fact};
 
-/// A copy of a fact.
-fn copy_of_fact<C: Command>(alloc: Global, fact: &Fact<C>) -> Result<Fact<C>, AllocError>
-    ensures { IfOk result (λ copy. copy ≡ fact.now) }
-{
-    Ok(match fact {
-        Fact::Used { round } => Fact::Used { round: *round },
-        Fact::Promised { position, ballot } => Fact::Promised {
-            position: *position,
-            ballot: *ballot,
-        },
-        Fact::Took {
-            position,
-            ballot,
-            command,
-        } => Fact::Took {
-            position: *position,
-            ballot: *ballot,
-            command: command.try_copy(alloc)?,
-        },
-        Fact::Chosen { position, command } => Fact::Chosen {
-            position: *position,
-            command: command.try_copy(alloc)?,
-        },
-    })
-}
-
 /// Copies facts after others.
 pub(crate) fn push_copies<C: Command>(
     alloc: Global,
@@ -58,7 +32,7 @@ pub(crate) fn push_copies<C: Command>(
     ensures { OnOk result (facts.new.items ≡ facts.old.items ++ more.now) }
 {
     for fact in more {
-        facts.push(copy_of_fact(alloc, fact)?)?;
+        facts.push(fact.try_copy(alloc)?)?;
     }
     Ok(())
 }

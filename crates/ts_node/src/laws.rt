@@ -6,8 +6,7 @@ ghost use Rattle.ts_node.specs.Run.{AreAllowed, Group, Happening, IsStart, Promi
 
 use crate::machine::Machine;
 use ts_disk::Disk;
-use ts_record::Codec;
-use ts_synod::Command;
+use ts_synod::{Codec, Command};
 
 /// Over every list of deliveries, losses, repeats, reorderings, crashes, restarts and compactions,
 /// no two nodes learn different commands at one position, and what is learned is chosen there;

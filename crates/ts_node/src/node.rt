@@ -29,8 +29,8 @@ use crate::plan::Plan;
 use crate::roles::Roles;
 use std::alloc::Global;
 use ts_disk::Disk;
-use ts_record::{Codec, Fault, Record};
-use ts_synod::{Command, Message};
+use ts_record::{Fault, Record};
+use ts_synod::{Codec, Command, Message};
 
 /// A node: a record on two disks, the three roles, and a state machine that takes the learned
 /// commands.

@@ -6,8 +6,7 @@ ghost use Rattle.std.specs.Prelude.{◌≡◌, ◌≤◌, [], length};
 use crate::group_ids::has_id;
 use std::alloc::{AllocError, Global};
 use ts_node::Machine;
-use ts_record::Codec;
-use ts_synod::Command;
+use ts_synod::{Codec, Command};
 
 /// A command of one octet.
 #[derive(Clone, Copy, Debug, PartialEq, Eq)]
@@ -25,10 +24,6 @@ impl Codec for Number {
     ghost use Rattle.std.specs.Prelude.{◌∷◌, []};
 
     ghost octets = { λ number. number.value ∷ [] };
-
-    fn try_copy(&self, _alloc: Global) -> Result<Number, AllocError> {
-        Ok(*self)
-    }
 
     fn write(&self, out: &mut Vec<u8>) -> Result<(), AllocError> {
         out.push(self.value)?;

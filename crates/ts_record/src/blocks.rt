@@ -1,4 +1,5 @@
-// The blocks of an image are read.
+//! The blocks of an image are read.
+
 ghost use Rattle.std.specs.Prelude.{◌≡◌, ◌≤◌, ◌<◌, ◌+◌, ◌^◌, ◌⊎◌, ◌++◌, ◌∷◌, ℕ, List, length, drop};
 ghost use Rattle.std.specs.Prelude.{IfOk, IfErr, IfSome, IfNone, MatchOption};
 ghost use Rattle.std.specs.Int.{to_be_bytes, w32};
@@ -6,13 +7,13 @@ ghost use Rattle.ts_synod.specs.declared.message.Fact.{Fact};
 ghost use Rattle.ts_record.specs.declared.fault.Fault.TheVariants.{Memory, Damaged};
 ghost use Rattle.ts_record.specs.Blocks.{IsRead, IsUnreadable, IsLength};
 
+use crate::Fault;
 use crate::layout::Layout;
 use crate::reading::{read_facts, u32_at};
-use crate::{Codec, Fault};
 use std::alloc::Global;
-use ts_synod::Fact;
+use ts_synod::{Codec, Fact};
 
-// The length of a body that begins here.
+/// The length of a body that begins here.
 fn length_at(layout: Layout, rest: &[u8]) -> Option<usize>
     requires { layout.longest_body < 2 ^ 32 }
     ensures { MatchOption result ((n : ℕ) (after : List ℕ) → IsLength layout n
@@ -27,14 +28,14 @@ fn length_at(layout: Layout, rest: &[u8]) -> Option<usize>
     Some(size)
 }
 
-// A fact list, and the offset of the closed gate after it.
+/// A fact list, and the offset of the closed gate after it.
 #[derive(Drop)]
 pub(crate) struct Contents<C> {
     pub facts: Vec<Fact<C>>,
     pub end: usize,
 }
 
-// Reads the blocks from the first gate on, up to the closed gate after the last.
+/// Reads the blocks from the first gate on, up to the closed gate after the last.
 pub(crate) fn read_blocks<C: Codec>(
     alloc: Global,
     layout: Layout,

@@ -1,14 +1,14 @@
-// The facts that make up the force of a list, each once.
+//! The facts that make up the force of a list, each once.
+
 ghost use Rattle.std.specs.Prelude.{◌≡◌, ◌≤◌, ◌^◌, ◌++◌, [], suc, length, Some, IfOk, OnOk};
 ghost use Rattle.ts_synod.specs.Force.{round_used_by, used_round, greater_vote};
 ghost use Rattle.ts_record.specs.Compacted.{position_of, last_position, used_fact, compacted};
 ghost use Rattle.ts_record.specs.Places.{places, with_fact, facts_of, facts_of_all};
 
-use crate::Codec;
 use std::alloc::{AllocError, Global};
-use ts_synod::{Ballot, Fact, Vote};
+use ts_synod::{Ballot, Codec, Fact, Vote};
 
-// What facts say of a position. A ballot of 0 is no promise.
+/// What facts say of a position. A ballot of 0 is no promise.
 #[derive(Drop)]
 struct Place<C> {
     promised: Ballot,
@@ -46,7 +46,7 @@ fn round<C: Codec>(fact: &Fact<C>) -> u32
     }
 }
 
-// The last position, and the greatest round.
+/// The last position, and the greatest round.
 fn bounds<C: Codec>(facts: &[Fact<C>]) -> (u32, u32)
     ensures last { result.0 ≡ last_position facts.now }
     ensures used { result.1 ≡ used_round facts.now }
@@ -93,7 +93,7 @@ fn take_vote<C: Codec>(
     Ok(())
 }
 
-// A place with one more fact, which is about its position.
+/// A place with one more fact, which is about its position.
 fn note<C: Codec>(alloc: Global, place: &mut Place<C>, fact: &Fact<C>) -> Result<(), AllocError>
     ensures { OnOk result (place.new ≡ with_fact place.old fact.now) }
 {
@@ -120,7 +120,7 @@ fn note<C: Codec>(alloc: Global, place: &mut Place<C>, fact: &Fact<C>) -> Result
     Ok(())
 }
 
-// A table of the positions up to the last.
+/// A table of the positions up to the last.
 fn table_of<C: Codec>(
     alloc: Global,
     facts: &[Fact<C>],
@@ -168,7 +168,7 @@ fn push_place<C: Codec>(
     Ok(())
 }
 
-// The facts of a table.
+/// The facts of a table.
 fn listed<C: Codec>(
     alloc: Global,
     used: u32,
@@ -187,8 +187,8 @@ fn listed<C: Codec>(
     Ok(out)
 }
 
-// The facts that make up the force of these, in time that is linear in them and in the last
-// position.
+/// The facts that make up the force of these, in time that is linear in them and in the last
+/// position.
 pub(crate) fn compact<C: Codec>(
     alloc: Global,
     facts: &[Fact<C>],

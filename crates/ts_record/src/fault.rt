@@ -1,4 +1,5 @@
-// What a call of a record answers in place of a value.
+//! What a call of a record answers in place of a value.
+
 ghost use Rattle.std.specs.Prelude.{◌≡◌};
 ghost use Rattle.ts_record.specs.declared.fault.Fault.TheVariants.{Memory};
 ghost use Rattle.ts_record.specs.Faults.{fault_of};

@@ -1,4 +1,4 @@
-// Where the blocks of an image begin, and how long they may be.
+//! Where the blocks of an image begin, and how long they may be.
 
 /// Where the first gate of an image is, and how many octets a body may have, by the record's
 /// version.

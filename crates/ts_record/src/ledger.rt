@@ -1,4 +1,5 @@
-// A record while facts are appended to it, and while it is rewritten.
+//! A record while facts are appended to it, and while it is rewritten.
+
 ghost use Rattle.std.specs.Prelude.{◌≡◌, ◌≢◌, ◌≤◌, ◌<◌, ◌⊎◌, ◌++◌, ◌+◌, ◌^◌, ◌∷◌, [], ℕ, List};
 ghost use Rattle.std.specs.Prelude.{true, false, length, cond, IfOk, OnOk, OnErr, IfErr, IsErrOf};
 ghost use Rattle.ts_journal.specs.Settled.{EveryMoment, member_in, OneFailed};
@@ -14,13 +15,13 @@ ghost use Rattle.ts_record.specs.Rewrite.{Steps};
 
 use crate::compacted::compact;
 use crate::writing::{copies, copies_if, entry_of, entry_of_one, move_behind};
-use crate::{Codec, Fault, Progress};
+use crate::{Fault, Progress};
 use std::alloc::Global;
 use ts_disk::Disk;
 use ts_journal::{Journal, Stage};
-use ts_synod::Fact;
+use ts_synod::{Codec, Fact};
 
-// A journal, the facts in it, the facts that a rewrite copies, and how many of them are copied.
+/// A journal, the facts in it, the facts that a rewrite copies, and how many of them are copied.
 #[derive(Drop)]
 pub(crate) struct Ledger<D: Disk, C: Codec> {
     pub journal: Journal<D>,
@@ -29,7 +30,7 @@ pub(crate) struct Ledger<D: Disk, C: Codec> {
     pub done: usize,
 }
 
-// The first step: decides what is copied, and shuts the other disk.
+/// The first step: decides what is copied, and shuts the other disk.
 fn shut<D: Disk, C: Codec>(alloc: Global, c: &mut Ledger<D, C>) -> Result<(), Fault>
     requires keeps { Keeps D.state C.octets c.old }
     requires idle { (c.old.journal.stage ≡ Live) ⊎ (c.old.journal.stage ≡ Closed) }
@@ -53,7 +54,7 @@ fn shut<D: Disk, C: Codec>(alloc: Global, c: &mut Ledger<D, C>) -> Result<(), Fa
     Ok(())
 }
 
-// The second step: writes the other disk's header.
+/// The second step: writes the other disk's header.
 fn begin<D: Disk, C: Codec>(c: &mut Ledger<D, C>) -> Result<(), Fault>
     requires keeps { Keeps D.state C.octets c.old }
     requires begun { c.old.journal.stage ≡ Begun }
@@ -74,7 +75,7 @@ fn begin<D: Disk, C: Codec>(c: &mut Ledger<D, C>) -> Result<(), Fault>
     Ok(())
 }
 
-// The third step: copies one fact, as a body of its own.
+/// The third step: copies one fact, as a body of its own.
 fn copy<D: Disk, C: Codec>(alloc: Global, c: &mut Ledger<D, C>) -> Result<(), Fault>
     requires keeps { Keeps D.state C.octets c.old }
     requires copying { c.old.journal.stage ≡ Copying }
@@ -98,7 +99,7 @@ fn copy<D: Disk, C: Codec>(alloc: Global, c: &mut Ledger<D, C>) -> Result<(), Fa
     Ok(())
 }
 
-// The last step: uses the other disk.
+/// The last step: uses the other disk.
 fn switch<D: Disk, C: Codec>(alloc: Global, c: &mut Ledger<D, C>) -> Result<(), Fault>
     requires keeps { Keeps D.state C.octets c.old }
     requires copying { c.old.journal.stage ≡ Copying }
@@ -119,7 +120,7 @@ fn switch<D: Disk, C: Codec>(alloc: Global, c: &mut Ledger<D, C>) -> Result<(), 
     Ok(())
 }
 
-// One step of a rewrite.
+/// One step of a rewrite.
 pub(crate) fn step<D: Disk, C: Codec>(
     alloc: Global,
     c: &mut Ledger<D, C>,
@@ -156,7 +157,7 @@ pub(crate) fn step<D: Disk, C: Codec>(
     Ok(Progress::Working)
 }
 
-// Appends facts to the disk in use; a rewrite copies them too.
+/// Appends facts to the disk in use; a rewrite copies them too.
 pub(crate) fn append<D: Disk, C: Codec>(
     alloc: Global,
     c: &mut Ledger<D, C>,

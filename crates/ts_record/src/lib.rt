@@ -23,7 +23,6 @@
 #![tactic(auto)]
 
 mod blocks;
-mod codec;
 mod compacted;
 mod fault;
 mod layout;
@@ -35,7 +34,6 @@ mod reading;
 mod record;
 mod writing;
 
-pub use codec::Codec;
 pub use fault::Fault;
 pub use progress::Progress;
 pub use record::{Record, Refused};

@@ -1,4 +1,5 @@
-// A record of version 1 becomes one of version 2.
+//! A record of version 1 becomes one of version 2.
+
 ghost use Rattle.std.specs.Prelude.{◌≡◌, ◌≢◌, ◌≤◌, ◌+◌, ◌⊎◌, ◌++◌, ◌∷◌, [], ℕ, List, true, false};
 ghost use Rattle.std.specs.Prelude.{length, take, drop, MatchOption, MatchResult, IfOk, IfErr};
 ghost use Rattle.ts_disk.specs.Disk.{DeviceFailed, EveryImage};
@@ -13,13 +14,13 @@ ghost use Rattle.ts_record.specs.Record.{OpensToFrom};
 use crate::blocks::{Contents, read_blocks};
 use crate::layout::VERSION_1;
 use crate::opening::is_same;
-use crate::{Codec, Fault, Record};
+use crate::{Fault, Record};
 use std::alloc::Global;
 use ts_disk::Disk;
 use ts_journal::format_with;
-use ts_synod::Fact;
+use ts_synod::{Codec, Fact};
 
-// The node whose record of version 1 begins here, and the number of nodes.
+/// The node whose record of version 1 begins here, and the number of nodes.
 fn old_owner(octets: &[u8]) -> Option<(u8, u8)>
     ensures { MatchOption result ((m : Member) → IsOldOf m octets.now → ⊥)
         (λ owner. IsOldOf (record { node = owner.0; nodes = owner.1 }) octets.now) }
@@ -40,7 +41,7 @@ fn old_owner(octets: &[u8]) -> Option<(u8, u8)>
     Some((node, nodes))
 }
 
-// A record of version 1: whose it is, and what is in it.
+/// A record of version 1: whose it is, and what is in it.
 #[derive(Drop)]
 struct OldRecord<C> {
     node: u8,
@@ -67,7 +68,7 @@ fn read_old<C: Codec>(alloc: Global, octets: &[u8]) -> Result<OldRecord<C>, Faul
     })
 }
 
-// The number of facts. More than 2^32 - 1 are refused as memory is.
+/// The number of facts. More than 2^32 - 1 are refused as memory is.
 fn count<C>(facts: &[Fact<C>]) -> Result<u32, Fault>
     ensures value { IfOk result (λ count. count ≡ length facts.now) }
     ensures fault { IfErr result (λ fault. fault ≡ Memory) }

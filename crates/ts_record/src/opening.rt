@@ -1,4 +1,5 @@
-// A record is opened from what two disks hold.
+//! A record is opened from what two disks hold.
+
 ghost use Rattle.std.specs.Prelude.{◌≡◌, ◌≢◌, ◌≤◌, ◌⊎◌, ◌++◌, ◌∷◌, [], ℕ, List, true, false};
 ghost use Rattle.std.specs.Prelude.{length, take, cond, IfOk, OnOk, IfErr};
 ghost use Rattle.ts_disk.specs.Disk.{IsDurable, DeviceFailed};
@@ -10,14 +11,15 @@ ghost use Rattle.ts_record.specs.Blocks.{version_2, IsRead};
 ghost use Rattle.ts_record.specs.Opening.{BeginsOld, IsRefused, IsFault, NothingNew};
 ghost use Rattle.ts_record.specs.Record.{EitherFailed};
 
+use crate::Fault;
 use crate::blocks::{Contents, read_blocks};
 use crate::layout::VERSION_2;
-use crate::{Codec, Fault};
 use std::alloc::Global;
 use ts_disk::Disk;
 use ts_journal::{Choice, Look, choose, look_at};
+use ts_synod::Codec;
 
-// The disk in use, and what is on it.
+/// The disk in use, and what is on it.
 #[derive(Drop)]
 pub(crate) struct Found<C> {
     pub choice: Choice,
@@ -31,7 +33,7 @@ pub(crate) fn is_same(a: &[u8], b: &[u8]) -> bool
     a == b
 }
 
-// Whether octets begin with those of a record of version 1.
+/// Whether octets begin with those of a record of version 1.
 fn begins_old(octets: &[u8]) -> bool
     ensures old { result ≡ true → BeginsOld octets.now }
     ensures other { result ≡ false → BeginsOld octets.now → ⊥ }
@@ -42,7 +44,7 @@ fn begins_old(octets: &[u8]) -> bool
     is_same(&octets[..8], &[0x54, 0x53, 0x52, 0x45, 0x43, 0, 0, 1])
 }
 
-// Why no disk is in use.
+/// Why no disk is in use.
 fn refusal(a: &[u8], b: &[u8]) -> Fault
     requires { Unchosen a.now b.now }
     ensures { IsRefused a.now b.now result }
@@ -55,7 +57,7 @@ fn refusal(a: &[u8], b: &[u8]) -> Fault
     }
 }
 
-// Syncs both disks and reads them: each octet once.
+/// Syncs both disks and reads them: each octet once.
 pub(crate) fn opened<D: Disk, C: Codec>(
     alloc: Global,
     a: &mut D,

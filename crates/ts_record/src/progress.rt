@@ -1,4 +1,4 @@
-// How far a rewrite is after one of its steps.
+//! How far a rewrite is after one of its steps.
 
 /// How far a rewrite is after one of its steps.
 #[derive(Clone, Copy, Debug, PartialEq, Eq)]

@@ -1,4 +1,5 @@
-// Facts are read from a body.
+//! Facts are read from a body.
+
 ghost use Rattle.std.specs.Prelude.{◌≡◌, ◌⊎◌, ◌≤◌, ◌<◌, ◌+◌, ◌^◌, ◌++◌, ◌∷◌, [], ℕ, List, length};
 ghost use Rattle.std.specs.Prelude.{drop, take, MatchOption, MatchResult, IfSome, IfOk, OnOk};
 ghost use Rattle.std.specs.Prelude.{Option, true, false};
@@ -7,9 +8,8 @@ ghost use Rattle.ts_record.specs.Facts.{IsPosition, IsRound, IsBallot, IsBlob, b
 ghost use Rattle.ts_record.specs.Facts.{encodings, Fits, AllFit, Begins, FactOrNot};
 ghost use Rattle.ts_synod.specs.declared.message.Fact.{Fact};
 
-use crate::Codec;
 use std::alloc::{AllocError, Global};
-use ts_synod::Fact;
+use ts_synod::{Codec, Fact};
 
 pub(crate) fn u32_at(rest: &[u8]) -> Option<u32>
     ensures found { MatchOption result (length rest.now < 4)
@@ -71,7 +71,7 @@ fn ballot_at(rest: &[u8]) -> Option<u64>
     Some(ballot)
 }
 
-// The length of the blob that begins here.
+/// The length of the blob that begins here.
 fn blob_at(rest: &[u8]) -> Option<usize>
     ensures { MatchOption result ((octets after : List ℕ) → IsBlob octets
         → rest.now ≡ blob octets ++ after → ⊥)
@@ -85,7 +85,7 @@ fn blob_at(rest: &[u8]) -> Option<usize>
     Some(size)
 }
 
-// The command of a blob that begins here, and the length of both.
+/// The command of a blob that begins here, and the length of both.
 fn command_at<C: Codec>(alloc: Global, rest: &[u8]) -> Result<Option<(C, usize)>, AllocError>
     ensures { IfOk result (λ found. MatchOption found
         ((command : C) (after : List ℕ) → IsBlob (C.octets command)
@@ -121,7 +121,7 @@ fn promised_at<C: Codec>(fields: &[u8]) -> Option<(Fact<C>, usize)>
     Some((Fact::Promised { position, ballot }, 13))
 }
 
-// The ballot and the command that begin here, and the length of both.
+/// The ballot and the command that begin here, and the length of both.
 fn vote_at<C: Codec>(alloc: Global, rest: &[u8]) -> Result<Option<(u64, C, usize)>, AllocError>
     ensures { IfOk result (λ found. MatchOption found
         ((ballot : ℕ) (command : C) (after : List ℕ) → IsBallot ballot → IsBlob (C.octets command)
@@ -171,7 +171,7 @@ fn chosen_at<C: Codec>(alloc: Global, fields: &[u8]) -> Result<Option<(Fact<C>, 
     }
 }
 
-// The fact that begins here, and the length of its octets.
+/// The fact that begins here, and the length of its octets.
 fn fact_at<C: Codec>(alloc: Global, rest: &[u8]) -> Result<Option<(Fact<C>, usize)>, AllocError>
     ensures { IfOk result (λ found. Begins C.octets rest.now found) }
 {

@@ -1,4 +1,5 @@
-// A record of facts on two disks.
+//! A record of facts on two disks.
+
 ghost use Rattle.std.specs.Prelude.{◌≡◌, ◌≤◌, ◌⊎◌, ◌++◌, ◌∷◌, [], ◌^◌, ◌+◌, ℕ, List, false, true};
 ghost use Rattle.std.specs.Prelude.{length, IfOk, OnOk, OnErr, IfErr, MatchResult, IsErrOf, drop};
 ghost use Rattle.std.specs.Prelude.{cond};
@@ -20,12 +21,12 @@ ghost use Rattle.ts_synod.specs.Force.{SameForce};
 use crate::blocks::Contents;
 use crate::ledger::{Ledger, append, step};
 use crate::opening::{Found, opened};
-use crate::{Codec, Fault, Progress};
+use crate::{Fault, Progress};
 use std::alloc::Global;
 use std::marker::Model;
 use ts_disk::Disk;
 use ts_journal::{Journal, format};
-use ts_synod::Fact;
+use ts_synod::{Codec, Fact};
 
 /// A record of facts on two disks, of which one is in use.
 #[derive(Drop)]
@@ -53,7 +54,7 @@ pub struct Refused<D: Disk> {
     pub b: D,
 }
 
-// The record that was read.
+/// The record that was read.
 fn record_of<D: Disk, C: Codec>(
     alloc: Global,
     current: D,
@@ -342,7 +343,7 @@ impl<D: Disk, C: Codec> Record<D, C> {
     }
 }
 
-// Whether a device failed in the call.
+/// Whether a device failed in the call.
 fn is_failure<T>(answer: &Result<T, Fault>) -> bool
     ensures failed { result ≡ true → IsErrOf answer.now Fault.DiskFailed }
     ensures others { result ≡ false → IsErrOf answer.now Fault.DiskFailed → ⊥ }

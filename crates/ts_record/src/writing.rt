@@ -1,52 +1,26 @@
-// Facts are written as a body.
+//! Facts are written as a body.
+
 ghost use Rattle.std.specs.Prelude.{◌≡◌, ◌≤◌, ◌+◌, ◌^◌, ◌<◌, ◌++◌, length, IfOk, OnOk, cond, []};
 ghost use Rattle.std.specs.Prelude.{◌∷◌, vec_len, vec_capacity};
 ghost use Rattle.std.specs.Int.{to_be_bytes, w32};
 ghost use Rattle.ts_journal.specs.Images.{entry};
 ghost use Rattle.ts_record.specs.Facts.{blob, encoding, encodings};
 
-use crate::Codec;
 use std::alloc::{AllocError, Global};
-use ts_synod::Fact;
+use ts_synod::{Codec, Fact};
 
-// A copy of a fact.
-fn copied<C: Codec>(alloc: Global, fact: &Fact<C>) -> Result<Fact<C>, AllocError>
-    ensures { IfOk result (λ copy. copy ≡ fact.now) }
-{
-    Ok(match fact {
-        Fact::Used { round } => Fact::Used { round: *round },
-        Fact::Promised { position, ballot } => Fact::Promised {
-            position: *position,
-            ballot: *ballot,
-        },
-        Fact::Took {
-            position,
-            ballot,
-            command,
-        } => Fact::Took {
-            position: *position,
-            ballot: *ballot,
-            command: command.try_copy(alloc)?,
-        },
-        Fact::Chosen { position, command } => Fact::Chosen {
-            position: *position,
-            command: command.try_copy(alloc)?,
-        },
-    })
-}
-
-// Copies of facts.
+/// Copies of facts.
 pub(crate) fn copies<C: Codec>(alloc: Global, facts: &[Fact<C>]) -> Result<Vec<Fact<C>>, AllocError>
     ensures { IfOk result (λ copies. copies.items ≡ facts.now) }
 {
     let mut all = Vec::new(alloc);
     for fact in facts {
-        all.push(copied(alloc, fact)?)?;
+        all.push(fact.try_copy(alloc)?)?;
     }
     Ok(all)
 }
 
-// Copies of facts, where they are wanted.
+/// Copies of facts, where they are wanted.
 pub(crate) fn copies_if<C: Codec>(
     alloc: Global,
     wanted: bool,
@@ -61,7 +35,7 @@ pub(crate) fn copies_if<C: Codec>(
     }
 }
 
-// Moves facts after others, for which there is room.
+/// Moves facts after others, for which there is room.
 pub(crate) fn move_behind<C: Codec>(facts: &mut Vec<Fact<C>>, more: &mut Vec<Fact<C>>)
     requires { vec_len facts.old + vec_len more.old ≤ vec_capacity facts.old }
     ensures { facts.new.items ≡ facts.old.items ++ more.old.items }
@@ -138,7 +112,7 @@ fn encoded<C: Codec>(alloc: Global, facts: &[Fact<C>]) -> Result<Vec<u8>, AllocE
     Ok(octets)
 }
 
-// What follows the gate of a body.
+/// What follows the gate of a body.
 fn framed(alloc: Global, body: &[u8]) -> Result<Vec<u8>, AllocError>
     requires { length body.now ≤ 4194500 }
     ensures { IfOk result (λ octets. octets.items ≡ entry body.now) }
@@ -149,7 +123,7 @@ fn framed(alloc: Global, body: &[u8]) -> Result<Vec<u8>, AllocError>
     Ok(out)
 }
 
-// What follows the gate of a body of these facts.
+/// What follows the gate of a body of these facts.
 pub(crate) fn entry_of<C: Codec>(alloc: Global, facts: &[Fact<C>]) -> Result<Vec<u8>, AllocError>
     requires { length (encodings C.octets facts.now) ≤ 4194500 }
     ensures { IfOk result (λ octets. octets.items ≡ entry (encodings C.octets facts.now)) }
@@ -159,7 +133,7 @@ pub(crate) fn entry_of<C: Codec>(alloc: Global, facts: &[Fact<C>]) -> Result<Vec
     Ok(out)
 }
 
-// The same for one fact.
+/// The same for one fact.
 pub(crate) fn entry_of_one<C: Codec>(alloc: Global, fact: &Fact<C>) -> Result<Vec<u8>, AllocError>
     requires { length (encoding C.octets fact.now) ≤ 4194500 }
     ensures { IfOk result (λ octets. octets.items ≡ entry (encoding C.octets fact.now)) }

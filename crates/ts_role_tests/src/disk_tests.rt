@@ -1,3 +1,5 @@
+//! A disk in memory: its calls, its faults, and what a crash leaves.
+
 use std::test::Fail;
 use ts_disk::{Disk, DiskCall, DiskFault, MemDisk, Torn, put};
 

@@ -1,3 +1,5 @@
+//! A file as a disk, on real files of the test.
+
 use std::alloc::{AllocError, Global};
 use std::fs::{Metadata, OpenFile};
 use std::io::{ErrorKind, Read, Seek, SeekFrom, Write};
@@ -10,7 +12,7 @@ const FOLDER: &str = "ts_file_test";
 
 const PATH: &str = "ts_file_test/record";
 
-// Writes octets at an offset, which is not past the end, and syncs.
+/// Writes octets at an offset, which is not past the end, and syncs.
 fn put<D: Disk>(disk: &mut D, alloc: Global, at: usize, octets: &[u8]) -> Result<(), DiskFault> {
     if disk.read(alloc)?.len() < at {
         return Err(DiskFault::Memory);
@@ -43,8 +45,8 @@ fn what_is_written_is_read_when_it_is_opened_again(rt: HostRuntime) -> Result<()
     Ok(())
 }
 
-// A file of which every second write is interrupted, and the others take two octets at most, up to
-// a first that fails.
+/// A file of which every second write is interrupted, and the others take two octets at most, up to
+/// a first that fails.
 #[derive(Drop)]
 struct Patchy {
     held: Vec<u8>,

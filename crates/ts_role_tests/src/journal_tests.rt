@@ -1,3 +1,5 @@
+//! A journal on two disks: its octets, its rewrites, and what it opens to.
+
 use std::test::Fail;
 use ts_disk::MemDisk;
 use ts_journal::{Choice, Look, Owner, Stage, choose, format, look_at};

@@ -1,16 +1,18 @@
+//! A record of version 1 is written again as one of version 2.
+
 use crate::record_tests::Word;
 use std::alloc::{AllocError, Global};
 use std::test::Fail;
 use ts_disk::MemDisk;
 use ts_record::{Fault, Record};
 
-// A record of version 1: the header of node 1 of 3, a body with the fact that round 1 was used, and
-// a closed gate.
+/// A record of version 1: the header of node 1 of 3, a body with the fact that round 1 was used, and
+/// a closed gate.
 const OLD: [u8; 27] = [
     0x54, 0x53, 0x52, 0x45, 0x43, 0, 0, 1, 1, 3, 0, 0, 0, 0, 0, 0, 1, 0, 0, 0, 5, 1, 0, 0, 0, 1, 0,
 ];
 
-// The first disk of the same record in version 2.
+/// The first disk of the same record in version 2.
 const NEW: [u8; 36] = [
     0x54, 0x53, 0x52, 0x45, 0x43, 0, 0, 2, 1, 3, 0, 0, 0, 0, 0, 0, 0, 0, 0, 0, 0, 0, 0, 1, 1, 1, 0,
     0, 0, 5, 1, 0, 0, 0, 1, 0,

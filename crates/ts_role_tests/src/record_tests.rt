@@ -1,11 +1,13 @@
+//! A record: its octets, what it opens to, and its refusals.
+
 use std::alloc::{AllocError, Global};
 use std::marker::Model;
 use std::test::Fail;
 use ts_disk::{DiskCall, MemDisk, Torn};
-use ts_record::{Codec, Fault, Record, Refused};
-use ts_synod::Fact;
+use ts_record::{Fault, Record, Refused};
+use ts_synod::{Codec, Command, Fact};
 
-// A command that is any octets.
+/// A command that is any octets.
 #[derive(Drop)]
 pub(crate) struct Word {
     octets: Vec<u8>,
@@ -19,14 +21,16 @@ impl Model for Word {
     ghost view = { λ word. word.octets.items };
 }
 
-impl Codec for Word {
-    ghost octets = { λ word. word };
-
+impl Command for Word {
     fn try_copy(&self, alloc: Global) -> Result<Self, AllocError> {
         Ok(Word {
             octets: self.octets.to_vec(alloc)?,
         })
     }
+}
+
+impl Codec for Word {
+    ghost octets = { λ word. word };
 
     fn write(&self, out: &mut Vec<u8>) -> Result<(), AllocError> {
         out.extend_from_slice(&self.octets)
@@ -75,7 +79,7 @@ fn a_format_writes_a_head_on_each_disk(rt: HostRuntime) -> Result<(), Fail> {
     Ok(())
 }
 
-// The disks of a record to which no facts were appended, and then one.
+/// The disks of a record to which no facts were appended, and then one.
 fn appended(alloc: Global) -> Result<Option<(MemDisk, MemDisk)>, Fail> {
     let (mut a, mut b) = (empty(alloc)?, empty(alloc)?);
     Record::<MemDisk, Word>::format(&mut a, &mut b, 1, 3)?;
@@ -91,8 +95,8 @@ fn appended(alloc: Global) -> Result<Option<(MemDisk, MemDisk)>, Fail> {
     })
 }
 
-// The octets of the writes at 26 and at 25, each of which is synced, where these are the last calls
-// of a disk.
+/// The octets of the writes at 26 and at 25, each of which is synced, where these are the last calls
+/// of a disk.
 fn last_writes(disk: &MemDisk) -> Option<(&[u8], &[u8])> {
     match disk.calls() {
         [
@@ -112,7 +116,7 @@ fn last_writes(disk: &MemDisk) -> Option<(&[u8], &[u8])> {
     }
 }
 
-// Whether the disks open to the one fact that was appended.
+/// Whether the disks open to the one fact that was appended.
 fn open_to_one(alloc: Global, a: MemDisk, b: MemDisk) -> bool {
     match Record::<MemDisk, Word>::open(alloc, a, b) {
         Ok(record) => matches!(record.facts(), [Fact::Used { round: 1 }]),
@@ -130,7 +134,7 @@ fn an_append_makes_four_calls(rt: HostRuntime) -> Result<(), Fail> {
     Ok(())
 }
 
-// The disks of a record to which two facts were appended, and then a third.
+/// The disks of a record to which two facts were appended, and then a third.
 fn with_three_facts(alloc: Global) -> Result<Option<(MemDisk, MemDisk)>, Fail> {
     let (mut a, mut b) = (empty(alloc)?, empty(alloc)?);
     Record::<MemDisk, Word>::format(&mut a, &mut b, 2, 3)?;
@@ -167,7 +171,7 @@ fn with_three_facts(alloc: Global) -> Result<Option<(MemDisk, MemDisk)>, Fail> {
     Ok(Some(record.close()))
 }
 
-// Whether these are the three facts.
+/// Whether these are the three facts.
 fn are_three(facts: &[Fact<Word>]) -> bool {
     match facts {
         [
@@ -204,7 +208,7 @@ fn every_kind_of_fact_comes_back(rt: HostRuntime) -> Result<(), Fail> {
     Ok(())
 }
 
-// A first disk in use with a body, and a second that is shut.
+/// A first disk in use with a body, and a second that is shut.
 const WHOLE: [u8; 36] = [
     0x54, 0x53, 0x52, 0x45, 0x43, 0, 0, 2, 1, 3, 0, 0, 0, 0, 0, 0, 0, 0, 0, 0, 0, 0, 0, 1, 1, 1, 0,
     0, 0, 5, 1, 0, 0, 0, 1, 0,
@@ -214,7 +218,7 @@ const SHUT: [u8; 26] = [
     0x54, 0x53, 0x52, 0x45, 0x43, 0, 0, 2, 1, 3, 0, 0, 0, 0, 0, 0, 0, 0, 0, 0, 0, 0, 0, 0, 0, 0,
 ];
 
-// The octets of two disks, and why they are refused.
+/// The octets of two disks, and why they are refused.
 const IMAGES: &[(&[u8], &[u8], Option<Fault>)] = &[
     (&WHOLE, &SHUT, None),
     (&[], &[], Some(Fault::NotFormatted)),
@@ -222,7 +226,7 @@ const IMAGES: &[(&[u8], &[u8], Option<Fault>)] = &[
     (&OLD, &[], Some(Fault::OldVersion)),
 ];
 
-// How many octets of the first disk are left, and where it is damaged then.
+/// How many octets of the first disk are left, and where it is damaged then.
 const CUTS: [(usize, usize); 4] = [(35, 35), (30, 30), (29, 26), (25, 25)];
 
 #[test]
@@ -238,7 +242,7 @@ fn each_bad_image_has_its_fault(rt: HostRuntime) -> Result<(), Fail> {
     Ok(())
 }
 
-// Whether a crash after so many calls of an append leaves the new fact.
+/// Whether a crash after so many calls of an append leaves the new fact.
 const CRASHES: [(u64, Torn, bool); 15] = [
     (0, Torn::Old, false),
     (0, Torn::New, false),
@@ -257,8 +261,8 @@ const CRASHES: [(u64, Torn, bool); 15] = [
     (4, Torn::Byte(0xff), true),
 ];
 
-// What a crash after so many calls of an append leaves, whether the append failed, and whether it
-// is broken then.
+/// What a crash after so many calls of an append leaves, whether the append failed, and whether it
+/// is broken then.
 fn stopped(alloc: Global, calls: u64, torn: Torn) -> Result<(usize, Option<Fault>), Fail> {
     let (mut a, mut b) = (empty(alloc)?, empty(alloc)?);
     Record::<MemDisk, Word>::format(&mut a, &mut b, 1, 3)?;
@@ -294,7 +298,7 @@ fn a_crash_leaves_the_facts_before_or_after(rt: HostRuntime) -> Result<(), Fail>
     Ok(())
 }
 
-// A record of four bodies.
+/// A record of four bodies.
 fn with_four_bodies(alloc: Global) -> Result<Option<(MemDisk, MemDisk)>, Fail> {
     let (mut a, mut b) = (empty(alloc)?, empty(alloc)?);
     Record::<MemDisk, Word>::format(&mut a, &mut b, 1, 3)?;
@@ -340,8 +344,8 @@ fn is_named(fault: Option<Fault>) -> bool {
     )
 }
 
-// Whether opening answers facts or a fault that names the image, with each of these octets at a
-// place of one of the disks.
+/// Whether opening answers facts or a fault that names the image, with each of these octets at a
+/// place of one of the disks.
 fn answers(
     alloc: Global,
     disks: (&[u8], &[u8]),
@@ -365,8 +369,8 @@ fn answers(
     Ok(all)
 }
 
-// Whether each end of the first disk that is missing is refused, or each of the second named, and
-// whether so is each other octet.
+/// Whether each end of the first disk that is missing is refused, or each of the second named, and
+/// whether so is each other octet.
 fn hold(alloc: Global, disks: (&[u8], &[u8]), second: bool) -> Result<bool, AllocError> {
     let (a, b) = disks;
     let mut all = true;

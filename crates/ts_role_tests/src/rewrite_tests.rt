@@ -1,3 +1,5 @@
+//! A record is rewritten in steps.
+
 use crate::record_tests::Word;
 use std::alloc::{AllocError, Global};
 use std::test::Fail;
@@ -19,9 +21,9 @@ fn greatest(facts: &[Fact<Word>]) -> u32 {
     most
 }
 
-// Rewrites a record of two facts, to which a third is appended after so many steps, until a call
-// fails or the record is switched; then a fourth is appended on the other disk. The number of
-// steps, the rounds that were kept, and the two disks.
+/// Rewrites a record of two facts, to which a third is appended after so many steps, until a call
+/// fails or the record is switched; then a fourth is appended on the other disk. The number of
+/// steps, the rounds that were kept, and the two disks.
 fn rewritten(
     alloc: Global,
     fuse: (u64, u64),
@@ -84,8 +86,8 @@ fn a_rewrite_keeps_the_force(rt: HostRuntime) -> Result<(), Fail> {
     Ok(())
 }
 
-// What a crash leaves of a rewrite whose disks have these fuses: the rounds that were kept, and
-// those that are opened.
+/// What a crash leaves of a rewrite whose disks have these fuses: the rounds that were kept, and
+/// those that are opened.
 fn stopped(alloc: Global, fuse: (u64, u64), torn: (Torn, Torn)) -> Result<(u32, u32), Fail> {
     let Some((_, kept, a, b)) = rewritten(alloc, fuse, 3)? else {
         return Ok((0, 0));
@@ -98,8 +100,8 @@ fn stopped(alloc: Global, fuse: (u64, u64), torn: (Torn, Torn)) -> Result<(u32, 
 
 const TORN: [Torn; 4] = [Torn::Old, Torn::New, Torn::Byte(0), Torn::Byte(0xff)];
 
-// Whether a crash at these fuses keeps what was kept, and no more than the round of an append that
-// failed, whatever is left of the second disk.
+/// Whether a crash at these fuses keeps what was kept, and no more than the round of an append that
+/// failed, whatever is left of the second disk.
 fn keeps_the_force(alloc: Global, fuse: (u64, u64), first: Torn) -> Result<bool, Fail> {
     let mut all = true;
     for second in TORN {

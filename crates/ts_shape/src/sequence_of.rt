@@ -9,8 +9,8 @@ ghost use Rattle.ts_shape.specs.Items.{tagged_as as tagged_as_of, each, some_of,
 ghost use Rattle.ts_shape.specs.Steps.{Takes};
 
 use std::marker::PhantomData;
-use ts_der::{DerFault, Element, Fault, OidRef, Reader};
 use ts_der::tag::OBJECT_IDENTIFIER;
+use ts_der::{DerFault, Element, Fault, OidRef, Reader};
 
 /// What an element can be read as, by its tag and its content.
 pub trait FromElement<'a>: Sized + Drop {

@@ -6,7 +6,7 @@ ghost use Rattle.ts_store.specs.Octets.{octets_of};
 use crate::command::Command;
 use crate::writing::push_encoding;
 use std::alloc::{AllocError, Global};
-use ts_record::Codec;
+use ts_synod::Codec;
 
 impl ts_synod::Command for Command {
     fn try_copy(&self, alloc: Global) -> Result<Self, AllocError> {
@@ -16,10 +16,6 @@ impl ts_synod::Command for Command {
 
 impl Codec for Command {
     ghost octets = { octets_of };
-
-    fn try_copy(&self, alloc: Global) -> Result<Self, AllocError> {
-        Command::try_copy(self, alloc)
-    }
 
     fn write(&self, out: &mut Vec<u8>) -> Result<(), AllocError> {
         self.has_encoding();

@@ -21,7 +21,7 @@
 //! | [`Purposes::new`] | `None` exactly where the list is longer than 16 or not strictly ascending |
 //! | [`Command::read`] | `found`, `only`: what is read is encoded so, and what is encoded so is read |
 //! | [`Command::octets`] | `encoded`: the encoding; `fits`: each command has one |
-//! | `impl ts_synod::Command`, `impl ts_record::Codec` for [`Command`] | a command is one of the protocol, and is kept in a record by its one encoding (`specs/Octets`) |
+//! | `impl ts_synod::Command`, `impl ts_synod::Codec` for [`Command`] | a command is one of the protocol, and is kept in a record by its one encoding (`specs/Octets`) |
 //! | [`laws::one_encoding`] | no two commands have one encoding, and no two lists of octets are one command's |
 //! | [`Anchors::add`], [`Anchors::withdraw`], [`Anchors::set_purposes`] | the table after the command, or its refusal, by the definition (`specs/Anchors`); at an `Err` nothing changes |
 //! | [`place_of_anchor`], [`place_of_crl`], [`place_of_slot`], [`digest`] | where an anchor or list of an id is, and the list of a slot; an id |

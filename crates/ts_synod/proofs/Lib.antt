@@ -14,3 +14,4 @@ pub mod Verdicts
 pub mod Same
 pub mod OneMoreNode
 pub mod PrefixLength
+pub mod Turns

@@ -10,6 +10,7 @@ pub mod Proposer
 pub mod Log
 pub mod Node
 pub mod World
+pub mod Turn
 pub mod Laws
 pub mod Example
 pub mod Places

@@ -5,6 +5,7 @@ ghost use Rattle.ts_synod.specs.Store.{Store};
 ghost use Rattle.ts_synod.specs.Laws.{Agreement, OnlySubmitted, EqualVerdicts, StepByForce};
 ghost use Rattle.ts_synod.specs.Laws.{ForceStays};
 ghost use Rattle.ts_synod.specs.Example.{ClassicRun};
+ghost use Rattle.ts_synod.specs.Turn.{CrashIsEvents, TurnIsEvents};
 
 /// After every list of events, two nodes that hold a command at one position hold the same one, and
 /// it is chosen there; and two commands chosen at one position are equal ('Paxos Made Simple' 2.1,
@@ -42,4 +43,11 @@ pub fn force_stays<C>()
 /// since a promise reports it ('Paxos Made Simple' 2.2).
 pub fn classic_run()
     ensures { ClassicRun }
+{}
+
+/// A turn of a node, whose facts are kept together, is one event for each of its inputs. A crash
+/// once they are kept is these events and a restart; a crash before that is a restart alone.
+pub fn a_turn_is_events<C, O, T, Q, V>()
+    ensures turn { (store : Store C O T Q V) → TurnIsEvents store }
+    ensures crash { (store : Store C O T Q V) → CrashIsEvents store }
 {}

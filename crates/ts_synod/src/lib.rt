@@ -17,16 +17,20 @@
 //! | `Message`, `Body`, `Vote` | what nodes send to one another |
 //! | `Fact` | what a node keeps on stable storage before it sends anything that rests on it |
 //! | `Command` | what a command must offer: a copy that equals it, or an `AllocError` |
+//! | `Codec` | a command that has one encoding, both ways |
+//! | `Fact::try_copy`, `Body::try_copy` | a copy that equals it |
 //! | `broadcast`, `broadcast_to_others` | one body to all nodes, or to all but this one |
 //! | `put_at`, `replace_at` | a value at a key that a map has already, which takes no memory |
 //! | `agreement` | no two nodes hold different commands at one position, and what is held is chosen |
 //! | `only_submitted` | each chosen command was submitted |
 //! | `equal_verdicts` | every reply is that of one state machine over the chosen commands |
 //! | `step_by_force`, `force_stays` | a step reads no more of a node's facts than their force |
+//! | `a_turn_is_events` | several inputs whose facts are kept together are one event each |
 //! | `classic_run` | a run of three nodes with a restart and two proposers, computed |
 #![tactic(auto)]
 
 mod ballots;
+mod codec;
 mod command;
 mod laws;
 mod message;
@@ -34,9 +38,11 @@ mod places;
 mod sending;
 
 pub use ballots::{Ballot, ballot_of};
+pub use codec::Codec;
 pub use command::Command;
 pub use laws::{
-    agreement, classic_run, equal_verdicts, force_stays, only_submitted, step_by_force,
+    a_turn_is_events, agreement, classic_run, equal_verdicts, force_stays, only_submitted,
+    step_by_force,
 };
 pub use message::{Body, Fact, Message, Vote, copy_of_vote};
 pub use places::{put_at, replace_at};

@@ -171,3 +171,31 @@ impl<C: Command> Body<C> {
         })
     }
 }
+
+impl<C: Command> Fact<C> {
+    /// A copy, which equals the fact.
+    pub fn try_copy(&self, alloc: Global) -> Result<Fact<C>, AllocError>
+        ensures { IfOk result (λ copy. copy ≡ self.now) }
+    {
+        Ok(match self {
+            Fact::Used { round } => Fact::Used { round: *round },
+            Fact::Promised { position, ballot } => Fact::Promised {
+                position: *position,
+                ballot: *ballot,
+            },
+            Fact::Took {
+                position,
+                ballot,
+                command,
+            } => Fact::Took {
+                position: *position,
+                ballot: *ballot,
+                command: command.try_copy(alloc)?,
+            },
+            Fact::Chosen { position, command } => Fact::Chosen {
+                position: *position,
+                command: command.try_copy(alloc)?,
+            },
+        })
+    }
+}

@@ -1,16 +1,14 @@
-// How a command is written and read.
+//! How a command is written and read.
+
 ghost use Rattle.std.specs.Prelude.{◌≡◌, ◌≤◌, ◌++◌, ℕ, List, length, IfOk, IfSome, IfNone, OnOk};
 
+use crate::command::Command;
 use std::alloc::{AllocError, Global};
 
-/// A command that facts hold: it has one encoding, and nothing else is read as it.
-pub trait Codec: Drop {
+/// A command that is kept on disks and sent: it has one encoding, and nothing else is read as it.
+pub trait Codec: Command {
     /// The octets of a command, at least one; none where it has no encoding.
     ghost octets: { Self → List ℕ };
-
-    /// A copy, which equals the command.
-    fn try_copy(&self, alloc: Global) -> Result<Self, AllocError>
-        ensures { IfOk result (λ copy. copy ≡ self.now) };
 
     /// Writes the command's octets after those of `out`.
     fn write(&self, out: &mut Vec<u8>) -> Result<(), AllocError>
