@@ -1,0 +1,13 @@
+//! Tests of frames and of servers, over the public calls of their crates.
+//!
+//! In a crate of their own they are proved alone: a crate with tests is proved once more with them.
+#![tactic(auto)]
+
+#[cfg(test)]
+mod serve_tests;
+#[cfg(test)]
+mod test_ids;
+#[cfg(test)]
+mod test_machine;
+#[cfg(test)]
+mod wire_tests;
