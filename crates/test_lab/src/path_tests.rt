@@ -305,7 +305,7 @@ fn judges_chains(rt: HostRuntime) {
 }
 
 /// Lines that are no `check` line, or ask for more than there is.
-const WRONG: [(&str, &str); 8] = [
+const WRONG: [(&str, &str); 9] = [
     (
         "check R at 20260601000000Z hard hard chain R",
         "line 2: form",
@@ -328,6 +328,13 @@ const WRONG: [(&str, &str); 8] = [
     (
         "check R at 20260601000000Z chain R R R R R R R R R R R R R R R R N",
         "line 2: name",
+    ),
+    (
+        "check R at 20260601000000Z policy=1.2 policy=1.2 policy=1.2 policy=1.2 policy=1.2 policy=1.2 policy=1.2 policy=1.2 \
+            policy=1.2 policy=1.2 policy=1.2 policy=1.2 policy=1.2 policy=1.2 policy=1.2 policy=1.2 \
+            policy=1.2 policy=1.2 policy=1.2 policy=1.2 policy=1.2 policy=1.2 policy=1.2 policy=1.2 \
+            policy=1.2 policy=1.2 policy=1.2 policy=1.2 policy=1.2 policy=1.2 policy=1.2 policy=1.2 policy=1.2 chain R",
+        "line 2: limit",
     ),
 ];
 

@@ -4,7 +4,7 @@ ghost use Rattle.std.specs.Prelude.{◌≤◌, IfOk, IfErr, length, string_bytes
 ghost use Rattle.ts_script.specs.Known.{known_in};
 ghost use Rattle.ts_script.specs.CheckLine.{IsVerdictText, RefusesCheck};
 
-use crate::options::Options;
+use crate::options::{MAX_POLICIES, Options};
 use crate::script::LineFault;
 use crate::symbols::Symbols;
 use crate::verdict_text::print_verdict;
@@ -153,6 +153,9 @@ pub fn answer_check(alloc: Global, known: &Symbols, line: &[u8]) -> Result<Strin
         Err(_) => return Err(LineFault::Name),
     };
     if chain.is_empty() || chain.len() > MAX_CHAIN {
+        return Err(LineFault::Limit);
+    }
+    if words.options.policies.len() > MAX_POLICIES {
         return Err(LineFault::Limit);
     }
     let anchor = Anchor::of(&anchor.cert());

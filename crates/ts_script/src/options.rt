@@ -8,6 +8,9 @@ use crate::words::{SPACE, first_piece, number_of};
 use std::alloc::{AllocError, Global};
 use ts_der::Oid;
 
+/// The most policies that a user accepts, as a question has it.
+pub const MAX_POLICIES: usize = 32;
+
 /// What is asked of a chain. An option may be repeated only where it says another policy.
 #[derive(Drop)]
 pub struct Options {
