@@ -6,8 +6,8 @@ use std::test::Fail;
 use ts_disk::MemDisk;
 use ts_record::{Fault, Record};
 
-/// A record of version 1: the header of node 1 of 3, a body with the fact that round 1 was used, and
-/// a closed gate.
+/// A record of version 1: the header of node 1 of 3, a body with the fact that round 1 was used,
+/// and a closed gate.
 const OLD: [u8; 27] = [
     0x54, 0x53, 0x52, 0x45, 0x43, 0, 0, 1, 1, 3, 0, 0, 0, 0, 0, 0, 1, 0, 0, 0, 5, 1, 0, 0, 0, 1, 0,
 ];

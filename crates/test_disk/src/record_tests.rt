@@ -95,8 +95,8 @@ fn appended(alloc: Global) -> Result<Option<(MemDisk, MemDisk)>, Fail> {
     })
 }
 
-/// The octets of the writes at 26 and at 25, each of which is synced, where these are the last calls
-/// of a disk.
+/// The octets of the writes at 26 and at 25, each of which is synced, where these are the last
+/// calls of a disk.
 fn last_writes(disk: &MemDisk) -> Option<(&[u8], &[u8])> {
     match disk.calls() {
         [

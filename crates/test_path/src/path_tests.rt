@@ -51,7 +51,7 @@ const FIRST: i64 = 1_767_225_600;
 const LAST: i64 = 1_798_761_600;
 
 /// The verdict on one certificate under a root, both in DER, at a moment. `None`: octets that are
-/// no certificate, or want of memory.
+/// no certificate, or out of memory.
 fn verdict<'a>(alloc: Global, root: &'a [u8], leaf: &'a [u8], at: Moment) -> Option<Verdict<'a>> {
     let anchor = Anchor::of(&Cert::read(root).ok()?);
     let chain = [Cert::read(leaf).ok()?];
@@ -60,7 +60,7 @@ fn verdict<'a>(alloc: Global, root: &'a [u8], leaf: &'a [u8], at: Moment) -> Opt
 }
 
 /// The position of the certificate and the number of the reason, none where a chain of one
-/// certificate is valid. The outer `None` is want of memory, or that octets are no certificate.
+/// certificate is valid. The outer `None` is out of memory, or that octets are no certificate.
 fn judge(alloc: Global, anchor: &[u8], cert: &[u8], moment: i64) -> Option<Option<(u8, u8)>> {
     Some(answer(&verdict(alloc, anchor, cert, Moment(moment))?))
 }

@@ -23,8 +23,8 @@ const NAMES: [(&str, &[u8]); 7] = [
 
 /// A chain from the trust anchor's side, options (`e` initial-explicit-policy, `m`
 /// initial-policy-mapping-inhibit, `a` initial-any-policy-inhibit), the user's policies, and the
-/// answer. A certificate is the policies that it states, or
-/// `-` for no certificatePolicies, with `!` before it if it is self-issued and its mappings after `/`.
+/// answer. A certificate is the policies that it states, or `-` for no certificatePolicies, with
+/// `!` before it if it is self-issued and its mappings after `/`.
 const ROWS: [(&str, &str, &str, &str); 21] = [
     ("* 3", "e", "", "valid 3"),
     ("* 3", "ea", "", "PolicyRequired 1"),

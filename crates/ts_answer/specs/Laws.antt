@@ -29,11 +29,11 @@ abbrev pub answered : Option ℕ → Asked → ℕ → Answered → Exchange Com
 answered at' q k a = record { input = Ask at' q; reply = replies.Answered k a }
 
 -- The headline, of a run of a group of nodes.
--- `promised`: no two nodes have learned different commands at one position, and what is learned is chosen; every answer given at k is the one
--- of path validation or of the search (RFC 5280 6.1, 6.3) over the store that the first k chosen
--- commands make; each id is settled at its first position among the chosen commands, with the
--- outcome there; each chosen command was submitted. What is chosen is so in a run of the protocol's
--- world that the group follows at each moment.
+-- `promised`: no two nodes have learned different commands at one position, and what is learned is
+-- chosen; every answer given at k is the one of path validation or of the search (RFC 5280 6.1,
+-- 6.3) over the store that the first k chosen commands make; each id is settled at its first
+-- position among the chosen commands, with the outcome there; each chosen command was submitted.
+-- What is chosen is so in a run of the protocol's world that the group follows at each moment.
 -- `equal`: questions that ask the same at k got equal answers.
 pub record Headline {D M : Type 0} (good : Check) (n : ℕ)
     (start : Group D Command M Outcome Asked Answered)

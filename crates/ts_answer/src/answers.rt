@@ -91,7 +91,7 @@ impl<S: SignatureCheck> Answers<S> {
     ///
     /// # Errors
     ///
-    /// Memory that is refused. Nothing is changed then.
+    /// Out of memory. Nothing is changed then.
     pub fn push(&mut self, command: &Command) -> Result<Outcome, AllocError>
         requires { length self.old.commands < 1000000 }
         ensures outcome { IfOk result (λ outcome. outcome
@@ -145,7 +145,7 @@ impl<S: SignatureCheck> Answers<S> {
     ///
     /// # Errors
     ///
-    /// Memory that is refused; and for a k above 1,000,000, which no question has.
+    /// Out of memory; and for a k above 1,000,000, which no question has.
     pub fn answer(&mut self, k: u32, question: &Question) -> Result<Answer, AllocError>
         ensures answer { k ≤ length self.old.commands
             → IfOk result (IsAnswer (S.accepts self.old.check)

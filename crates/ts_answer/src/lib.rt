@@ -3,9 +3,12 @@
 //!
 //! ```text
 //! let mut answers = Answers::new(alloc, check);             // it owns the check of signatures
-//! let outcome = answers.push(&command)?;                    // Applied, Repeated(position) or Refused(why)
-//! let answer = answers.answer(k, &question)?;               // over the store after the first k commands
-//! let node = ts_node::Node::open(alloc, a, b, answers)?;    // Answers is the state machine of a node
+//! // Applied, Repeated(position) or Refused(why)
+//! let outcome = answers.push(&command)?;
+//! // over the store after the first k commands
+//! let answer = answers.answer(k, &question)?;
+//! // Answers is the state machine of a node
+//! let node = ts_node::Node::open(alloc, a, b, answers)?;
 //! ```
 //!
 //! The reply to a question over a store is, in this order: `Malformed`, with the first part that
@@ -13,22 +16,31 @@
 //! 1) and the first rule that it breaks; `NoAnchor`, where a chain's anchor is not in the store;
 //! and else what path validation or the search answers (`specs/Reply`).
 //!
-//! | Call | Clauses |
-//! |---|---|
-//! | [`Answers::new`], [`Answers::close`], [`Answers::prefix`] | no commands; the check, given back; how many commands were taken |
-//! | [`Answers::push`] | `outcome`: that of the definition; `pushed`; `refused`: at an error nothing changes; `check` |
-//! | [`Answers::settled`] | the first command of an id, and what it came to |
-//! | [`Answers::answer`] | `answer`: the reply after the first k commands (`IsAnswer`, `specs/Machine`); `not_yet`: exactly where fewer were taken; `unchanged` |
-//! | `impl ts_node::Machine<Command> for Answers<S>` | those of the trait: what a node is proved over |
-//! | [`is_deliverable`] | whether a node takes a message |
-//! | [`laws::one_answer`] | questions that ask the same have one answer after a list of commands |
-//! | [`laws::headline`] | over every run of nodes: agreement, and every answer at k is the one over the store of the first k chosen commands |
+//! - [`Answers::new`], [`Answers::close`], [`Answers::prefix`]: no commands; the check, given back;
+//!   how many commands were taken.
+//! - [`Answers::push`]: `outcome`: that of the definition; `pushed`; `refused`: at an error nothing
+//!   changes; `check`.
+//! - [`Answers::settled`]: the first command of an id, and what it came to.
+//! - [`Answers::answer`]: `answer`: the reply after the first k commands (`IsAnswer`,
+//!   `specs/Machine`); `not_yet`: exactly where fewer were taken; `unchanged`.
+//! - `impl ts_node::Machine<Command> for Answers<S>`: those of the trait: what a node is proved
+//!   over.
+//! - [`is_deliverable`]: whether a node takes a message.
+//! - [`laws::one_answer`]: questions that ask the same have one answer after a list of commands.
+//! - [`laws::headline`]: over every run of nodes: agreement, and every answer at k is the one over
+//!   the store of the first k chosen commands.
 //!
 //! The answers that were given last are cached, each under its k and its question (`specs/Cache`):
 //! a question that is asked again at one k is answered without validating anything. No public
 //! clause names the cache: it is an invariant of `Answers` that each answer in it is the right one.
 //!
-//! Memory that is refused is answered as `AllocError`.
+//! Out of memory is answered as `AllocError`.
+//!
+//! # Not promised
+//!
+//! Only tested: that calls with ample memory answer. Neither proved nor tested: time, and that the
+//! cache is used. Not proved to be impossible, and answered as out of memory: an accepted policy
+//! that is no object identifier, a place above 255, a reply out of its ranges.
 #![tactic(auto)]
 
 mod answers;

@@ -16,7 +16,7 @@ abbrev pub place_of : Option CertFault → ℕ
 place_of None = 0
 place_of (Some fault) = fault.at
 
--- the same for a list of revoked certificates, some of whose rules have no place
+-- the same for a CRL, some of whose rules have no place
 abbrev pub list_rule_number : Option ListFault → ℕ
 list_rule_number None = 0
 list_rule_number (Some fault) = fault_code fault

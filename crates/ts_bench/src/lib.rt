@@ -1,5 +1,14 @@
 //! What the benchmark in `bench/` calls: the readers of certificates and of lists, as a static
 //! library for programs that are not Rattle. No other crate depends on this one.
+//!
+//! ```text
+//! ts_bench_read(octets, length);                  // called from C, as the benchmark links it
+//! ```
+//!
+//! A static library with three functions: `ts_bench_read` and `ts_bench_read_list` answer the
+//! number of the first rule that octets break as a certificate or as a list, 0 where they break
+//! none, and its place; `ts_bench_find` whether a list has an entry of a serial number. Not tested;
+//! the gate only proves it.
 #![tactic(auto)]
 
 ghost use Rattle.std.specs.Prelude.{◌≡◌, Some};
@@ -49,7 +58,7 @@ fn place(fault: CrlFault<'_>) -> usize
     }
 }
 
-/// Reads octets as a list of revoked certificates.
+/// Reads octets as a CRL.
 #[unsafe(no_mangle)]
 pub extern "C" fn ts_bench_read_list(octets: &[u8]) -> Answer
     ensures rule { result.rule ≡ list_rule_number (crl_fault octets.now) }

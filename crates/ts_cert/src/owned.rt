@@ -80,8 +80,8 @@ impl OwnedCert {
     ///
     /// # Errors
     ///
-    /// `Unreadable` with the first rule that the octets break, as [`Cert::read`] answers it; then `Memory`, where memory
-    /// ran out. Nothing is kept then.
+    /// `Unreadable` with the first rule that the octets break, as [`Cert::read`] answers it; then
+    /// `Memory`, where memory ran out. Nothing is kept then.
     pub fn read(alloc: Global, octets: &[u8]) -> Result<OwnedCert, OwnedCertFault>
         ensures kept { certificate_fault octets.now ≡ None
             → (result ≡ Ok octets.now) ⊎ (result ≡ Err Memory) }

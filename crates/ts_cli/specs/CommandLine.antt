@@ -17,7 +17,7 @@ use Rattle.ts_cli.specs.declared.group.Group.TheVariants as group
 abbrev pub IsWrong : Error → Type 0
 IsWrong error = (kind_of error ≢ kind.DisplayHelp) × (kind_of error ≢ kind.DisplayVersion)
 
--- 1 for want of memory, 2 for a wrong command line, and after help 0, or 1 where it could not be
+-- 1 when out of memory, 2 for a wrong command line, and after help 0, or 1 where it could not be
 -- printed
 abbrev pub EndsWith : CommandFault → ℕ → Type 0
 EndsWith Memory status = status ≡ 1

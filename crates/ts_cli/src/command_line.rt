@@ -116,10 +116,10 @@ fn task_by_group<'a, S: AsStr>(alloc: Global, words: &'a [S]) -> Result<Task, Co
 ///
 /// # Errors
 ///
-/// `Words` where the parser takes no such words, or where they ask for help. `Value` where it takes them, and a value is none
-/// that the task may have. Memory that is refused.
+/// `Words` where the parser takes no such words, or where they ask for help. `Value` where it takes
+/// them, and a value is none that the task may have. Out of memory.
 pub fn task_of<'a, S: AsStr>(alloc: Global, words: &'a [S]) -> Result<Task, CommandFault>
-    // Only want of memory keeps `trustd lab` from the lab.
+    // Only out of memory keeps `trustd lab` from the lab.
     ensures lab { AskForLab (map S.text words.entry.now) → IfErr result (λ fault. fault ≡ Memory) }
     // A task comes only from words in which the parser has no fault to find.
     ensures taken { IsOk result → faults_in (map S.text words.entry.now) ≡ [] }

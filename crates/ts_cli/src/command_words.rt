@@ -37,12 +37,12 @@ pub enum Change {
         /// Its id.
         anchor: [u8; 32],
     },
-    /// Adds a list of revoked certificates.
+    /// Adds a CRL.
     Load {
         /// The list.
         file: String,
     },
-    /// Removes a list of revoked certificates.
+    /// Removes a CRL.
     Drop {
         /// Its id.
         list: [u8; 32],

@@ -74,7 +74,7 @@ fn add(alloc: Global, id: [u8; 16], contents: &[u8]) -> Result<Command, MakeFaul
     }
 }
 
-/// The command that adds a list of revoked certificates.
+/// The command that adds a CRL.
 fn load(alloc: Global, id: [u8; 16], contents: &[u8]) -> Result<Command, MakeFault>
     ensures made { IfOk result (λ command. command ≡ LoadCrl id contents.now) }
     ensures refused { IfErr result (λ fault. (fault ≡ Memory) ⊎ (4194304 < length contents.now)) }
@@ -132,8 +132,8 @@ fn command_in(
 ///
 /// # Errors
 ///
-/// `TooLong` exactly where the file is longer than a command holds: a certificate of more than 65,536 octets, a list of more
-/// than 4,194,304. Memory that is refused. Never `OutOfLimits`.
+/// `TooLong` exactly where the file is longer than a command holds: a certificate of more than
+/// 65,536 octets, a list of more than 4,194,304. Out of memory. Never `OutOfLimits`.
 pub fn command_octets(
     alloc: Global,
     id: &[u8; 16],
@@ -210,8 +210,8 @@ fn terms_in(alloc: Global, words: &TermWords) -> Result<Terms, AllocError>
 ///
 /// # Errors
 ///
-/// `OutOfLimits` only where the question is outside its limits, as by a certificate of more than 65,536 octets. Memory that
-/// is refused. Never `TooLong`.
+/// `OutOfLimits` only where the question is outside its limits, as by a certificate of more than
+/// 65,536 octets. Memory that is refused. Never `TooLong`.
 pub fn question_octets(
     alloc: Global,
     words: &QuestionWords,
@@ -244,7 +244,7 @@ pub fn question_octets(
 ///
 /// # Errors
 ///
-/// Memory that is refused.
+/// Out of memory.
 pub fn id_text(alloc: Global, octets: &[u8]) -> Result<String, AllocError>
     ensures { IfOk result (λ text. string_bytes text ≡ encode_lower (sha256 octets.now)) }
 {

@@ -1,30 +1,44 @@
 //! The command line of `trustd`: words to a task, and tasks to encoded commands and questions.
 //!
 //! ```text
-//! let task = task_of_process(&rt)?;                                     // else `report` prints why, and gives the status
-//! let octets = command_octets(alloc, &id, &words.change, &contents)?;   // the one encoding of the command
-//! let octets = question_octets(alloc, &words, &certificates)?;          // the one encoding of the question
+//! // else `report` prints why, and gives the status
+//! let task = task_of_process(&rt)?;
+//! // the one encoding of the command
+//! let octets = command_octets(alloc, &id, &words.change, &contents)?;
+//! // the one encoding of the question
+//! let octets = question_octets(alloc, &words, &certificates)?;
 //! ```
 //!
 //! There are three command lines, each of one level, so that the parser's contracts say all of it:
-//! the program's own, that of
-//! `trustd command` and that of `trustd question`. The second word says whose words these are. No file is read here, no id is
-//! drawn, and no connection is made.
+//! the program's own, that of `trustd command` and that of `trustd question`. The second word says
+//! whose words these are. No file is read here, no id is drawn, and no connection is made.
 //!
-//! | Call | Clauses |
-//! |---|---|
-//! | [`task_of`] | `lab`: only want of memory keeps `trustd lab` from the lab; `taken`: a task comes only from words in which the parser has no fault to find; `asked`: it is what the subcommand says that they name, by the values that they give it (`specs/Says`); `ranges`: numbers are in range |
-//! | [`report`] | the status: 2 for a wrong command line or a wrong value, at most 1 after help, 1 for want of memory |
-//! | [`command_octets`] | `made`, `fits`: the encoding of the command that the change says; `long`, `memory`: `TooLong` exactly where the file is longer than a command holds |
-//! | [`question_octets`] | `made`, `fits`: the encoding of the question that the words say; `refused`: `OutOfLimits` only where that is outside its limits |
-//! | [`id_text`] | the SHA-256 in lower-case hexadecimal digits, by which a store knows an anchor or a list |
-//! | [`address_of`] | the host and the port, exactly where a text is an address |
+//! - [`task_of`]: `lab`: only out of memory keeps `trustd lab` from the lab; `taken`: a task comes
+//!   only from words in which the parser has no fault to find; `asked`: it is what the subcommand
+//!   says that they name, by the values that they give it (`specs/Says`); `ranges`: numbers are in
+//!   range.
+//! - [`report`]: the status: 2 for a wrong command line or a wrong value, at most 1 after help, 1
+//!   for out of memory.
+//! - [`command_octets`]: `made`, `fits`: the encoding of the command that the change says; `long`,
+//!   `memory`: `TooLong` exactly where the file is longer than a command holds.
+//! - [`question_octets`]: `made`, `fits`: the encoding of the question that the words say;
+//!   `refused`: `OutOfLimits` only where that is outside its limits.
+//! - [`id_text`]: the SHA-256 in lower-case hexadecimal digits, by which a store knows an anchor or
+//!   a list.
+//! - [`address_of`]: the host and the port, exactly where a text is an address.
 //!
 //! Gaps. No clause says that words whose values are all right have a task, but for `trustd lab`:
 //! that is tested. Nor is there one for the text of help and of errors, nor for which words a
 //! process has: of [`task_of_process`] only `ranges` is promised.
 //!
-//! Memory that is refused is answered as `Memory` or `AllocError`.
+//! Out of memory is answered as `Memory` or `AllocError`.
+//!
+//! # Not promised
+//!
+//! Only tested: that words whose values are all right have a task, but for `trustd lab`
+//! (`lines_have_their_tasks`), and which of the wrong values is named; encodings against octets
+//! that were made by hand (`lines_have_their_encodings`). Neither proved nor tested: the texts of
+//! help and of errors; which words a process has.
 #![tactic(auto)]
 
 mod command_line;

@@ -4,7 +4,8 @@
 //! ```text
 //! let mut bounds = Bounds::initial(alloc, &permitted, &excluded)?;   // those of the question
 //! for each certificate of the chain, from the anchor's side {
-//!     bounds.check(&cert, is_last)?;      // Unsupported, NotPermitted or Excluded, with the form of the first such name
+//!     // Unsupported, NotPermitted or Excluded, with the form of the first such name
+//!     bounds.check(&cert, is_last)?;
 //!     bounds.narrow(&cert)?;              // its own constraints bear on those that follow
 //! }
 //! ```
@@ -18,12 +19,19 @@
 //! permitted and its excluded subtrees begin. The names that a certificate shows are in
 //! `specs/Names`, the three conditions in `specs/Conditions`.
 //!
-//! | Call | What its clauses say |
-//! |---|---|
-//! | [`Bounds::initial`] | one source: the question's subtrees |
-//! | [`Bounds::narrow`] | one source more: what the certificate's nameConstraints say; unchanged where memory runs out |
-//! | [`Bounds::check`] | `checked`: Ok exactly where each name meets each condition of each source, else the least condition that is not met, with the form of the first name that does not meet it; `exempt`: a self-issued certificate that is not the last is Ok |
-//! | [`Form::of`], [`Form::is_processed`] | the form of a name; whether its constraints are processed |
+//! - [`Bounds::initial`]: one source: the question's subtrees.
+//! - [`Bounds::narrow`]: one source more: what the certificate's nameConstraints say; unchanged
+//!   where memory runs out.
+//! - [`Bounds::check`]: `checked`: Ok exactly where each name meets each condition of each source,
+//!   else the least condition that is not met, with the form of the first name that does not meet
+//!   it; `exempt`: a self-issued certificate that is not the last is Ok.
+//! - [`Form::of`], [`Form::is_processed`]: the form of a name; whether its constraints are
+//!   processed.
+//!
+//! # Not promised
+//!
+//! Only tested: 47 worked rows, and that calls with memory succeed. Neither proved nor tested: time
+//! ([bench/README.md](../bench/README.md) has the dearest inputs).
 #![tactic(auto)]
 
 mod bounds;

@@ -1,4 +1,4 @@
--- The one encoding of a list of revoked certificates (RFC 5280 5.1, as restated in Appendix A.1),
+-- The one encoding of a CRL (RFC 5280 5.1, as restated in Appendix A.1),
 -- from its parts up to the whole.
 use Rattle.std.specs.Prelude.{◌≡◌, ℕ, ◌≤◌, List, [], ◌∷◌, ◌++◌, length, Option, Some, None}
 use Rattle.ts_der.specs.Element.{encode}

@@ -1,4 +1,4 @@
--- A list of revoked certificates (RFC 5280 5.1): what its octets say, in the standard's field
+-- A CRL (RFC 5280 5.1): what its octets say, in the standard's field
 -- names.
 use Rattle.std.specs.Prelude.{ℕ, List, Option, map, option_map}
 use Rattle.ts_name.specs.Canon.{Attr}

@@ -1,4 +1,4 @@
--- Reading a list of revoked certificates (RFC 5280 5.1) from front to back, up to the first rule
+-- Reading a CRL (RFC 5280 5.1) from front to back, up to the first rule
 -- that is broken. Each function reads one SEQUENCE of the standard, field by field in its order.
 use Rattle.std.specs.Prelude.{ℕ, nat_lt, List, length, Option, Some, None, Result, Ok, Err}
 use Rattle.std.specs.Prelude.{if◌then◌else◌}

@@ -1,4 +1,4 @@
--- The table of a list of revoked certificates (RFC 5280 5.1, as restated in Appendix A.1), and the
+-- The table of a CRL (RFC 5280 5.1, as restated in Appendix A.1), and the
 -- first rule that octets break.
 use Rattle.std.specs.Prelude.{ℕ, ◌==◌, not, nat_lt, Bool, false, List, [], ◌∷◌, length, Option}
 use Rattle.std.specs.Prelude.{Some, None, option_map, Result, Ok, Err, if◌then◌else◌}

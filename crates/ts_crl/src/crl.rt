@@ -1,4 +1,4 @@
-//! Lists of revoked certificates.
+//! CRLs.
 
 ghost use Rattle.std.specs.Prelude.{◌≡◌, ◌↔◌, None, false, map, option_map, IfOk, IsOkAnd};
 ghost use Rattle.ts_der.specs.Answer.{refusal};
@@ -35,7 +35,7 @@ use ts_name::Name;
 /// The greatest number of octets that a list may have in this profile.
 pub const MAX_CRL: usize = 4_194_304;
 
-/// A list of revoked certificates as it lies in the source (RFC 5280 5.1).
+/// A CRL as it lies in the source (RFC 5280 5.1).
 #[derive(Clone, Copy)]
 pub struct Crl<'a> {
     pub(crate) tbs: &'a [u8],

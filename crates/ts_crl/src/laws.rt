@@ -19,7 +19,7 @@ ghost use Rattle.ts_crl.specs.Stated.{IsStated};
 ghost use Rattle.ts_crl.specs.Values.{is_known, extensions_of, entry_extensions_of, number_of};
 ghost use Rattle.ts_crl.specs.Values.{base_of, key_of, reason_of, date_of};
 
-/// No two lists of octets are one list of revoked certificates, and none is two.
+/// No two lists of octets are one CRL, and none is two.
 pub fn one_list()
     ensures one_encoding { (octets others : List ℕ) (c : CertificateList)
         → IsCertificateList octets c → IsCertificateList others c → octets ≡ others }

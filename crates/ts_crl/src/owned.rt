@@ -53,7 +53,7 @@ impl<'a> From<AllocError> for OwnedCrlFault<'a> {
     }
 }
 
-/// A list of revoked certificates with memory of its own. A contract sees it as its octets, which
+/// A CRL with memory of its own. A contract sees it as its octets, which
 /// are a list.
 #[derive(Debug, Drop)]
 pub struct OwnedCrl {
@@ -97,8 +97,8 @@ impl OwnedCrl {
     ///
     /// # Errors
     ///
-    /// `Unreadable` with the first rule that the octets break, as [`Crl::read`] answers it; then `Memory`, where memory
-    /// ran out. Nothing is kept then.
+    /// `Unreadable` with the first rule that the octets break, as [`Crl::read`] answers it; then
+    /// `Memory`, where memory ran out. Nothing is kept then.
     pub fn read<'a>(alloc: Global, octets: &'a [u8]) -> Result<OwnedCrl, OwnedCrlFault<'a>>
         ensures kept { crl_fault octets.now ≡ None
             → (result ≡ Ok octets.now) ⊎ (result ≡ Err Memory) }

@@ -129,7 +129,7 @@ impl<'a> Crl<'a> {
     ///
     /// # Errors
     ///
-    /// Memory that is refused, where both issuers have more than 65,536 octets.
+    /// Out of memory, where both issuers have more than 65,536 octets.
     pub fn is_same_slot_in(self, alloc: Global, other: Crl<'_>) -> Result<bool, AllocError>
         ensures { IfOk result (λ same. same
             ≡ are_one_slot (crl_in self.entry) (crl_in other.entry)) }

@@ -7,14 +7,17 @@
 //! assert_eq!(rt; disk.octets(), b"octets".as_slice());
 //! ```
 //!
-//! | Call | Clauses |
-//! |---|---|
-//! | `Disk::read`, `write_at`, `sync` | `octets`, `written`, `durable`; `call`, which images a crash may leave afterwards; `cause`, that a failure is counted |
-//! | `put` | a write and its sync: `written`, `durable`, and `moments`, what each image at each moment has kept |
-//! | `MemDisk::new`, `octets`, `calls`, `set_fuse`, `fail_at` | a disk in memory that keeps its calls, and fails when a test wants it to: `plan`, which calls fail; `refused`, that they do |
-//! | `MemDisk::crash` | `left`, one of the images that a crash now may leave; `image`, which one; `new`; `durable` |
+//! - `Disk::read`, `write_at`, `sync`: `octets`, `written`, `durable`; `call`, which images a crash
+//!   may leave afterwards; `cause`, that a failure is counted.
+//! - `put`: a write and its sync: `written`, `durable`, and `moments`, what each image at each
+//!   moment has kept.
+//! - `MemDisk::new`, `octets`, `calls`, `set_fuse`, `fail_at`: a disk in memory that keeps its
+//!   calls, and fails when a test wants it to: `plan`, which calls fail; `refused`, that they do.
+//! - `MemDisk::crash`: `left`, one of the images that a crash now may leave; `image`, which one;
+//!   `new`; `durable`.
 //!
-//! `MemDisk` meets the laws of a disk, so that they can be met. That a real device keeps to them is a premise.
+//! `MemDisk` meets the laws of a disk, so that they can be met. That a real device keeps to them is
+//! a premise.
 #![tactic(auto)]
 
 mod call;

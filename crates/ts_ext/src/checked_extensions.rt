@@ -27,8 +27,8 @@ use ts_shape::{CertFault, CertRule, Keyed, LastOctets, first_repeated, tagged_as
 #[derive(Clone, Copy)]
 pub struct CheckedExtensions<'a> {
     pub extensions: Extensions<'a>,
-    /// `DuplicateExtension` at the first extension that occurs twice, else the first rule that a value breaks, as
-    /// `Extensions::broken_rule` finds it.
+    /// `DuplicateExtension` at the first extension that occurs twice, else the first rule that a
+    /// value breaks, as `Extensions::broken_rule` finds it.
     pub fault: Option<CertFault>,
 }
 

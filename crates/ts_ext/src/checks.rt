@@ -77,8 +77,8 @@ fn place_of(holder: Holder, at: usize) -> usize
 
 impl<'a> Extension<'a> {
     /// The first rule that the value breaks in a holder: the first that `Ext::read` refuses it for,
-    /// else the one that
-    /// `Ext::broken_rule` finds. The place of the latter is that of the extension in a certificate, and 0 in a list.
+    /// else the one that `Ext::broken_rule` finds. The place of the latter is that of the extension
+    /// in a certificate, and 0 in a list.
     #[inline(always)]
     pub fn first_fault(self, holder: Holder) -> Option<CertFault>
         ensures { result ≡ value_fault holder (located_as self.entry) }

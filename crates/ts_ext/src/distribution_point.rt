@@ -1,4 +1,4 @@
-//! Where lists of revoked certificates are found.
+//! Where CRLs are found.
 
 ghost use Rattle.std.specs.Prelude.{◌≡◌, IfOk, IsOkAnd, option_map};
 ghost use Rattle.ts_der.specs.Answer.{Answers, refusal};

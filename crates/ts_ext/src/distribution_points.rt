@@ -1,4 +1,4 @@
-//! The places where lists of revoked certificates are found.
+//! The places where CRLs are found.
 
 ghost use Rattle.std.specs.Prelude.{◌≡◌, List, IfOk, IsOkAnd, option_map};
 ghost use Rattle.ts_der.specs.Answer.{Answers, refusal};

@@ -1,4 +1,4 @@
-//! What a list of revoked certificates covers.
+//! What a CRL covers.
 
 ghost use Rattle.std.specs.Prelude.{◌≡◌, IfOk, IsOkAnd, option_map};
 ghost use Rattle.ts_der.specs.Answer.{Answers, refusal};

@@ -13,7 +13,7 @@ use ts_der::tag::{BIT_STRING, ENUMERATED, GENERALIZED_TIME, INTEGER, OCTET_STRIN
 pub enum Holder {
     /// A certificate (RFC 5280 4.2).
     Certificate,
-    /// A list of revoked certificates (RFC 5280 5.2).
+    /// A CRL (RFC 5280 5.2).
     List,
     /// An entry of such a list (RFC 5280 5.3).
     Entry,

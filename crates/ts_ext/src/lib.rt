@@ -1,6 +1,82 @@
 //! The values of the extensions of certificates and of their lists (RFC 5280 4.2, 5.2, 5.3), read
 //! where they lie: no memory, no copy, and of octets that are none the first rule that is broken,
 //! with its place. A reader is handed the value's element and does not look at its tag.
+//!
+//! ```text
+//! for extension in extensions.iter() {
+//!     match Ext::read(extension.id, Holder::Certificate, extension.value)? {
+//!         Ext::BasicConstraints(constraints) => ..,
+//!         _ => ..,
+//!     }
+//! }
+//! ```
+//!
+//! Each type has a reader `read` that takes the element of the value, reads its content where it
+//! lies, without memory, and does not look at the element's tag: `AlternativeNames`
+//! (subjectAltName, issuerAltName, certificateIssuer), `AuthorityKeyIdentifier`, `BaseCrlNumber`,
+//! `BasicConstraints`, `CertificatePolicies`, `CrlNumber`, `DistributionPoint`,
+//! `DistributionPoints` (cRLDistributionPoints, freshestCRL), `ExtendedKeyUsage`, `InvalidityDate`,
+//! `IssuingDistributionPoint`, `KeyUsage`, `NameConstraints`, `PolicyConstraints`,
+//! `PolicyMappings`, `ReasonCode`, `ReasonFlags`, `SkipCerts` (inhibitAnyPolicy), and `Extensions`,
+//! the list itself, whatever the values say. `Ext::read` reads the value of an extension by its
+//! object identifier and what holds it: a certificate, a list or an entry of a list. `specs/`
+//! stands beside RFC 5280 sections 4.2, 5.2 and 5.3.
+//!
+//! - `read` of each type: what is read is encoded so (`found`); what is encoded so is read
+//!   (`only`); a refusal is the first rule that is broken, with its place, and comes exactly then:
+//!   of each field in turn its header, its tag and its rules, `Trailing`, and of a list that it is
+//!   not empty (`fault`); it gives what the reading function of `specs/Reading.antt` gives: the
+//!   form in which the crates above use it (`exact`).
+//! - `KeyUsage::key_cert_sign`, `crl_sign`: bit 5, and bit 6, of the bits that were read; a bit
+//!   that is left out is 0.
+//! - `ReasonFlags::contains`, `reasons`: the bit of that reason, 1 to 8; the set of the reasons
+//!   whose bits are 1.
+//! - `ReasonSet`: `contains`, `all`, `none`, `intersection`, `union`, `is_empty`: whether the set
+//!   holds a reason; the set of all, and of none; what both sets hold, and what one of them does;
+//!   whether it is the set of none.
+//! - `ReasonCode::number`, `numbered`, `ReasonFlag::number`: the number of a reason, and the reason
+//!   of a number if it has one.
+//! - `Known::at`: the extension that an object identifier names in a holder, if one is read there:
+//!   fourteen in a certificate, six in a list, three in an entry.
+//! - `Known::arc`: the last arc of its object identifier.
+//! - `Ext::read`: within the OCTET STRING stands the one element that encodes the value of that
+//!   extension; of an extension that is not read there the octets are kept (`found`, `only`); a
+//!   refusal is the first rule of the table that the value breaks, with its place, `Trailing` last,
+//!   and comes exactly then; what the reading function gives (`fault`, `exact`).
+//! - `Ext::broken_rule`: the first of `SubtreeBounds` (a subtree of name constraints with a minimum
+//!   or a maximum), `AddressLength` (an IP address of other than 4 or 16 octets, in a constraint 8
+//!   or 32) and `DuplicatePolicy` (a policy that is stated twice) that the value breaks, if it
+//!   breaks one.
+//! - `Extension::first_fault`: the first rule that the value of an extension breaks: the first of
+//!   `Ext::read`, else that of `Ext::broken_rule`, whose place is the extension in a certificate
+//!   and 0 elsewhere.
+//! - `CheckedExtensions::read_explicit`: the same as `Extensions::read` of the one list within an
+//!   explicit tag (`found`, `only`, `fault`); `DuplicateExtension` at the first extension that
+//!   occurs twice, else the first rule that the values break (`judged`).
+//! - `are_sound_extensions`: true exactly where the content of a SEQUENCE is extensions of a
+//!   certificate of which none occurs twice, each with a value that breaks no rule (its clause
+//!   (`AreValidOnce`)).
+//! - `Extensions::read`, `CheckedExtensions::read_explicit`: the extensions are those of the
+//!   reading function that keeps the place of each (`placed`).
+//! - `Extensions::within`: the list of a SEQUENCE that was read before, which is not read again.
+//! - `Extensions::first_repeated`: the first extension, by its place, with the object identifier of
+//!   an earlier one.
+//! - `Extensions::find`: the first extension, by its place, with the object identifier of a known
+//!   one.
+//! - `Extensions::broken_rule`: the first rule that the values break, one extension after another,
+//!   each by `Extension::first_fault` (`fault`); none exactly where each value is encoded as its
+//!   extension asks and breaks none of the other rules (`sound`).
+//! - law (`laws`): no two contents encode one value of an extension, and no content encodes two
+//!   (`one_value`: `one_encoding`, `one_record`).
+//! - `AlternativeNames::iter`, `DistributionPoints::iter`, `Extensions::iter`,
+//!   `CertificatePolicies::iter`, `PolicyMappings::iter`, `ExtendedKeyUsage::iter`: the items that
+//!   were read, in their order (their clauses, `next_gives`).
+//!
+//! # Not promised
+//!
+//! Only tested: values by hand, and each refusal with its place (as a check of the definitions).
+//! Neither proved nor tested: the time that `broken_rule` takes, which is that of `first_repeated`
+//! (`ts_name`); `Debug` text.
 #![tactic(auto)]
 
 mod alternative_names;

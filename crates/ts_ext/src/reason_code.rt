@@ -34,7 +34,8 @@ impl ReasonCode {
     ///
     /// # Errors
     ///
-    /// `IntegerForm` where the content is not one octet, or is the number of no reason, as 7 and 11 are.
+    /// `IntegerForm` where the content is not one octet, or is the number of no reason, as 7 and 11
+    /// are.
     pub fn read(element: Element<'_>) -> Result<ReasonCode, Fault>
         ensures found { IfOk result (IsReasonCode element.entry.content.now) }
         ensures only { (reason : ReasonCode) → IsReasonCode element.entry.content.now reason

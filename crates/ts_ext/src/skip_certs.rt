@@ -22,7 +22,8 @@ impl SkipCerts {
     ///
     /// # Errors
     ///
-    /// `IntegerForm` where the content is not in its shortest form, or negative; `TooLarge` above 4,294,967,295.
+    /// `IntegerForm` where the content is not in its shortest form, or negative; `TooLarge` above
+    /// 4,294,967,295.
     pub fn read(element: Element<'_>) -> Result<SkipCerts, Fault>
         ensures found { IfOk result (λ n. IsSkipCerts element.entry.content.now n.0) }
         ensures only { (n : ℕ) → IsSkipCerts element.entry.content.now n

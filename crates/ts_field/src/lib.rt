@@ -10,16 +10,21 @@
 //! let this_update = next_time(&mut fields)?;       // a UTCTime or a GeneralizedTime, by its tag
 //! ```
 //!
-//! | Call | What its clause says |
-//! |---|---|
-//! | `next_time`, `read_time` | the time that is next, or that an element is, as `time_at` or `time_of` gives it |
-//! | `next_algorithm`, `read_algorithm` | the algorithm identifier that is next, or that an element is, as `algorithm_at` or `algorithm_of` gives it |
-//! | `next_integer`, `next_bits`, `next_name` | the value that is next, as `integer_at`, `bits_at` or `name_at` gives it |
-//! | `Stamp::of`, `time` | the same time (`time_in`) |
+//! - `next_time`, `read_time`: the time that is next, or that an element is, as `time_at` or
+//!   `time_of` gives it.
+//! - `next_algorithm`, `read_algorithm`: the algorithm identifier that is next, or that an element
+//!   is, as `algorithm_at` or `algorithm_of` gives it.
+//! - `next_integer`, `next_bits`, `next_name`: the value that is next, as `integer_at`, `bits_at`
+//!   or `name_at` gives it.
+//! - `Stamp::of`, `time`: the same time (`time_in`).
 //!
 //! A call of the name `next_..` leaves the reader behind the field (`Takes`). What is encoded how
 //! is in `specs/Time.antt` (`IsTime`) and `specs/Algorithm.antt` (`IsAlgorithm`); which rule is the
 //! first one that is broken, in `specs/Table.antt`.
+//!
+//! # Not promised
+//!
+//! Only tested: worked fields. Neither proved nor tested: the time that reading takes.
 #![tactic(auto)]
 
 mod algorithm;

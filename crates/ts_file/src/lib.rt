@@ -1,15 +1,16 @@
 //! A file of the operating system as a disk of `ts_disk`.
 //!
 //! ```text
-//! let mut disk = create(&rt, alloc, "record")?;                   // made where it is missing; open: has to be there
+//! // made where it is missing; open: has to be there
+//! let mut disk = create(&rt, alloc, "record")?;
 //! put(&mut disk, 0, b"octets")?;                                  // written and synced
-//! let again = open(&rt, alloc, "record")?;                        // after a crash, or after a failure
+//! // after a crash, or after a failure
+//! let again = open(&rt, alloc, "record")?;
 //! ```
 //!
-//! | Call | Clauses |
-//! |---|---|
-//! | `FileDisk::new`, `open`, `create` | `whole`: no failure is counted |
-//! | `FileDisk` as a `Disk` | those of a disk: `octets`, `written`, `durable`, `call`, `cause`; `stays`: a disk that has failed once fails each later call |
+//! - `FileDisk::new`, `open`, `create`: `whole`: no failure is counted.
+//! - `FileDisk` as a `Disk`: those of a disk: `octets`, `written`, `durable`, `call`, `cause`;
+//!   `stays`: a disk that has failed once fails each later call.
 //!
 //! The octets are read once, when the file is opened, and kept in memory; a read gives a copy of
 //! them. A failed write may have left a part of its octets in the file, and a failed sync may have
@@ -22,6 +23,13 @@
 //! each call of this crate that notes a write or a sync has made it is read in `file.rt`. That a
 //! file keeps to that history is a premise: what was synced stays, a write that is not synced
 //! changes no octets outside its range, and nothing else writes the file.
+//!
+//! # Not promised
+//!
+//! Only tested: that what is written to a real file is read when it is opened again; that a short
+//! and an interrupted write go on; that a failed write and a failed sync are failures. Trusted:
+//! that a body which notes a write or a sync in the history has made it (`file.rt` shows it), and
+//! that the file keeps to that history.
 #![tactic(auto)]
 
 mod file;

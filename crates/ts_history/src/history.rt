@@ -68,7 +68,7 @@ impl History {
     ///
     /// # Errors
     ///
-    /// Memory that is refused. Nothing is changed then.
+    /// Out of memory. Nothing is changed then.
     pub fn push(&mut self, command: &Command) -> Result<Outcome, AllocError>
         requires { length self.old < 1000000 }
         ensures outcome { IfOk result (λ outcome. outcome ≡ outcome_after self.old command.now) }
@@ -105,7 +105,7 @@ impl History {
     ///
     /// # Errors
     ///
-    /// Memory that is refused.
+    /// Out of memory.
     pub fn at(&self, alloc: Global, k: u32) -> Result<Snapshot<'_>, AllocError>
         requires { k ≤ length self.now }
         ensures { IfOk result (λ snapshot. snapshot

@@ -19,7 +19,7 @@ use ts_store::{CertificateOctets, Command, CrlOctets, Purposes, Tables, TrustAnc
 pub(crate) enum KeptCommand {
     /// Adds this trust anchor, for any purpose.
     Anchor { id: [u8; 16], anchor: TrustAnchor },
-    /// Adds a list of revoked certificates.
+    /// Adds a CRL.
     Crl { id: [u8; 16], crl: OwnedCrl },
     /// Any other command, and those whose octets are no certificate or no list.
     Other(Command),

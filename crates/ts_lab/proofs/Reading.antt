@@ -84,7 +84,7 @@ unfolding Ends
 scans_begun n known line x other before rest whole wrong e =
     (e.0, subst (λ lines. Run n known lines e.0 wrong) (line_begun line x (lines_of rest) ∙ ap (all_onto_first line) (sym (begun_lines x rest other))) e.1, e.2)
 
--- any line may be refused for want of memory
+-- any line may be refused when out of memory
 forgotten : (kind : Kind) (known : List Entry) (line : List ℕ) (fault : LineFault) → fault ≡ Memory → RefusesAs kind known line fault
 forgotten skipped known line fault is = is
 forgotten cert_kind known line fault is = subst (RefusesCert known line) (sym is) tt

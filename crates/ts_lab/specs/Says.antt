@@ -75,7 +75,7 @@ SaysAs check_kind known line text after = IsVerdictText text × (after ≡ known
 SaysAs node_kind known line text after = after ≡ known
 SaysAs unknown_kind known line text after = ⊥
 
--- a line of a kind is refused with the fault: each for want of memory, and a skipped one for
+-- a line of a kind is refused with the fault: each when out of memory, and a skipped one for
 -- nothing else
 abbrev pub RefusesAs : Kind → List Entry → List ℕ → LineFault → Type 0
 RefusesAs skipped known line fault = fault ≡ Memory

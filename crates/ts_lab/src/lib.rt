@@ -2,17 +2,17 @@
 //! trust store.
 //!
 //! ```text
-//! let status = lab(alloc, &mut reader, &mut writer);              // 0, or 2 after a wrong line, or 1 where a stream failed
+//! // 0, or 2 after a wrong line, or 1 where a stream failed
+//! let status = lab(alloc, &mut reader, &mut writer);
 //! ```
 //!
-//! | Call | Clauses |
-//! |---|---|
-//! | [`lab()`] | `text`: where the reader tells its octets, what is written is what the script says, line by line, up to its first wrong line (`specs/Lab`, `specs/Script`, `specs/Says`); `bound` |
-//! | [`laws::one_word`] | a line that makes something is answered, or refused with one word |
-//! | [`text`] | the words for outcomes, replies and faults |
+//! - [`lab()`]: `text`: where the reader tells its octets, what is written is what the script says,
+//!   line by line, up to its first wrong line (`specs/Lab`, `specs/Script`, `specs/Says`); `bound`.
+//! - [`laws::one_word`]: a line that makes something is answered, or refused with one word.
+//! - [`text`]: the words for outcomes, replies and faults.
 //!
 //! What the lines about nodes print, no clause says: examples show it (`node_tests.rt` of
-//! `ts_lab_tests`). That each run of them ends, is safe, changes nothing that is known by name, and
+//! `test_lab`). That each run of them ends, is safe, changes nothing that is known by name, and
 //! is answered or refused with one of the script's words, is proved. A node of the lab is a
 //! `ts_node::Node` on two disks in memory, so that what it does is one event of the protocol's
 //! world; the lab is the network, which loses nothing and delivers what the script says.

@@ -1,7 +1,8 @@
 //! The log of the synod: what a node has learned at each position, and the votes that it received.
 //!
 //! ```text
-//! let mut log = Log::open(alloc, 1, 3, &facts)?;              // the facts that the node kept before
+//! // the facts that the node kept before
+//! let mut log = Log::open(alloc, 1, 3, &facts)?;
 //! let step = log.on_accepted(2, 1, ballot, &command)?;        // changes nothing that can be seen
 //! record.append(&step.facts)?;                                // the caller keeps the facts first
 //! send(&step.messages)?;
@@ -12,14 +13,17 @@
 //! searched, never walked over. The length of the prefix is kept beside them, and grows over each
 //! position once.
 //!
-//! | Call | Clauses |
-//! |---|---|
-//! | `new`, `open` | `config`, `state`: the log stands for no facts, or for those given; `received`: no vote is received |
-//! | `prefix`, `command`, `next_position` | the result is the definition's; `PositionsExhausted` is exactly its `None` |
-//! | `on_accepted`, `on_give` | `step`: the rule for Accepted or Give; `latest`: the step can be kept; `same`: nothing is changed |
-//! | `on_ask`, `catch_up` | `step`: the messages are the rule's, and nothing is kept or changed |
-//! | `prefix_after`, `command_after` | the prefix, and the command at a position, once a step is kept |
-//! | `keep` | `learned`, `received`: what the step says; `state`: the log stands for the step's facts too; `config`: it is the same node |
+//! - `new`, `open`: `config`, `state`: the log stands for no facts, or for those given; `received`:
+//!   no vote is received.
+//! - `prefix`, `command`, `next_position`: the result is the definition's; `PositionsExhausted` is
+//!   exactly its `None`.
+//! - `on_accepted`, `on_give`: `step`: the rule for Accepted or Give; `latest`: the step can be
+//!   kept; `same`: nothing is changed.
+//! - `on_ask`, `catch_up`: `step`: the messages are the rule's, and nothing is kept or changed.
+//! - `prefix_after`, `command_after`: the prefix, and the command at a position, once a step is
+//!   kept.
+//! - `keep`: `learned`, `received`: what the step says; `state`: the log stands for the step's
+//!   facts too; `config`: it is the same node.
 #![tactic(auto)]
 
 mod learned;

@@ -1,4 +1,4 @@
--- What the answer of making a list of revoked certificates says.
+-- What the answer of making a CRL says.
 use Rattle.std.proofs.Common.{◌≡◌, ℕ, ◌≤◌, ◌⊎◌, inl, inr, List, [], ◌∷◌, ◌++◌, length, Option, Some, None, Result, Ok, Err, refl, sym, ap, subst, ◌∙◌}
 use Rattle.std.specs.Prelude.{IfOk, OnOk, option_map, unwrap_or, map}
 use Rattle.std.specs.declared.vec.Vec.{Vec}

@@ -1,4 +1,4 @@
--- What is made is the encoding of the list of revoked certificates that the description says.
+-- What is made is the encoding of the CRL that the description says.
 use Rattle.std.proofs.Common.{ℕ, ◌<◌, ◌^◌, ◌≤◌, true, List, [], ◌∷◌, ◌++◌, length, Option, Some, None, refl, subst, arith, length-append}
 use Rattle.std.specs.Prelude.{map}
 use Rattle.std.proofs.lemmas.List.{append-nil}

@@ -1,4 +1,4 @@
--- The pieces of a list of revoked certificates.
+-- The pieces of a CRL.
 use Rattle.std.proofs.Common.{◌≡◌, ℕ, ◌<◌, ◌≤◌, List, [], ◌∷◌, ◌++◌, length, get_or, take, refl, ap}
 use Rattle.std.specs.Prelude.{map}
 use Rattle.std.specs.List.{flat_map}

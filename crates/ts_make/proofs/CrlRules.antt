@@ -1,4 +1,4 @@
--- The rules of a list of revoked certificates that what is made may break.
+-- The rules of a CRL that what is made may break.
 use Rattle.std.proofs.Common.{◌++◌, ◌&&◌, not, ◌≡◌, ℕ, ◌≤◌, ◌⊎◌, inl, inr, Bool, true, false, cond, List, [], ◌∷◌, length, Option, Some, None, Result, Ok, Err, refl, sym, ap, subst, ◌∙◌, arith, length-append}
 use Rattle.std.specs.Prelude.{IfOk, IfErr, option_map, unwrap_or, map, is_none}
 use Rattle.std.specs.List.{AllByRecursion, flat_map}

@@ -1,4 +1,4 @@
--- What a description says of a list of revoked certificates (RFC 5280 5.1).
+-- What a description says of a CRL (RFC 5280 5.1).
 use Rattle.std.specs.Prelude.{◌≡◌, ℕ, true, false, List, [], ◌∷◌, Some, None, Result, Ok, Err, pos}
 use Rattle.ts_der.specs.Integer.{twos_complement}
 use Rattle.ts_field.specs.declared.time.Time.{Time}

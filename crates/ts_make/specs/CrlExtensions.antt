@@ -1,4 +1,4 @@
--- The extensions that a description says of a list of revoked certificates and of its entries (RFC
+-- The extensions that a description says of a CRL and of its entries (RFC
 -- 5280 5.2, 5.3), and their octets (5.1).
 use Rattle.std.specs.Prelude.{ℕ, true, false, List, [], ◌∷◌, ◌++◌, map, Option, Some, None}
 use Rattle.std.specs.Borrow.{Bor}

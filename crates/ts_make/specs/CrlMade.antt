@@ -1,4 +1,4 @@
--- The octets of the list of revoked certificates that a description says (RFC 5280 5.1), given
+-- The octets of the CRL that a description says (RFC 5280 5.1), given
 -- those of its two times.
 use Rattle.std.specs.Prelude.{ℕ, List, [], ◌∷◌, ◌++◌}
 use Rattle.std.specs.List.{flat_map}

@@ -66,9 +66,9 @@ fn write_readable(
 ///
 /// # Errors
 ///
-/// `TooLong` exactly where the octets would be more than 65,536; `Unreadable` exactly where reading would not take them:
-/// a moment lies outside the years 0 to 9999, which no certificate can say, or the extensions are
-/// not those that a certificate may have; `Memory` only where memory ran out.
+/// `TooLong` exactly where the octets would be more than 65,536; `Unreadable` exactly where reading
+/// would not take them: a moment lies outside the years 0 to 9999, which no certificate can say, or
+/// the extensions are not those that a certificate may have; `Memory` only where memory ran out.
 pub fn make_cert(alloc: Global, text: &CertText<'_>) -> Result<Vec<u8>, MakeFault>
     // It is the one certificate that says the description, where a certificate may be so long.
     ensures made { (before after : List ℕ) × IsTimeOf before text.now.from

@@ -1,4 +1,4 @@
-//! What a list of revoked certificates is to say.
+//! What a CRL is to say.
 
 use crate::description::RdnText;
 use ts_der::OidRef;

@@ -1,4 +1,4 @@
-//! The extensions of a list of revoked certificates and of its entries.
+//! The extensions of a CRL and of its entries.
 
 ghost use Rattle.std.specs.Prelude.{◌≡◌, ◌++◌, true, map, OnOk};
 ghost use Rattle.std.specs.List.{flat_map};

@@ -1,4 +1,4 @@
-//! What is signed of a list of revoked certificates.
+//! What is signed of a CRL.
 
 ghost use Rattle.std.specs.Prelude.{◌++◌, ◌<◌, ◌^◌, OnOk};
 ghost use Rattle.std.specs.List.{flat_map};

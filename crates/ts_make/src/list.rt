@@ -1,4 +1,4 @@
-//! Lists of revoked certificates.
+//! CRLs.
 
 ghost use Rattle.std.specs.Prelude.{◌≡◌, ℕ, List, Ok, IfOk, IfErr, OnOk};
 ghost use Rattle.ts_time.specs.Civil.{IsInYears};
@@ -66,11 +66,11 @@ fn write_whole_crl(
 ///
 /// # Errors
 ///
-/// `TooLong` exactly where the octets would be more than 4,194,304; `Unreadable` exactly where a rule that has a place is
-/// broken: a moment lies outside the years 0 to 9999, which no list can say, or the extensions are
-/// not those that a list may have; `Memory` only where memory ran out. A critical extension that is
-/// not processed is no error, nor is a base number without a number: what is made is the list that
-/// says it, which reading refuses.
+/// `TooLong` exactly where the octets would be more than 4,194,304; `Unreadable` exactly where a
+/// rule that has a place is broken: a moment lies outside the years 0 to 9999, which no list can
+/// say, or the extensions are not those that a list may have; `Memory` only where memory ran out. A
+/// critical extension that is not processed is no error, nor is a base number without a number:
+/// what is made is the list that says it, which reading refuses.
 pub fn make_crl(alloc: Global, text: &CrlText<'_>) -> Result<Vec<u8>, MakeFault>
     // It is the one list that says the description, where a list may be so long.
     ensures made { (this next : List ℕ) × IsTimeOf this text.now.this_update

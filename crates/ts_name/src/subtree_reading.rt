@@ -134,9 +134,8 @@ impl<'a> Subtree<'a> {
     }
 
     /// The subtree of a constraint that octets are, or the first rule that is broken: those of
-    /// `read_element`, with
-    /// `Trailing`; then `SubtreeBounds` where it has a minimum other than 0 or a maximum, then `AddressLength`, both
-    /// with place 0.
+    /// `read_element`, with `Trailing`; then `SubtreeBounds` where it has a minimum other than 0 or
+    /// a maximum, then `AddressLength`, both with place 0.
     pub fn read(octets: &'a [u8]) -> Result<Subtree<'a>, CertFault>
         ensures found { IfOk result (λ subtree. IsConstraint octets.now (subtree_in subtree)) }
         ensures only { (subtree : GeneralSubtree) → IsConstraint octets.now subtree

@@ -20,8 +20,8 @@ use Rattle.ts_node.specs.declared.input.NodeFault.TheVariants.{GenerationsExhaus
 use Rattle.ts_node.specs.Inputs.{IsInput}
 use Rattle.ts_node.specs.Node.{Compacts, Failed, Handles, Moments, config, facts, owner, volatile}
 
--- What stands behind a node: its disks and the encoding of its commands, the store of the world, and
--- what its machine's answers rest on.
+-- What stands behind a node: its disks and the encoding of its commands, the store of the world,
+-- and what its machine's answers rest on.
 module _ {D C M O Q A B : Type 0} (state : D → State) (octets : C → List ℕ)
     (store : Store C O (List C) Q (List C)) (basis : M → B)
     (is_answer : B → List C → Q → A → Type 0) where

@@ -5,22 +5,42 @@
 //! disk before it answers.
 //!
 //! ```text
-//! let mut node = Node::open(alloc, a, b, machine)?;               // refused, it gives the disks and the machine back
+//! // refused, it gives the disks and the machine back
+//! let mut node = Node::open(alloc, a, b, machine)?;
 //! let output = node.handle(&Input::Submit(command))?;              // Started, or Settled
 //! for message in output.messages { .. }                            // to itself too
 //! let (a, b, machine) = node.close();
 //! ```
 //!
-//! | Item | Clauses |
-//! |---|---|
-//! | `Machine` | what the world's store is: an id of each command, an outcome of each after others, and which answers are right after the first k commands |
-//! | `Node::open` | `opens`, `only`: the facts are those that the disks open to, and the node is the one whose record they are; `restarted`: the world's node after a restart; `moments`: a crash within the call leaves nothing new; `owner`: which node; `fault`: the record's faults and no others, but for the want of memory; `same`, `machine` |
-//! | `Node::handle` | `step`: facts, volatile part, messages and reply are those of the world's step, for each world's node whose facts are of the force of this one's; `moments`: at every moment each pair of images opens to the facts before, or to those and the step's; `compacts`: a compaction leaves the force of the facts, and the rest; `failed`, `broken`: broken after a device's failure; `sound`, `config`, `basis` |
-//! | `Node::close` | the two disks and the machine |
+//! - `Machine`: what the world's store is: an id of each command, an outcome of each after others,
+//!   and which answers are right after the first k commands.
+//! - `Node::open`: `opens`, `only`: the facts are those that the disks open to, and the node is the
+//!   one whose record they are; `restarted`: the world's node after a restart; `moments`: a crash
+//!   within the call leaves nothing new; `owner`: which node; `fault`: the record's faults and no
+//!   others, but for out of memory; `same`, `machine`.
+//! - `Node::handle`: `step`: facts, volatile part, messages and reply are those of the world's
+//!   step, for each world's node whose facts are of the force of this one's; `moments`: at every
+//!   moment each pair of images opens to the facts before, or to those and the step's; `compacts`:
+//!   a compaction leaves the force of the facts, and the rest; `failed`, `broken`: broken after a
+//!   device's failure; `sound`, `config`, `basis`.
+//! - `Node::close`: the two disks and the machine.
 //!
-//! `IsSound` says that a node is one that `open` gave: the roles stand for its facts, the disks open to them, and the machine took the
-//! first of the learned commands. Each call keeps it. A command's octets have to fit a record
-//! (`InputFits`).
+//! `IsSound` says that a node is one that `open` gave: the roles stand for its facts, the disks
+//! open to them, and the machine took the first of the learned commands. Each call keeps it. A
+//! command's octets have to fit a record (`InputFits`).
+//!
+//! # Not promised
+//!
+//! Only tested: that calls with ample memory succeed; and, as examples of the laws, a run of three
+//! nodes with two proposers and a restart in which each call of each disk fails, alone or with all
+//! after it, under each torn write (the nodes agree, and what was chosen stays chosen); and what
+//! the roles of two nodes keep over every list of at most five events (deliveries, two commands,
+//! catching up, restarts, and stops that lose a step's output) from the start, and of at most three
+//! more from two points of a run in which one command is about to be chosen, or is chosen and the
+//! other is proposed (what is learned is chosen, one command is chosen at a position, and it was
+//! submitted). Neither proved nor tested: that anything is ever chosen; time. `handle` has as its
+//! condition that the node is one that `open` gave or an earlier `handle` left (`IsSound`), and
+//! that what arrives fits a record (`InputFits`).
 #![tactic(auto)]
 
 mod feeding;

@@ -77,7 +77,7 @@ impl<D: Disk, C: Command + Codec, M: Machine<C>> Node<D, C, M> {
         ensures moments { MatchResult result
             (λ node. NothingNew (D.state a) (D.state b) (D.state node.kept.a) (D.state node.kept.b))
             (λ refused. NothingNew (D.state a) (D.state b) (D.state refused.a) (D.state refused.b)) }
-        // A fault other than the want of memory is the record's.
+        // A fault other than out of memory is the record's.
         ensures fault { IfErr result (λ refused. IsFault C.octets (D.state a) (D.state b)
             (D.state refused.a) (D.state refused.b) refused.fault) }
         ensures same { MatchResult result

@@ -4,9 +4,43 @@
 //! ```text
 //! match validate(alloc, &anchor, &chain, &inputs, &check)? {
 //!     Verdict::Valid(policies) => ..,                   // the policies that are accepted
-//!     Verdict::Invalid { position, reason } => ..,      // the first certificate that fails, and its first reason
+//!     // the first certificate that fails, and its first reason
+//!     Verdict::Invalid { position, reason } => ..,
 //! }
 //! ```
+//!
+//! `validate` judges a chain of 1 to 16 certificates under a trust anchor at a moment, by all
+//! eighteen conditions of RFC 5280 section 6.1 in this profile. It answers `Valid` with the
+//! accepted policies, or the position and the first reason.
+//!
+//! - `validate`: the verdict is `Valid` exactly where each condition holds at each position, with
+//!   the policies that are accepted, ascending, each once; else it names a condition that fails at
+//!   a position of the chain, and none fails at a lesser position, or at this one with a lesser
+//!   number; the number of `Revoked` is the status's, the object identifier of `CriticalExtension`
+//!   that of the first such extension by place (its clause (`IsVerdict`)).
+//! - `Anchor::of`: the subject and the public key of a certificate, for any purpose, and nothing
+//!   else of it.
+//! - `Inputs::at`: the inputs that ask for nothing but a moment (`moment`, `purpose`, `policies`,
+//!   `names`, `revocation`).
+//! - `Reason::number`: the number of the condition.
+//! - `Display` of `Reason`: what is printed is its name; after `Revoked` a space and the number of
+//!   the reason in decimal, after `CriticalExtension` a space and the object identifier in dotted
+//!   form (`output`).
+//! - law (`laws`): a question has one verdict (`one_verdict`: `least`, `invalid`).
+//!
+//! Each condition is a statement of its own on what is asked, the state variables of RFC 5280 6.1.2
+//! at a certificate, and the certificate (`specs/Conditions.antt`), with its section of the
+//! standard. The state variables are statements about the certificates above, not step by step: a
+//! counter is the least of what its start and the bounds above leave (`specs/Counters.antt`), the
+//! sources of name constraints are a list, the valid policy tree is a set of paths (`ts_policy`).
+//! The code has one running state and stops at the first condition that fails; a signature is
+//! checked once for each certificate. Memory is the only error.
+//!
+//! # Not promised
+//!
+//! Only tested: worked verdicts here (one certificate; parameters that a chain of three inherits),
+//! and through scripts of `trustd lab` (`crates/test_lab/src/path_tests.rt`). Neither proved
+//! nor tested: that memory is refused only where an allocation was; time.
 #![tactic(auto)]
 
 mod anchor;

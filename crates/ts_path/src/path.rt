@@ -22,7 +22,7 @@ pub const MAX_CHAIN: usize = 16;
 ///
 /// # Errors
 ///
-/// Memory that is refused.
+/// Out of memory.
 pub fn validate<'a, S: SignatureCheck>(
     alloc: Global,
     anchor: &Anchor<'a>,

@@ -17,7 +17,7 @@ impl<'a> Certificate<'a> {
     ///
     /// # Errors
     ///
-    /// Memory that is refused.
+    /// Out of memory.
     pub fn of(
         alloc: Global,
         cert: Cert<'a>,

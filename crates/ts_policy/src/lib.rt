@@ -20,20 +20,25 @@
 //! latest are applied, and by these a set of paths of policies (`specs/Paths`), each policy being
 //! the content octets of its object identifier.
 //!
-//! | Call | What is proved of it |
-//! |---|---|
-//! | [`Certificate::of`] | what an X.509 certificate states, by the values of its extensions |
-//! | [`Certificate::maps_any`] | false exactly where no mapping names anyPolicy |
-//! | [`Policies::start`] | the set with the empty path alone |
-//! | [`Policies::certificate`], [`Policies::map`] | the set after 6.1.3 (d), and after 6.1.4 (b) |
-//! | [`Policies::is_empty`] | whether the set is empty |
-//! | [`Policies::finish`] | `accepted`: the accepted policies (`specs/Accepted`); `ascending`: in the order of their octets, each once |
-//! | [`laws::tree_paths`] | the valid policy tree of RFC 5280, with its pruning (`specs/Tree`), has these paths and no node off them |
+//! - [`Certificate::of`]: what an X.509 certificate states, by the values of its extensions.
+//! - [`Certificate::maps_any`]: false exactly where no mapping names anyPolicy.
+//! - [`Policies::start`]: the set with the empty path alone.
+//! - [`Policies::certificate`], [`Policies::map`]: the set after 6.1.3 (d), and after 6.1.4 (b).
+//! - [`Policies::is_empty`]: whether the set is empty.
+//! - [`Policies::finish`]: `accepted`: the accepted policies (`specs/Accepted`); `ascending`: in
+//!   the order of their octets, each once.
+//! - [`laws::tree_paths`]: the valid policy tree of RFC 5280, with its pruning (`specs/Tree`), has
+//!   these paths and no node off them.
 //!
 //! There is no limit on the number of paths. They are kept as layers of labels with links between
 //! neighbouring layers, so a certificate costs time and memory by its own policies and mappings and
 //! the labels of the layer above, never by their product. A refusal of memory is answered as
 //! `AllocError`, and the `Policies` is then gone.
+//!
+//! # Not promised
+//!
+//! Only tested: 21 worked chains, and chains of 3^8, 3^10 and 3^16 paths. Neither proved nor
+//! tested: time and memory (`bench/README.md` has figures).
 #![tactic(auto)]
 
 mod certificate;

@@ -46,7 +46,7 @@ impl<'a> Policies<'a> {
     ///
     /// # Errors
     ///
-    /// Memory that is refused.
+    /// Out of memory.
     pub fn start(alloc: Global) -> Result<Policies<'a>, AllocError>
         ensures { IfOk result (λ p. p ≡ record { certificates = []; mapped = true }) }
     {
@@ -68,7 +68,7 @@ impl<'a> Policies<'a> {
     ///
     /// # Errors
     ///
-    /// Memory that is refused.
+    /// Out of memory.
     pub fn certificate(
         self,
         alloc: Global,
@@ -96,7 +96,7 @@ impl<'a> Policies<'a> {
     ///
     /// # Errors
     ///
-    /// Memory that is refused.
+    /// Out of memory.
     pub fn map(self, alloc: Global) -> Result<Policies<'a>, AllocError>
         requires open { self.mapped ≡ false }
         requires fine { LatestMapsNoAny self.certificates }
@@ -133,7 +133,7 @@ impl<'a> Policies<'a> {
     ///
     /// # Errors
     ///
-    /// Memory that is refused.
+    /// Out of memory.
     pub fn finish(self, alloc: Global, user: &[&'a [u8]]) -> Result<Vec<&'a [u8]>, AllocError>
         requires { self.mapped ≡ false }
         ensures accepted { IfOk result (λ found. (p : Label) → In p (map (λ x. x.now) found.items)

@@ -19,9 +19,9 @@ impl Answer {
     ///
     /// # Errors
     ///
-    /// `OutOfLimits` exactly where k is above 1,000,000, the position of `Invalid` is not 1 to 16, the places of `Found` are
-    /// more than 255, not distinct or don't end in 1, the prefix of `NotYet` is not below k, or
-    /// there are 2^32 policies.
+    /// `OutOfLimits` exactly where k is above 1,000,000, the position of `Invalid` is not 1 to 16,
+    /// the places of `Found` are more than 255, not distinct or don't end in 1, the prefix of
+    /// `NotYet` is not below k, or there are 2^32 policies.
     pub fn new(k: u32, reply: Reply) -> Result<Answer, OutOfLimits>
         ensures { let answered : Answered = record { k = k; reply = reply } in
             MatchResult result (λ a. (a ≡ answered) × Fits a) (λ _. is_answer answered ≡ false) }
@@ -60,7 +60,7 @@ impl Answer {
     ///
     /// # Errors
     ///
-    /// Memory that is refused.
+    /// Out of memory.
     pub fn read(alloc: Global, octets: &[u8]) -> Result<Option<Answer>, AllocError>
         // What is read is encoded so.
         ensures found { IfOk result (λ read. IfSome read (λ a. Fits a × (octets.now ≡ encoding a))) }
@@ -79,7 +79,7 @@ impl Answer {
     ///
     /// # Errors
     ///
-    /// Memory that is refused; `Form` exactly where octets begin with no answer.
+    /// Out of memory; `Form` exactly where octets begin with no answer.
     pub fn read_front(alloc: Global, octets: &[u8]) -> Result<(Answer, &[u8]), ReadFault>
         ensures { Gives (λ x. (x.0, x.1.now)) result (answer_at octets.now) }
     {
@@ -91,7 +91,7 @@ impl Answer {
     ///
     /// # Errors
     ///
-    /// Memory that is refused.
+    /// Out of memory.
     pub fn write(&self, out: &mut Vec<u8>) -> Result<(), AllocError>
         ensures encoded { OnOk result (out.new.items ≡ out.old.items ++ encoding self.now) }
         ensures fits { Fits self.now }
@@ -106,7 +106,7 @@ impl Answer {
     ///
     /// # Errors
     ///
-    /// Memory that is refused.
+    /// Out of memory.
     pub fn octets(&self, alloc: Global) -> Result<Vec<u8>, AllocError>
         ensures { IfOk result (λ octets. octets.items ≡ encoding self.now) }
     {

@@ -85,7 +85,7 @@ impl Question {
     ///
     /// # Errors
     ///
-    /// Memory that is refused.
+    /// Out of memory.
     pub fn read(alloc: Global, octets: &[u8]) -> Result<Option<Question>, AllocError>
         // What is read is encoded so.
         ensures found { IfOk result (λ read. IfSome read (λ q. Fits q × (octets.now ≡ encoding q))) }
@@ -104,7 +104,7 @@ impl Question {
     ///
     /// # Errors
     ///
-    /// Memory that is refused.
+    /// Out of memory.
     pub fn write(&self, out: &mut Vec<u8>) -> Result<(), AllocError>
         ensures encoded { OnOk result (out.new.items ≡ out.old.items ++ encoding self.now) }
         ensures fits { Fits self.now }
@@ -119,7 +119,7 @@ impl Question {
     ///
     /// # Errors
     ///
-    /// Memory that is refused.
+    /// Out of memory.
     pub fn octets(&self, alloc: Global) -> Result<Vec<u8>, AllocError>
         ensures { IfOk result (λ octets. octets.items ≡ encoding self.now) }
     {

@@ -2,9 +2,11 @@
 //! with one encoding.
 //!
 //! ```text
-//! let question = Question::chain(terms, anchor, certificates)?;   // OutOfLimits exactly outside the limits
+//! // OutOfLimits exactly outside the limits
+//! let question = Question::chain(terms, anchor, certificates)?;
 //! let octets = question.octets(alloc)?;                            // its one encoding
-//! let again = Question::read(alloc, &octets)?;                     // Some, exactly where the octets are one whole question
+//! // Some, exactly where the octets are one whole question
+//! let again = Question::read(alloc, &octets)?;
 //! let answer = Answer::new(k, Reply::NoPath)?;
 //! let octets = answer.octets(alloc)?;
 //! ```
@@ -19,17 +21,24 @@
 //!
 //! An answer is four octets of k, an octet of the reply's tag, and its fields (`specs/Reply`).
 //!
-//! | Call | Clauses |
-//! |---|---|
-//! | [`Question::chain`], [`Question::search`] | `OutOfLimits` exactly where `is_within` (`specs/Question`) is false |
-//! | [`Answer::new`] | `OutOfLimits` exactly where `is_answer` (`specs/Reply`) is false |
-//! | [`Question::read`], [`Answer::read`] | `found`, `only`: what is read is encoded so, and what is encoded so is read |
-//! | [`Question::octets`], [`Question::write`], [`Answer::octets`], [`Answer::write`] | the encoding; `fits`: each value has one |
-//! | [`laws::one_question`], [`laws::one_answer`] | no two values have one encoding, and no two lists of octets are one value's |
-//! | [`parts`] | numbers and octets at the front of others, lent; each gives what its reading (`specs/Reading`) gives |
+//! - [`Question::chain`], [`Question::search`]: `OutOfLimits` exactly where `is_within`
+//!   (`specs/Question`) is false.
+//! - [`Answer::new`]: `OutOfLimits` exactly where `is_answer` (`specs/Reply`) is false.
+//! - [`Question::read`], [`Answer::read`]: `found`, `only`: what is read is encoded so, and what is
+//!   encoded so is read.
+//! - [`Question::octets`], [`Question::write`], [`Answer::octets`], [`Answer::write`]: the
+//!   encoding; `fits`: each value has one.
+//! - [`laws::one_question`], [`laws::one_answer`]: no two values have one encoding, and no two
+//!   lists of octets are one value's.
+//! - [`parts`]: numbers and octets at the front of others, lent; each gives what its reading
+//!   (`specs/Reading`) gives.
 //!
 //! DER is not looked into, except that policies, purposes and extensions are object identifiers.
-//! Memory that is refused is answered as `AllocError`.
+//! Out of memory is answered as `AllocError`.
+//!
+//! # Not promised
+//!
+//! Only tested: that calls with ample memory succeed, and the octets of an example.
 #![tactic(auto)]
 
 mod answering;

@@ -1,4 +1,4 @@
-//! Parts at the front of octets. Each call gives the part and lends the octets after it; `Form`
+//! Parts at the front of octets. Each call gives the part and borrows the octets after it; `Form`
 //! where they are cut.
 
 ghost use Rattle.std.specs.Prelude.{◌≡◌, Ok};

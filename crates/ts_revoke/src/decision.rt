@@ -32,12 +32,13 @@ fn by_lists<S: SignatureCheck>(q: &Question<'_>, check: &S) -> Status
 
 /// What CRLs say of a certificate at a moment (RFC 5280 6.3.3). It takes no memory.
 ///
-/// `Revoked` where a usable pair of a pass lists the serial number, 8 (removeFromCRL) aside; else `Good` where the masks of the
-/// usable pairs so far cover all reasons; else what pass 2 says, and after that `Undetermined`.
-/// However many distribution points the certificate has, a CRL's signature is checked once at most,
-/// after its issuer, its dates and its scope, and only where some point that a pass takes is for a
-/// reason of its scope; names are compared after that. Its entries are searched once at most, where
-/// some pair of it is used. Of CRLs after the first 1,024 both may be done once in each pass.
+/// `Revoked` where a usable pair of a pass lists the serial number, 8 (removeFromCRL) aside; else
+/// `Good` where the masks of the usable pairs so far cover all reasons; else what pass 2 says, and
+/// after that `Undetermined`. However many distribution points the certificate has, a CRL's
+/// signature is checked once at most, after its issuer, its dates and its scope, and only where
+/// some point that a pass takes is for a reason of its scope; names are compared after that. Its
+/// entries are searched once at most, where some pair of it is used. Of CRLs after the first 1,024
+/// both may be done once in each pass.
 pub fn status<S: SignatureCheck>(
     crls: &Crls<'_>,
     cert: &Cert<'_>,

@@ -4,7 +4,8 @@
 //! let crls = Crls { lists: &complete, deltas: &deltas };              // in store order
 //! let issuer = Issuer { key, key_usage: above.key_usage() };          // None for an anchor
 //! match status(&crls, &cert, &issuer, moment, &check, use_deltas) {
-//!     Status::Good => ..,                // usable CRLs cover all reasons, and none lists the serial number
+//!     // usable CRLs cover all reasons, and none lists the serial number
+//!     Status::Good => ..,
 //!     Status::Revoked(reason) => ..,     // the reason's number, 0 where the entry gives none
 //!     Status::Undetermined => ..,        // the usable CRLs do not cover all reasons
 //! }
@@ -14,23 +15,30 @@
 //! stops as soon as all reasons are covered: a certificate may be revoked in one order and good in
 //! another. Here it is `Good` only if it is good in every order within each of the two passes.
 //!
-//! | Definition | What it says |
-//! |---|---|
-//! | `specs/Usable` | which pairs of a distribution point and a CRL are usable, each condition by itself; the mask of a pair |
-//! | `specs/Listed`, `Numbers` | what a CRL says of the serial number; its delta CRL, and when that counts |
-//! | `specs/Status`, `Pairs`, `Decision` | the pairs of both passes; the status |
-//! | `specs/Loop` | the loop of the RFC over an order of pairs |
+//! - Definition: What it says.
+//! - `specs/Usable`: which pairs of a distribution point and a CRL are usable, each condition by
+//!   itself; the mask of a pair.
+//! - `specs/Listed`, `Numbers`: what a CRL says of the serial number; its delta CRL, and when that
+//!   counts.
+//! - `specs/Status`, `Pairs`, `Decision`: the pairs of both passes; the status.
+//! - `specs/Loop`: the loop of the RFC over an order of pairs.
 //!
-//! | Call | What its clause says |
-//! |---|---|
-//! | [`status`] | the status of these definitions, exactly |
-//! | [`laws::in_any_order`] | where it is `Good` or `Undetermined` the loop answers the same in every order within the passes; where it is `Revoked`, the loop answers so in some order |
+//! - [`status`]: the status of these definitions, exactly.
+//! - [`laws::in_any_order`]: where it is `Good` or `Undetermined` the loop answers the same in
+//!   every order within the passes; where it is `Revoked`, the loop answers so in some order.
 //!
-//! `status` takes no memory. The definition goes through the distribution points and at each through all CRLs; the code goes
-//! through the CRLs and at each through all points (`specs/ByList`), and keeps on the stack what
-//! pass 1 learned of each CRL (`specs/Looked`). So a CRL's signature is checked once at most and
-//! its entries are searched once at most, in both passes together, whatever the certificate says;
-//! only of CRLs after the first 1,024 it is once in each pass.
+//! `status` takes no memory. The definition goes through the distribution points and at each
+//! through all CRLs; the code goes through the CRLs and at each through all points
+//! (`specs/ByList`), and keeps on the stack what pass 1 learned of each CRL (`specs/Looked`). So a
+//! CRL's signature is checked once at most and its entries are searched once at most, in both
+//! passes together, whatever the certificate says; only of CRLs after the first 1,024 it is once in
+//! each pass.
+//!
+//! # Not promised
+//!
+//! Only tested: worked rows, and in some of them how often a signature is checked (no contract
+//! counts calls). Neither proved nor tested: time (names of distribution points by names of a CRL's
+//! scope is a product, under the issuer's own signature).
 #![tactic(auto)]
 
 mod crls;

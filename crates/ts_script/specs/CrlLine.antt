@@ -1,4 +1,4 @@
--- What a `crl` line says: the list of revoked certificates that it makes known, or why it is
+-- What a `crl` line says: the CRL that it makes known, or why it is
 -- refused.
 use Rattle.std.specs.Prelude.{◌≡◌, ◌≢◌, ℕ, ◌<◌, ◌≤◌, List, [], ◌∷◌, ◌++◌, length, None, Err}
 use Rattle.std.specs.Prelude.{option_map, codes}

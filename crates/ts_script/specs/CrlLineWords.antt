@@ -1,4 +1,4 @@
--- The words after the signer of a `crl` line: what they say of the list of revoked certificates.
+-- The words after the signer of a `crl` line: what they say of the CRL.
 use Rattle.std.specs.Prelude.{◌≡◌, ℕ, List, [], ◌∷◌, ◌++◌, map, Option, codes}
 use Rattle.std.specs.List.{flat_map}
 use Rattle.ts_ext.specs.declared.reason_code.ReasonCode.{ReasonCode}

@@ -7,7 +7,7 @@ use Rattle.ts_script.specs.declared.symbols.Item.{Item}
 use Rattle.ts_script.specs.declared.symbols.Item.TheVariants as kept
 use Rattle.ts_script.specs.declared.symbols.Symbols.{Symbols}
 
--- what a name stands for: a certificate or a list of revoked certificates, as its octets
+-- what a name stands for: a certificate or a CRL, as its octets
 pub data Thing : Type 0 where
   certificate : List ℕ → Thing
   revocation_list : List ℕ → Thing

@@ -59,7 +59,7 @@ pub record IsDn (word : List ℕ) (rdns : List RdnText) : Type 0 where
   pub pieces : pieces_of 47 word ≡ map rdn_word rdns
   pub texts : AreTexts rdns
 
--- a word is refused: for want of memory, or as one of no such form
+-- a word is refused: when out of memory, or as one of no such form
 abbrev pub RefusesWord : Type 0 → LineFault → Type 0
 RefusesWord IsOther Memory = Unit {0}
 RefusesWord IsOther Form = IsOther

@@ -1,4 +1,4 @@
-//! The fields of a list of revoked certificates, gathered from words.
+//! The fields of a CRL, gathered from words.
 
 ghost use Rattle.std.specs.Prelude.{◌≡◌, ◌≢◌, ℕ, Option, map, IfOk, IfErr};
 ghost use Rattle.std.specs.List.{flat_map};

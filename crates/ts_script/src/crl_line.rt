@@ -1,4 +1,4 @@
-//! The `crl` line: the list of revoked certificates that its words describe.
+//! The `crl` line: the CRL that its words describe.
 
 ghost use Rattle.std.specs.Prelude.{◌≡◌, ◌++◌, ◌≤◌, length, IfOk, IfErr, MatchOption, OnOk, OnErr};
 ghost use Rattle.std.specs.Prelude.{string_bytes, codes};

@@ -3,19 +3,22 @@
 //!
 //! ```text
 //! let mut known = Symbols::new(alloc);
-//! let text = answer_cert(alloc, &mut known, line)?;               // what the line prints; from then on its certificate is known
-//! let text = answer_check(alloc, &known, line)?;                   // the verdict on a chain of known certificates
+//! // what the line prints; from then on its certificate is known
+//! let text = answer_cert(alloc, &mut known, line)?;
+//! // the verdict on a chain of known certificates
+//! let text = answer_check(alloc, &known, line)?;
 //! ```
 //!
-//! | Call | Clauses |
-//! |---|---|
-//! | [`answer_cert`], [`answer_crl`] | what a line prints and makes known, by `specs/CertLine` and `specs/CrlLine`; or why it is refused, and nothing is known then that was not |
-//! | [`answer_check`] | the text of a verdict, or why the line is refused |
-//! | [`Symbols::find`], [`Symbols::find_cert`], [`Symbols::keep`] | what a name stands for is that of its first entry, and a new one is last |
-//! | [`words`] | a word is a name, a number, octets, a moment exactly where it is encoded so (`specs/Words`) |
-//! | [`oid_in`] | an object identifier in dotted form |
-//! | [`Options::read`] | what is asked of a chain |
-//! | [`laws::one_reading`] | words say one list of extensions |
+//! - [`answer_cert`], [`answer_crl`]: what a line prints and makes known, by `specs/CertLine` and
+//!   `specs/CrlLine`; or why it is refused, and nothing is known then that was not.
+//! - [`answer_check`]: the text of a verdict, or why the line is refused.
+//! - [`Symbols::find`], [`Symbols::find_cert`], [`Symbols::keep`]: what a name stands for is that
+//!   of its first entry, and a new one is last.
+//! - [`words`]: a word is a name, a number, octets, a moment exactly where it is encoded so
+//!   (`specs/Words`).
+//! - [`oid_in`]: an object identifier in dotted form.
+//! - [`Options::read`]: what is asked of a chain.
+//! - [`laws::one_reading`]: words say one list of extensions.
 //!
 //! A line is its octets, without the line feed that ends it.
 #![tactic(auto)]

@@ -13,7 +13,7 @@ use std::alloc::{AllocFailed, Global};
 pub enum Item {
     /// A certificate.
     Certificate(CertOctets),
-    /// A list of revoked certificates.
+    /// A CRL.
     List(Vec<u8>),
 }
 

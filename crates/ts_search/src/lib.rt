@@ -3,9 +3,11 @@
 //!
 //! ```text
 //! match search(alloc, &leaf, &pool, &anchors, &inputs, &crls, &check)? {
-//!     Answer::Found { anchor, chain, policies } => ..,   // places: of the anchor, and of the certificates from its side
+//!     // places: of the anchor, and of the certificates from its side
+//!     Answer::Found { anchor, chain, policies } => ..,
 //!     Answer::NoPath => ..,                              // no chain is valid
-//!     Answer::SearchLimit => ..,                         // none of the first 4,096 is valid, and there are more
+//!     // none of the first 4,096 is valid, and there are more
+//!     Answer::SearchLimit => ..,
 //! }
 //! ```
 //!
@@ -14,10 +16,14 @@
 //! order, the shorter first, and of one length by their places from the leaf up; each under the
 //! anchors in their order. The first pair that path validation calls valid is the answer.
 //!
-//! | Call | Clauses |
-//! |---|---|
-//! | [`search`] | the answer is that over all candidates in order (`IsAnswer`); memory that is refused is its only error |
-//! | [`laws::one_answer`] | the candidates in order are one list, so that a search has one answer |
+//! - [`search`]: the answer is that over all candidates in order (`IsAnswer`); out of memory is its
+//!   only error.
+//! - [`laws::one_answer`]: the candidates in order are one list, so that a search has one answer.
+//!
+//! # Not promised
+//!
+//! Only tested: that a search with ample memory answers. Neither proved nor tested: time; a chain
+//! of each candidate is judged anew, its signatures included.
 #![tactic(auto)]
 
 mod answer;

@@ -86,7 +86,7 @@ fn search_all<'a, S: SignatureCheck>(
 ///
 /// # Errors
 ///
-/// Memory that is refused.
+/// Out of memory.
 pub fn search<'a, S: SignatureCheck>(
     alloc: Global,
     leaf: &Cert<'a>,

@@ -144,7 +144,7 @@ fn carry_once<P: Peer>(alloc: Global, peers: &mut [P]) -> Result<u64, AllocError
 ///
 /// # Errors
 ///
-/// Memory that is refused here; where it is refused to an exchange, that has failed.
+/// Out of memory here; where it is refused to an exchange, that has failed.
 pub fn carry<P: Peer>(alloc: Global, peers: &mut [P], rounds: u32) -> Result<u64, AllocError>
     requires { All P.is_ready peers.old }
     ensures { All P.is_ready peers.new }

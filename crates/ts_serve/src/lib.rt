@@ -17,20 +17,34 @@
 //! to 27 is no request: it is the fault Kind. A fault in a frame's place is answered with
 //! FrameFault, and ends the stream.
 //!
-//! | Call | Clauses |
-//! |---|---|
-//! | [`Server::new`], [`Server::close`] | the node, given back too where memory is refused |
-//! | [`serve`] | `served`: where the reader tells its octets, what is written is the text of the answers to the requests at the front of the stream, each a turn of the server (`specs/Turn`, in the words of `Node::handle`), and nothing else; Ok where that is all of the stream, `Cut` where less than a frame is left, `Frame` at the fault after them, whose answer comes last; at another fault what is written is a front of such a text, and the server is after the requests that were taken (`specs/Stream`). `exact`: the requests are those among the frames that the stream splits into. `run`: whatever is read, the server is after a run of turns. `sound` |
-//! | [`listen`] | `run`, `sound`; `fault`: no fault but `Read`. A client that is waited for longer than [`LONGEST_WAIT`] seconds loses its connection; no clause says so |
-//! | [`ServerPeer::exchange`](Peer::exchange) | `served`: the answers are those of `serve` to the whole stream |
-//! | [`TcpPeer::exchange`](Peer::exchange), [`carry`] | they end, and each peer can be asked again; what they carry and count is shown by tests |
+//! - [`Server::new`], [`Server::close`]: the node, given back too where memory is refused.
+//! - [`serve`]: `served`: where the reader tells its octets, what is written is the text of the
+//!   answers to the requests at the front of the stream, each a turn of the server (`specs/Turn`,
+//!   in the words of `Node::handle`), and nothing else; Ok where that is all of the stream, `Cut`
+//!   where less than a frame is left, `Frame` at the fault after them, whose answer comes last; at
+//!   another fault what is written is a front of such a text, and the server is after the requests
+//!   that were taken (`specs/Stream`). `exact`: the requests are those among the frames that the
+//!   stream splits into. `run`: whatever is read, the server is after a run of turns. `sound`.
+//! - [`listen`]: `run`, `sound`; `fault`: no fault but `Read`. A client that is waited for longer
+//!   than [`LONGEST_WAIT`] seconds loses its connection; no clause says so.
+//! - [`ServerPeer::exchange`](Peer::exchange): `served`: the answers are those of `serve` to the
+//!   whole stream.
+//! - [`TcpPeer::exchange`](Peer::exchange), [`carry`]: they end, and each peer can be asked again;
+//!   what they carry and count is shown by tests.
 //!
-//! `serve` requires that the node is sound (`IsSound`), as each node that was opened is, and leaves it so. An answer that would be longer
-//! than a frame may be is written as NodeFault Memory (`specs/Text`); that no answer is so long is
-//! not proved. An interrupted read or write is tried again: each read counts towards the limit, and
-//! one answer is written in at most as many writes as a stream may have reads. `Read`, `Write` and
-//! `ReadLimit` come where the reader or the writer fails or the limit is met; no clause says so,
-//! since nothing tells whether a reader fails.
+//! `serve` requires that the node is sound (`IsSound`), as each node that was opened is, and leaves
+//! it so. An answer that would be longer than a frame may be is written as NodeFault Memory
+//! (`specs/Text`); that no answer is so long is not proved. An interrupted read or write is tried
+//! again: each read counts towards the limit, and one answer is written in at most as many writes
+//! as a stream may have reads. `Read`, `Write` and `ReadLimit` come where the reader or the writer
+//! fails or the limit is met; no clause says so, since nothing tells whether a reader fails.
+//!
+//! # Not promised
+//!
+//! Only tested: what `listen`, `carry` and `TcpPeer` carry and count; that a connection that is
+//! waited for longer than a minute ends (`bench/hostile`); that calls with ample memory succeed;
+//! each octet of a stream as the last one that a reader gives or a writer takes. Neither proved nor
+//! tested: what a socket gives or takes.
 #![tactic(auto)]
 
 mod carrying;

@@ -86,8 +86,9 @@ impl<'a, N: Net> TcpPeer<'a, N> {
 impl<N: Net> Peer for TcpPeer<'_, N> {
     ghost is_ready = { λ _. Unit {0} };
 
-    /// `Write` where the connection is not made, or a write fails; `Read` and `ReadLimit` as the answers are read; `Memory`. A read or write that
-    /// waits longer than [`LONGEST_WAIT`](crate::LONGEST_WAIT) seconds fails.
+    /// `Write` where the connection is not made, or a write fails; `Read` and `ReadLimit` as the
+    /// answers are read; `Memory`. A read or write that waits longer than
+    /// [`LONGEST_WAIT`](crate::LONGEST_WAIT) seconds fails.
     fn exchange(&mut self, octets: &[u8]) -> Result<Vec<u8>, ServeFault> {
         let Ok(mut stream) = TcpStream::connect(self.net, self.address.as_str()) else {
             return Err(ServeFault::Write);
@@ -130,8 +131,8 @@ impl<D: Disk, M: Machine<Command, Outcome = Outcome, Question = Question, Answer
     for ServerPeer<D, M> {
     ghost is_ready = { λ peer. IsSound D.state octets_of M.commands peer.server.node };
 
-    /// `Memory` and `Write` where the server's answers find no memory. Another fault of the server is seen in its answers alone, as
-    /// through a connection.
+    /// `Memory` and `Write` where the server's answers find no memory. Another fault of the server
+    /// is seen in its answers alone, as through a connection.
     fn exchange(&mut self, octets: &[u8]) -> Result<Vec<u8>, ServeFault>
         requires { IsSound D.state octets_of M.commands self.old.server.node }
         ensures ready { IsSound D.state octets_of M.commands self.new.server.node }

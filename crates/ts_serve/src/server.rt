@@ -51,7 +51,7 @@ impl<D: Disk, M: Machine<Command, Outcome = Outcome, Question = Question, Answer
     ///
     /// # Errors
     ///
-    /// Memory that is refused. The node is given back.
+    /// Out of memory. The node is given back.
     pub fn new(
         alloc: Global,
         node: Node<D, Command, M>,

@@ -134,10 +134,11 @@ fn end_of(feed: &Feed) -> Result<(), ServeFault>
 ///
 /// # Errors
 ///
-/// `Read` and `Write` where the reader or the writer fails; `ReadLimit` where the stream has not ended after `READ_LIMIT` reads; `Cut`
-/// where it ends within a frame; `Frame` with the fault in a frame's place; `Memory` that is
-/// refused. The server has then answered the frames that were taken, and what was written is a
-/// front of those answers. A node's fault is answered, and the stream goes on.
+/// `Read` and `Write` where the reader or the writer fails; `ReadLimit` where the stream has not
+/// ended after `READ_LIMIT` reads; `Cut` where it ends within a frame; `Frame` with the fault in a
+/// frame's place; `Memory` that is refused. The server has then answered the frames that were
+/// taken, and what was written is a front of those answers. A node's fault is answered, and the
+/// stream goes on.
 pub fn serve<D, M, R, W>(
     server: &mut Server<D, M>,
     reader: &mut R,

@@ -7,19 +7,23 @@
 //! (`proofs/Judging.antt` has one lemma for each kind of row).
 //!
 //! ```text
-//! let list = SequenceOf::<OidRef<'_>>::read(element)?;    // one object identifier or more, each checked once
+//! // one object identifier or more, each checked once
+//! let list = SequenceOf::<OidRef<'_>>::read(element)?;
 //! for oid in list.iter() { .. }                            // which cannot fail
 //! let repeated = first_repeated::<OidRef<'_>>(element);   // without memory
 //! ```
 //!
-//! | Call | What its clause says |
-//! |---|---|
-//! | `SequenceOf::read` | the items are those of `some_of`; a refusal is its first fault |
-//! | `SequenceOf::iter`, `within`, `SequenceItems` | the items, in their order |
-//! | `next_item`, `tagged_as` | one item; an element of this tag |
-//! | `first_repeated` | the first item whose key an earlier one has |
-//! | `LastOctets::is_new` | whether a key ends in an octet in which no earlier one does |
-//! | `CertRule::code`, `Display` | the number and the name of a rule |
+//! - `SequenceOf::read`: the items are those of `some_of`; a refusal is its first fault.
+//! - `SequenceOf::iter`, `within`, `SequenceItems`: the items, in their order.
+//! - `next_item`, `tagged_as`: one item; an element of this tag.
+//! - `first_repeated`: the first item whose key an earlier one has.
+//! - `LastOctets::is_new`: whether a key ends in an octet in which no earlier one does.
+//! - `CertRule::code`, `Display`: the number and the name of a rule.
+//!
+//! # Not promised
+//!
+//! Only tested: worked lists. Neither proved nor tested: the time that `first_repeated` takes, and
+//! its stack (680 kB at most).
 #![tactic(auto)]
 
 mod collisions;

@@ -18,7 +18,7 @@ BeginsRecord octets = (rest : List ℕ) × (octets ≡ 0x54 ∷ 0x53 ∷ 0x52 �
 abbrev pub AreCertificate : List ℕ → Type 0
 AreCertificate octets = (c : Certificate) × IsCertificate octets c
 
--- they are a list of revoked certificates
+-- they are a CRL
 abbrev pub AreList : List ℕ → Type 0
 AreList octets = (c : CertificateList) × IsCertificateList octets c
 

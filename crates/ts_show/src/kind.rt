@@ -17,7 +17,7 @@ pub enum Kind {
     Record,
     /// A certificate (RFC 5280 4.1).
     Certificate,
-    /// A list of revoked certificates (RFC 5280 5.1).
+    /// A CRL (RFC 5280 5.1).
     List,
     /// A command of a trust store.
     Command,
@@ -95,7 +95,7 @@ fn are_question(alloc: Global, octets: &[u8]) -> Result<bool, AllocError>
 ///
 /// # Errors
 ///
-/// Memory that is refused.
+/// Out of memory.
 pub fn kind_of(alloc: Global, octets: &[u8]) -> Result<Kind, AllocError>
     ensures { IfOk result (IsKind octets.now) }
 {

@@ -1,21 +1,30 @@
-//! What octets hold, in lines that a person reads: a certificate, a list of revoked certificates, a
+//! What octets hold, in lines that a person reads: a certificate, a CRL, a
 //! command of a trust store, a question or a node's record.
 //!
 //! ```text
-//! let text = show(alloc, &octets, &other)?;       // `other`: the record's second disk, else nothing
+//! // `other`: the record's second disk, else nothing
+//! let text = show(alloc, &octets, &other)?;
 //! ```
 //!
-//! | Call | Clauses |
-//! |---|---|
-//! | [`kind_of`] | `IsKind` (`specs/Kind`): what octets hold, the first of the five that they are |
-//! | [`show`] | `IsShown` (`specs/Begins`): lines of printable characters of ASCII, each ended by a line feed; they begin with the word for the kind, and of a certificate and of a list with the digest that names it; of what is neither and begins with the tag of a SEQUENCE they are the first broken rule of each, with its place |
-//! | [`Kind::word`] | the word for a kind |
-//! | [`laws::one_kind`] | octets hold one kind of thing |
+//! - [`kind_of`]: `IsKind` (`specs/Kind`): what octets hold, the first of the five that they are.
+//! - [`show`]: `IsShown` (`specs/Begins`): lines of printable characters of ASCII, each ended by a
+//!   line feed; they begin with the word for the kind, and of a certificate and of a list with the
+//!   digest that names it; of what is neither and begins with the tag of a SEQUENCE they are the
+//!   first broken rule of each, with its place.
+//! - [`Kind::word`]: the word for a kind.
+//! - [`laws::one_kind`]: octets hold one kind of thing.
 //!
 //! What the other lines say of a certificate, a list, a command, a question and a record no clause
 //! says: tests show it. Serial numbers and the numbers of lists are hexadecimal digits. Of
 //! policyMappings, policyConstraints, authorityKeyIdentifier and issuingDistributionPoint the
 //! number of octets alone is shown, and of a distribution point nothing but its names.
+//!
+//! # Not promised
+//!
+//! Only tested: what the other lines say of a certificate, a list, a command, a question and a
+//! record (texts that were written by hand; OpenSSL says the same for the certificate and of the
+//! list); that memory is refused only where none can be had. That each call returns on all octets
+//! is proved; a test shows one of each kind with each octet replaced by 00, 7F, 80 and FF in turn.
 #![tactic(auto)]
 
 mod certificate;

@@ -1,4 +1,4 @@
-//! The lines of a list of revoked certificates.
+//! The lines of a CRL.
 
 use crate::extension::extension_lines;
 use crate::lines::Lines;

@@ -30,7 +30,7 @@ fn disk_line(lines: &mut Lines, key: &str, octets: &[u8]) -> Result<(), AllocErr
 ///
 /// # Errors
 ///
-/// Memory that is refused; on disks in memory a device fails for nothing else.
+/// Out of memory; on disks in memory a device fails for nothing else.
 fn fault_line(lines: &mut Lines, fault: Fault) -> Result<(), AllocError> {
     let mut line = lines.begin(0, "fault")?;
     line.word(match fault {

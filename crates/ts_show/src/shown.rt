@@ -120,7 +120,7 @@ fn lines_of(alloc: Global, kind: Kind, octets: &[u8], other: &[u8]) -> Result<Li
 ///
 /// # Errors
 ///
-/// Memory that is refused.
+/// Out of memory.
 pub fn show(alloc: Global, octets: &[u8], other: &[u8]) -> Result<Vec<u8>, AllocError>
     ensures { IfOk result (λ text. IsShown octets.now text.items) }
 {

@@ -1,4 +1,4 @@
--- A table of lists of revoked certificates, complete ones or deltas, and what commands do to it.
+-- A table of CRLs, complete ones or deltas, and what commands do to it.
 use Rattle.std.specs.Prelude.{ℕ, int_lt, nat_le, Bool, not, List, [], ◌∷◌, ◌++◌, length, suc}
 use Rattle.std.specs.Prelude.{Option, Some, None, option_map, Result, Ok, Err, if◌then◌else◌}
 use Rattle.std.specs.List.{find, remove}

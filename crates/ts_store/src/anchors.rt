@@ -56,7 +56,7 @@ impl Anchors {
     ///
     /// # Errors
     ///
-    /// Memory that is refused. Nothing is changed then.
+    /// Out of memory. Nothing is changed then.
     pub fn add(&mut self, alloc: Global, certificate: &[u8]) -> Result<Option<Refusal>, AllocError>
         ensures done { IfOk result (λ refusal. Becomes refusal self.old self.new
             (add_anchor certificate.now self.old)) }
@@ -76,7 +76,7 @@ impl Anchors {
     ///
     /// # Errors
     ///
-    /// Memory that is refused. Nothing is changed then.
+    /// Out of memory. Nothing is changed then.
     pub fn set_purposes(
         &mut self,
         alloc: Global,

@@ -24,7 +24,7 @@ pub enum Command {
         id: [u8; 16],
         anchor: [u8; 32],
     },
-    /// Adds a list of revoked certificates.
+    /// Adds a CRL.
     LoadCrl {
         id: [u8; 16],
         crl: CrlOctets,
@@ -61,7 +61,7 @@ impl Command {
         Ok(Command::AddAnchor { id, certificate })
     }
 
-    /// The command that adds these octets as a list of revoked certificates, which may be none.
+    /// The command that adds these octets as a CRL, which may be none.
     ///
     /// # Errors
     ///
@@ -92,7 +92,7 @@ impl Command {
     ///
     /// # Errors
     ///
-    /// Memory that is refused.
+    /// Out of memory.
     pub fn try_copy(&self, alloc: Global) -> Result<Command, AllocError>
         ensures { IfOk result (λ copy. copy ≡ self.now) }
     {
@@ -128,7 +128,7 @@ impl Command {
     ///
     /// # Errors
     ///
-    /// Memory that is refused.
+    /// Out of memory.
     pub fn read(alloc: Global, octets: &[u8]) -> Result<Option<Command>, AllocError>
         // What is read is encoded so.
         ensures found { IfOk result (λ read. IfSome read
@@ -151,7 +151,7 @@ impl Command {
     ///
     /// # Errors
     ///
-    /// Memory that is refused.
+    /// Out of memory.
     pub fn octets(&self, alloc: Global) -> Result<Vec<u8>, AllocError>
         ensures encoded { IfOk result (λ octets. octets.items ≡ encoding self.now) }
         ensures fits { Fits self.now }

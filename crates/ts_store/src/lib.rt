@@ -3,10 +3,12 @@
 //! ```text
 //! let command = Command::add_anchor(id, certificate)?;        // TooLong above the limits
 //! let octets = command.octets(alloc)?;                         // its one encoding
-//! let again = Command::read(alloc, &octets)?;                  // Some, exactly where the octets are one whole command
+//! // Some, exactly where the octets are one whole command
+//! let again = Command::read(alloc, &octets)?;
 //!
 //! let mut store = Store::new(alloc);
-//! let outcome = store.apply(1, &command)?;                     // Applied, Repeated(position) or Refused(why)
+//! // Applied, Repeated(position) or Refused(why)
+//! let outcome = store.apply(1, &command)?;
 //! ```
 //!
 //! A command is 16 octets of id, an octet of the kind and its fields, numbers being big endian: 01
@@ -15,22 +17,31 @@
 //! its purposes (`00` for any; else `01`, an octet of their number, and the contents octets of each
 //! after an octet of their length, strictly ascending); 06 nothing.
 //!
-//! | Call | Clauses |
-//! |---|---|
-//! | [`Command::add_anchor`], [`Command::load_crl`], [`CertificateOctets::new`], [`CrlOctets::new`] | `TooLong` exactly above the limit |
-//! | [`Purposes::new`] | `None` exactly where the list is longer than 16 or not strictly ascending |
-//! | [`Command::read`] | `found`, `only`: what is read is encoded so, and what is encoded so is read |
-//! | [`Command::octets`] | `encoded`: the encoding; `fits`: each command has one |
-//! | `impl ts_synod::Command`, `impl ts_synod::Codec` for [`Command`] | a command is one of the protocol, and is kept in a record by its one encoding (`specs/Octets`) |
-//! | [`laws::one_encoding`] | no two commands have one encoding, and no two lists of octets are one command's |
-//! | [`Anchors::add`], [`Anchors::withdraw`], [`Anchors::set_purposes`] | the table after the command, or its refusal, by the definition (`specs/Anchors`); at an `Err` nothing changes |
-//! | [`place_of_anchor`], [`place_of_crl`], [`place_of_slot`], [`digest`] | where an anchor or list of an id is, and the list of a slot; an id |
-//! | [`Crls::put`], [`Crls::remove`], [`Tables::change`] | the same for a table of lists, and of all tables (`specs/Lists`, `specs/Tables`) |
-//! | [`Store::new`], [`Store::apply`] | the definition's empty store, and its step with the step's outcome (`specs/Store`); at an `Err` nothing changes |
-//! | [`Store::first`], [`Store::taken`], [`Store::tables`], [`Store::anchors`], [`Store::crls`], [`Store::deltas`] | what the store's value says |
-//! | [`laws::one_step`] | of the store's definition: a command that is not applied leaves the tables; each takes one position; a new id is held with its position and outcome, and keeps them; the fold over two lists |
+//! - [`Command::add_anchor`], [`Command::load_crl`], [`CertificateOctets::new`],
+//!   [`CrlOctets::new`]: `TooLong` exactly above the limit.
+//! - [`Purposes::new`]: `None` exactly where the list is longer than 16 or not strictly ascending.
+//! - [`Command::read`]: `found`, `only`: what is read is encoded so, and what is encoded so is
+//!   read.
+//! - [`Command::octets`]: `encoded`: the encoding; `fits`: each command has one.
+//! - `impl ts_synod::Command`, `impl ts_synod::Codec` for [`Command`]: a command is one of the
+//!   protocol, and is kept in a record by its one encoding (`specs/Octets`).
+//! - [`laws::one_encoding`]: no two commands have one encoding, and no two lists of octets are one
+//!   command's.
+//! - [`Anchors::add`], [`Anchors::withdraw`], [`Anchors::set_purposes`]: the table after the
+//!   command, or its refusal, by the definition (`specs/Anchors`); at an `Err` nothing changes.
+//! - [`place_of_anchor`], [`place_of_crl`], [`place_of_slot`], [`digest`]: where an anchor or list
+//!   of an id is, and the list of a slot; an id.
+//! - [`Crls::put`], [`Crls::remove`], [`Tables::change`]: the same for a table of lists, and of all
+//!   tables (`specs/Lists`, `specs/Tables`).
+//! - [`Store::new`], [`Store::apply`]: the definition's empty store, and its step with the step's
+//!   outcome (`specs/Store`); at an `Err` nothing changes.
+//! - [`Store::first`], [`Store::taken`], [`Store::tables`], [`Store::anchors`], [`Store::crls`],
+//!   [`Store::deltas`]: what the store's value says.
+//! - [`laws::one_step`]: of the store's definition: a command that is not applied leaves the
+//!   tables; each takes one position; a new id is held with its position and outcome, and keeps
+//!   them; the fold over two lists.
 //!
-//! A list of revoked certificates is kept in the slot of its issuer, its issuing distribution point
+//! A CRL is kept in the slot of its issuer, its issuing distribution point
 //! and its authority key identifier; complete lists and deltas have slots of their own.
 //! [`StoredCrl::crl`] lends the list and [`TrustAnchor::certificate`] the certificate, which are
 //! read once, when they come.
@@ -40,7 +51,12 @@
 //! they would in a table whose hash is known. A load is compared with the lists that are kept, at
 //! most 1,024.
 //!
-//! Memory that is refused is answered as `AllocError`.
+//! Out of memory is answered as `AllocError`.
+//!
+//! # Not promised
+//!
+//! Only tested: that the calls that take memory succeed when there is enough. Neither proved nor
+//! tested: time.
 #![tactic(auto)]
 
 mod anchor;

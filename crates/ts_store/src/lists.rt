@@ -1,4 +1,4 @@
-//! A table of lists of revoked certificates, complete ones or deltas.
+//! A table of CRLs, complete ones or deltas.
 
 ghost use Rattle.std.specs.List.{find};
 ghost use Rattle.std.specs.Prelude.{◌≡◌, ◌<◌, ◌++◌, ◌∷◌, [], List, Option, Some, None, length};
@@ -55,7 +55,7 @@ impl Crls {
     ///
     /// # Errors
     ///
-    /// Memory that is refused. Nothing is changed then.
+    /// Out of memory. Nothing is changed then.
     pub fn put(&mut self, alloc: Global, new: StoredCrl) -> Result<Option<Refusal>, AllocError>
         ensures done { IfOk result (λ refusal. Becomes refusal self.old self.new
             (put_list new self.old)) }
@@ -93,7 +93,7 @@ fn has_slot(alloc: Global, held: &StoredCrl, new: Crl<'_>) -> Result<bool, Alloc
 ///
 /// # Errors
 ///
-/// Memory that is refused.
+/// Out of memory.
 pub fn place_of_slot(
     alloc: Global,
     lists: &[StoredCrl],

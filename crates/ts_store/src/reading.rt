@@ -132,7 +132,7 @@ fn certificate_of(alloc: Global, octets: &[u8]) -> Result<Option<CertificateOcte
     Ok(CertificateOctets::new(copy).ok())
 }
 
-/// The octets of a list of revoked certificates.
+/// The octets of a CRL.
 fn crl_of(alloc: Global, octets: &[u8]) -> Result<Option<CrlOctets>, AllocError>
     ensures { IfOk result (λ found. MatchOption found
         ((content : List ℕ) → length content ≤ 4194304 → octets.now ≡ blob32 content → ⊥)

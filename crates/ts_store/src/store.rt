@@ -50,7 +50,7 @@ impl Store {
     ///
     /// # Errors
     ///
-    /// Memory that is refused. Nothing is changed then.
+    /// Out of memory. Nothing is changed then.
     pub fn apply(&mut self, position: u32, command: &Command) -> Result<Outcome, AllocError>
         requires { position ≡ suc self.now.taken }
         ensures done { IfOk result (λ outcome. step position command.now self.old
@@ -111,7 +111,7 @@ impl Store {
         self.tables.anchors()
     }
 
-    /// The complete lists of revoked certificates, in their order.
+    /// The complete CRLs, in their order.
     pub fn crls(&self) -> &[StoredCrl]
         ensures { result.now ≡ self.now.tables.complete }
     {

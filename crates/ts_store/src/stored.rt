@@ -2,7 +2,7 @@
 
 use ts_crl::OwnedCrl;
 
-/// A list of revoked certificates of a store: the SHA-256 of its octets, and the list.
+/// A CRL of a store: the SHA-256 of its octets, and the list.
 #[derive(Debug, Drop)]
 pub struct StoredCrl {
     pub id: [u8; 32],

@@ -15,7 +15,7 @@ use std::alloc::{AllocError, Global};
 use std::marker::Model;
 use ts_crl::{CrlFault, OwnedCrl, OwnedCrlFault};
 
-/// The trust anchors of a store, its complete lists of revoked certificates and its deltas, each in
+/// The trust anchors of a store, its complete CRLs and its deltas, each in
 /// the order of the store.
 #[derive(Drop)]
 pub struct Tables {
@@ -69,7 +69,7 @@ impl Tables {
     ///
     /// # Errors
     ///
-    /// Memory that is refused. Nothing is changed then.
+    /// Out of memory. Nothing is changed then.
     pub fn change(
         &mut self,
         alloc: Global,

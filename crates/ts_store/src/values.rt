@@ -30,7 +30,7 @@ impl CertificateOctets {
     ///
     /// # Errors
     ///
-    /// Memory that is refused.
+    /// Out of memory.
     pub fn try_copy(&self, alloc: Global) -> Result<CertificateOctets, AllocError>
         ensures { IfOk result (λ copy. copy ≡ self.now) }
     {
@@ -62,7 +62,7 @@ impl CertificateOctets {
     }
 }
 
-/// Octets that a command calls a list of revoked certificates: at most 4,194,304, which may or may
+/// Octets that a command calls a CRL: at most 4,194,304, which may or may
 /// not be one.
 #[derive(Debug, Drop)]
 pub struct CrlOctets {
@@ -82,7 +82,7 @@ impl CrlOctets {
     ///
     /// # Errors
     ///
-    /// Memory that is refused.
+    /// Out of memory.
     pub fn try_copy(&self, alloc: Global) -> Result<CrlOctets, AllocError>
         ensures { IfOk result (λ copy. copy ≡ self.now) }
     {

@@ -5,12 +5,12 @@
 //! run(&rt, &task)?;                                               // `Fault` says why a task fails
 //! ```
 //!
-//! | Call | What its clause says |
-//! |---|---|
-//! | [`run`] | it is safe and ends, and each call that it makes is made where its contract allows it; what it prints and which fault it ends with, no clause says |
-//! | [`read_file`] | `short`: no more octets than a frame may have |
-//! | [`submit`], [`ask`], [`tend`] | the peer that is asked can be asked again |
-//! | [`format_files`], [`migrate_files`], [`open_disks`] | they end; what files give and take, no contract can say |
+//! - [`run`]: it is safe and ends, and each call that it makes is made where its contract allows
+//!   it; what it prints and which fault it ends with, no clause says.
+//! - [`read_file`]: `short`: no more octets than a frame may have.
+//! - [`submit`], [`ask`], [`tend`]: the peer that is asked can be asked again.
+//! - [`format_files`], [`migrate_files`], [`open_disks`]: they end; what files give and take, no
+//!   contract can say.
 #![tactic(auto)]
 
 mod fault;

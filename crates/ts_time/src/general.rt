@@ -17,8 +17,8 @@ use ts_der::DerFault;
 ///
 /// # Errors
 ///
-/// `TimeForm` where the octets have another form, a fraction or an offset among them, or where there is no such
-/// day, hour, minute or second; second 60 is none.
+/// `TimeForm` where the octets have another form, a fraction or an offset among them, or where
+/// there is no such day, hour, minute or second; second 60 is none.
 pub fn read_general(content: &[u8]) -> Result<Moment, DerFault>
     ensures found { IfOk result (IsGeneral content.now) }
     ensures only { (m : ℤ) → IsGeneral content.now m → result ≡ Ok m }

@@ -17,8 +17,8 @@ use ts_der::DerFault;
 ///
 /// # Errors
 ///
-/// `TimeForm` where the octets have another form, one without seconds or with an offset among them, or where there is
-/// no such day, hour, minute or second; second 60 is none.
+/// `TimeForm` where the octets have another form, one without seconds or with an offset among them,
+/// or where there is no such day, hour, minute or second; second 60 is none.
 pub fn read_utc(content: &[u8]) -> Result<Moment, DerFault>
     ensures found { IfOk result (IsUtc content.now) }
     ensures only { (m : ℤ) → IsUtc content.now m → result ≡ Ok m }

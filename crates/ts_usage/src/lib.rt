@@ -8,12 +8,16 @@
 //! There are three command lines, each of one level, so that the parser's contracts say all of it:
 //! the program's own, that of `trustd command` and that of `trustd question`.
 //!
-//! | Call | What its clause says |
-//! |---|---|
-//! | [`program`], [`commands`], [`questions`] | the command line is the one of that name in `specs/Shapes`, with each argument: its kind, how often it may be given, and whether it has to be |
+//! - [`program`], [`commands`], [`questions`]: the command line is the one of that name in
+//!   `specs/Shapes`, with each argument: its kind, how often it may be given, and whether it has to
+//!   be.
 //!
 //! The text of help and of errors is what `clap` makes of the words here; no clause says it. The
 //! error is that memory ran out.
+//!
+//! # Not promised
+//!
+//! Neither proved nor tested: the texts of help.
 #![tactic(auto)]
 
 mod arguments;

@@ -154,7 +154,7 @@ impl Feed {
     ///
     /// # Errors
     ///
-    /// Memory that is refused. Nothing changes then.
+    /// Out of memory. Nothing changes then.
     pub fn push(&mut self, piece: &[u8]) -> Result<(), AllocError>
         ensures pushed { OnOk result (self.new ≡ self.old ++ piece.now) }
         ensures unchanged { OnErr result (self.new ≡ self.old) }
@@ -176,7 +176,7 @@ impl Feed {
     ///
     /// # Errors
     ///
-    /// Memory that is refused; `Frame` with the fault that is in a frame's place. Nothing changes
+    /// Out of memory; `Frame` with the fault that is in a frame's place. Nothing changes
     /// then: a fault is answered again, whatever comes after it.
     pub fn take(&mut self) -> Result<Option<Frame>, FeedError>
         ensures frame { IfOk result (λ found. IfSome found

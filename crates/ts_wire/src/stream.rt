@@ -35,7 +35,7 @@ fn drain(feed: &mut Feed, frames: &mut Vec<Frame>) -> Result<Option<FrameFault>,
 ///
 /// # Errors
 ///
-/// Memory that is refused.
+/// Out of memory.
 pub fn decode(
     alloc: Global,
     pieces: &[Vec<u8>],

@@ -250,8 +250,8 @@ fn append(alloc: Global, out: &mut Vec<u8>, size: [u8; 4], body: &[u8]) -> Resul
 ///
 /// # Errors
 ///
-/// `Length` exactly where the frame's length would be above 8,388,608, and else only memory that is refused. Nothing is written
-/// then.
+/// `Length` exactly where the frame's length would be above 8,388,608, and else only out of memory.
+/// Nothing is written then.
 pub fn write_frame(alloc: Global, out: &mut Vec<u8>, frame: &Frame) -> Result<(), WriteError>
     ensures encoded { OnOk result (out.new.items ≡ out.old.items ++ encoding frame.now) }
     ensures short { OnOk result (2 + length (fields frame.now) ≤ 8388608) }
