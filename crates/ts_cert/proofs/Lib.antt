@@ -13,3 +13,4 @@ pub mod OneEncoding
 pub mod Judging
 pub mod StatedValues
 pub mod StatedReaders
+pub mod EncodedValues

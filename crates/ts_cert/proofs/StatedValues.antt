@@ -209,7 +209,7 @@ answers-itself {A} format known t e r some answers = alike (result_ok r) ∙ ans
 -- ---- certificates
 
 -- what is found among extensions whose values break no rule is one of them
-find-sound : (holder : Holder) (p : Extension → Bool) (xs : List Extension) (x : Extension) → AreValid holder xs → find p xs ≡ Some x → IsValid holder x × (p x ≡ true)
+pub find-sound : (holder : Holder) (p : Extension → Bool) (xs : List Extension) (x : Extension) → AreValid holder xs → find p xs ≡ Some x → IsValid holder x × (p x ≡ true)
 find-sound holder p [] x are e = absurd cc
 find-sound holder p (y ∷ ys) x are e = by_test (p y) refl (find-sound holder p ys x are.1) e
   where

@@ -7,10 +7,12 @@ use Rattle.std.specs.Result.{result_ok}
 use Rattle.std.specs.Str.{bytes_eq}
 use Rattle.ts_der.specs.declared.fault.Fault.{Fault}
 use Rattle.ts_der.specs.Element.{Tlv, encoded_at}
+use Rattle.ts_shape.specs.Fields.{Within}
 use Rattle.ts_shape.specs.Items.{alone, of_tag}
 use Rattle.ts_ext.specs.declared.known.Known.{Known}
 use Rattle.ts_ext.specs.Ext.{layout_of}
 use Rattle.ts_ext.specs.Extension.{Extension}
+use Rattle.ts_ext.specs.Stated.{IsStated}
 use Rattle.ts_ext.specs.Known.{identifier_of}
 use Rattle.ts_cert.specs.Certificate.{Tbs, all_extensions}
 
@@ -31,3 +33,10 @@ value_of_octets known reading octets =
 unfoldable pub stated : {A : Type 0} → Known → (Tlv → Result A Fault) → Tbs → Option A
 stated known reading t = option_and_then (λ x. value_of_octets known reading x.extnValue)
     (known_extension known t)
+
+-- what this extension says, read so, is what its octets encode: nothing where it does not stand,
+-- else the one value of them
+abbrev pub IsEncoded : {A : Type 0} → Known → (Tlv → Result A Fault) → (List ℕ → A → Type 0) → Tbs
+    → Type 0
+IsEncoded known reading Encodes t = IsStated (Within (layout_of known).tag Encodes)
+    (known_extension known t) (stated known reading t)

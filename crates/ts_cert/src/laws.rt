@@ -10,7 +10,19 @@ ghost use Rattle.ts_ext.specs.Known.{known_at, identifier_of};
 ghost use Rattle.ts_ext.specs.Rules.{broken_rule};
 ghost use Rattle.ts_cert.specs.Certificate.{Tbs, Certificate};
 ghost use Rattle.ts_cert.specs.Encoding.{IsTbs, IsCertificate};
-ghost use Rattle.ts_cert.specs.Stated.{known_extension, stated};
+ghost use Rattle.ts_ext.specs.declared.known.Known.TheVariants as extension;
+ghost use Rattle.ts_ext.specs.AuthorityKey.{AreOctetsOf, IsAuthorityKey, authority_key_of};
+ghost use Rattle.ts_ext.specs.AuthorityKey.{octets_of};
+ghost use Rattle.ts_ext.specs.Encoding.{AreCertificatePolicies, AreKeyPurposes, ArePolicyMappings};
+ghost use Rattle.ts_ext.specs.Encoding.{IsBasicConstraints, IsKeyUsage, IsPolicyConstraints};
+ghost use Rattle.ts_ext.specs.Encoding.{IsSkipCerts};
+ghost use Rattle.ts_ext.specs.GeneralNames.{AreGeneralNames, general_names_of};
+ghost use Rattle.ts_ext.specs.NameConstraints.{AreConstraints, name_constraints_of};
+ghost use Rattle.ts_ext.specs.Points.{ArePoints, points_of};
+ghost use Rattle.ts_ext.specs.Reading.{basic_constraints_of, certificate_policies_of};
+ghost use Rattle.ts_ext.specs.Reading.{ext_key_usage_of, key_usage_of, policy_constraints_of};
+ghost use Rattle.ts_ext.specs.Reading.{policy_mappings_of, skip_certs_of};
+ghost use Rattle.ts_cert.specs.Stated.{IsEncoded, known_extension, stated};
 
 /// No two lists of octets are one certificate, and none is two.
 pub fn one_certificate()
@@ -38,4 +50,38 @@ pub fn no_missing_value()
         → (known : Known) → known_at CertificateHolder (identifier_of known) ≡ Some known
         → (v : ExtValue) → stated known (content_of known) c.tbsCertificate ≡ Some v
         → broken_rule v ≡ None }
+{}
+
+/// What a certificate says by each of its extensions is what the octets of the extension encode:
+/// nothing where it does not stand, else the one value of them (RFC 5280 4.2). The readers of
+/// `Cert` answer these values.
+pub fn each_value_is_encoded()
+    ensures authority_key_identifier { (octets : List ℕ) (c : Certificate) → IsCertificate octets c
+        → IsEncoded extension.AuthorityKeyIdentifier authority_key_of IsAuthorityKey c.tbsCertificate }
+    ensures subject_key_identifier { (octets : List ℕ) (c : Certificate) → IsCertificate octets c
+        → IsEncoded extension.SubjectKeyIdentifier octets_of AreOctetsOf c.tbsCertificate }
+    ensures key_usage { (octets : List ℕ) (c : Certificate) → IsCertificate octets c
+        → IsEncoded extension.KeyUsage key_usage_of IsKeyUsage c.tbsCertificate }
+    ensures certificate_policies { (octets : List ℕ) (c : Certificate) → IsCertificate octets c
+        → IsEncoded extension.CertificatePolicies certificate_policies_of AreCertificatePolicies c.tbsCertificate }
+    ensures policy_mappings { (octets : List ℕ) (c : Certificate) → IsCertificate octets c
+        → IsEncoded extension.PolicyMappings policy_mappings_of ArePolicyMappings c.tbsCertificate }
+    ensures subject_alt_name { (octets : List ℕ) (c : Certificate) → IsCertificate octets c
+        → IsEncoded extension.SubjectAltName general_names_of AreGeneralNames c.tbsCertificate }
+    ensures issuer_alt_name { (octets : List ℕ) (c : Certificate) → IsCertificate octets c
+        → IsEncoded extension.IssuerAltName general_names_of AreGeneralNames c.tbsCertificate }
+    ensures basic_constraints { (octets : List ℕ) (c : Certificate) → IsCertificate octets c
+        → IsEncoded extension.BasicConstraints basic_constraints_of IsBasicConstraints c.tbsCertificate }
+    ensures name_constraints { (octets : List ℕ) (c : Certificate) → IsCertificate octets c
+        → IsEncoded extension.NameConstraints name_constraints_of AreConstraints c.tbsCertificate }
+    ensures policy_constraints { (octets : List ℕ) (c : Certificate) → IsCertificate octets c
+        → IsEncoded extension.PolicyConstraints policy_constraints_of IsPolicyConstraints c.tbsCertificate }
+    ensures extended_key_usage { (octets : List ℕ) (c : Certificate) → IsCertificate octets c
+        → IsEncoded extension.ExtendedKeyUsage ext_key_usage_of AreKeyPurposes c.tbsCertificate }
+    ensures crl_distribution_points { (octets : List ℕ) (c : Certificate) → IsCertificate octets c
+        → IsEncoded extension.CrlDistributionPoints points_of ArePoints c.tbsCertificate }
+    ensures inhibit_any_policy { (octets : List ℕ) (c : Certificate) → IsCertificate octets c
+        → IsEncoded extension.InhibitAnyPolicy skip_certs_of IsSkipCerts c.tbsCertificate }
+    ensures freshest_crl { (octets : List ℕ) (c : Certificate) → IsCertificate octets c
+        → IsEncoded extension.FreshestCrl points_of ArePoints c.tbsCertificate }
 {}

@@ -40,7 +40,8 @@
 //!   `inhibit_any_policy`, `freshest_crl`: what the certificate says by that extension: nothing
 //!   where it does not stand, else the value that its octets encode (their clauses (`stated`)).
 //! - law (`laws`): of a certificate, no known extension stands without its value: these readers
-//!   pass over no fault (`no_missing_value`).
+//!   pass over no fault (`no_missing_value`); what each of them answers is exactly the value that
+//!   the octets of its extension encode (`each_value_is_encoded`).
 //! - `Cert::is_self_issued`: true exactly where issuer and subject are one name in canonical form.
 //! - `OwnedCert::read`: a copy of the octets, or `Memory`, exactly where no rule is broken; else
 //!   `Unreadable` with the first rule that is (`kept`, `refused`).

@@ -27,7 +27,7 @@ use Rattle.ts_crl.specs.Entries.{entries_of}
 use Rattle.ts_crl.specs.List.{RevokedCertificate, CertificateList}
 use Rattle.ts_crl.specs.Profile.{as_scope, scope_of}
 use Rattle.ts_crl.specs.Rules.{as_ruled, KeepsIfAny, EntriesKeep}
-use Rattle.ts_crl.specs.Stated.{IsValueOf, IsStated}
+use Rattle.ts_ext.specs.Stated.{IsValueOf, IsStated}
 use Rattle.ts_crl.specs.Values.{is_known, extensions_of, entry_extensions_of, ok_of, value_in_octets, value_if_any, value_among, as_number, number_of, with_number, base_of, as_key, key_of, as_reason, reason_of, as_date, date_of}
 
 -- ---- the form of one extension

@@ -5,7 +5,6 @@ pub mod Version
 pub mod Reading
 pub mod Rules
 pub mod Values
-pub mod Stated
 pub mod Profile
 pub mod Encoding
 pub mod Table

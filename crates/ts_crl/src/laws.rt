@@ -15,7 +15,7 @@ ghost use Rattle.ts_crl.specs.List.{TbsCertList, CertificateList};
 ghost use Rattle.ts_crl.specs.Encoding.{IsTbsCertList, IsCertificateList};
 ghost use Rattle.ts_crl.specs.Entries.{entries_of};
 ghost use Rattle.ts_crl.specs.Profile.{scope_of};
-ghost use Rattle.ts_crl.specs.Stated.{IsStated};
+ghost use Rattle.ts_ext.specs.Stated.{IsStated};
 ghost use Rattle.ts_crl.specs.Values.{is_known, extensions_of, entry_extensions_of, number_of};
 ghost use Rattle.ts_crl.specs.Values.{base_of, key_of, reason_of, date_of};
 

@@ -27,7 +27,7 @@ one_attr a b =
       λ e. h.1 (ap (λ (c : CanonAttr). c.kind) e, (ap (λ (c : CanonAttr). c.tag) e, ap (λ (c : CanonAttr). c.value) e)),
     )
 
-decides : (a b : List (List Attr)) → Decides (is_same_name a b) (canon_name a ≡ canon_name b)
+pub decides : (a b : List (List Attr)) → Decides (is_same_name a b) (canon_name a ≡ canon_name b)
 unfolding is_same_name
 decides a b = each (pointwise is_same_attr) (each is_same_attr one_attr) (canon_name a) (canon_name b)
 

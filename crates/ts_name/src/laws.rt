@@ -1,9 +1,9 @@
 //! Laws about the definitions that the clauses of this crate cite. Each is the contract of a
 //! function that does nothing.
 
-ghost use Rattle.std.specs.Prelude.{◌≡◌, List};
+ghost use Rattle.std.specs.Prelude.{◌≡◌, ◌↔◌, List, true};
 ghost use Rattle.ts_name.specs.Canon.{Attr};
-ghost use Rattle.ts_name.specs.Sameness.{canon_name, IsWithin};
+ghost use Rattle.ts_name.specs.Sameness.{canon_name, is_same_name, IsWithin};
 
 /// To be one name is an equivalence.
 pub fn same_is_an_equivalence()
@@ -12,6 +12,11 @@ pub fn same_is_an_equivalence()
         → canon_name b ≡ canon_name a }
     ensures chained { (a b c : List (List Attr)) → canon_name a ≡ canon_name b
         → canon_name b ≡ canon_name c → canon_name a ≡ canon_name c }
+{}
+
+/// Two names are the same exactly where their canonical forms are equal (RFC 5280 7.1).
+pub fn same_is_one_canonical_form()
+    ensures { (a b : List (List Attr)) → (is_same_name a b ≡ true) ↔ (canon_name a ≡ canon_name b) }
 {}
 
 /// To lie within a subtree is an order on names, up to names that are one.

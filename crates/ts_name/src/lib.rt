@@ -58,7 +58,9 @@
 //!   none does (its clause (`Holds`)).
 //! - `FromElement` of `OidRef`, `General` and `Subtree`: lists of them are read by `SequenceOf`; a
 //!   `Subtree` there is a SEQUENCE (`reading`, `record_of`).
-//! - laws (`laws`): to be one name is an equivalence; within is reflexive and transitive, and names
+//! - laws (`laws`): two names are the same exactly where their canonical forms are equal
+//!   (`same_is_one_canonical_form`); to be one name is an equivalence; within is reflexive and
+//!   transitive, and names
 //!   within one another are one; names that are one are interchangeable in `within`
 //!   (`same_is_an_equivalence`, `within_is_an_order`, `same_names_are_interchangeable`).
 //!

@@ -86,8 +86,8 @@ impl<D: Disk, C: Codec> Record<D, C> {
     /// # Errors
     ///
     /// `NotFormatted` where the old disk has no header of version 1, `Damaged` where what follows
-    /// it can't be read, and memory that is refused: the two disks are as they were. `DiskFailed`:
-    /// they hold no record, if they held none.
+    /// it can't be read, and out of memory: the two disks are as they were. `DiskFailed`: two fresh
+    /// disks hold no record, or the whole one.
     pub fn migrate(alloc: Global, old: &mut D, a: &mut D, b: &mut D) -> Result<u32, Fault>
         // Where the old disk opens to facts, each pair of images opens to them afterwards, as the
         // record of the same member, from the first disk; or memory or a device failed.
