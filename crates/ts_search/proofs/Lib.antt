@@ -5,3 +5,4 @@ pub mod Rows
 pub mod Trying
 pub mod OneList
 pub mod OneAnswer
+pub mod Passing

@@ -1,9 +1,14 @@
 -- What the trial of chains says. Only private clauses cite these words.
-use Rattle.std.specs.Prelude.{◌≤◌, ℕ, List, length, map, Option, Some, None}
+use Rattle.std.specs.Prelude.{◌≤◌, ℕ, List, length, map, Option, Some, None, Vec}
+use Rattle.std.specs.Borrow.{Bor}
+use Rattle.std.specs.declared.alloc.Global.{Global}
 use Rattle.std.specs.List.{AllByRecursion}
 use Rattle.ts_cert.specs.Certificate.{Certificate}
 use Rattle.ts_path.specs.Asked.{TrustAnchor, Asked}
+use Rattle.ts_path.specs.Chain.{Question}
+use Rattle.ts_path.specs.Verdict.{AreAccepted}
 use Rattle.ts_search.specs.Search.{Search, certificates_at, NoneUnder, IsFirstUnder, NoneOf}
+use Rattle.ts_search.specs.Search.{IsValid}
 use Rattle.ts_search.specs.Search.{IsFirst}
 use Rattle.ts_search.specs.declared.trial.Success.{Success}
 use Rattle.ts_search.specs.declared.answer.Answer.{Answer}
@@ -16,6 +21,11 @@ IsTriable certificates chain = (1 ≤ length (certificates_at certificates chain
 
 abbrev pub AreTriable : List Certificate → List (List ℕ) → Type 0
 AreTriable certificates chains = AllByRecursion (IsTriable certificates) chains
+
+-- a question is valid, and these are the policies that are accepted, or it is not
+abbrev pub ValidOrNot : Question → Option (Vec (Bor (List ℕ)) Global) → Type 0
+ValidOrNot q None = ¬ (IsValid q)
+ValidOrNot q (Some policies) = IsValid q × AreAccepted q (map (λ p. p.now) policies.items)
 
 -- the first anchor under which the chain is valid, or there is none
 abbrev pub FirstOrNone : (TrustAnchor → Asked) → List Certificate → List TrustAnchor

@@ -18,12 +18,14 @@
 //!
 //! - [`search`]: the answer is that over all candidates in order (`IsAnswer`); out of memory is its
 //!   only error.
+//! - [`certificates_at`]: the certificates at the places of a chain.
 //! - [`laws::one_answer`]: the candidates in order are one list, so that a search has one answer.
 //!
 //! # Not promised
 //!
-//! Only tested: that a search with ample memory answers. Neither proved nor tested: time; a chain
-//! of each candidate is judged anew, its signatures included.
+//! Only tested: that a search with ample memory answers. Neither proved nor tested: time. An anchor
+//! that has not the name of a candidate's first issuer is passed over before a signature is
+//! computed; a chain of each other candidate is judged anew, its signatures included.
 #![tactic(auto)]
 
 mod answer;
@@ -34,4 +36,5 @@ mod trial;
 mod walk;
 
 pub use answer::Answer;
+pub use trial::certificates_at;
 pub use walk::{MAX_CANDIDATES, MAX_LENGTH, MAX_POOL, search};

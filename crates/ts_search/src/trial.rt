@@ -1,10 +1,12 @@
 //! Candidates are tried: each under the anchors in their order.
 
 ghost use Rattle.std.specs.Prelude.{◌≡◌, ◌≤◌, length, map, slice_get, option_map, IfOk};
+ghost use Rattle.std.specs.Prelude.{◌↔◌, IsTrue};
+ghost use Rattle.ts_name.specs.Sameness.{canon_name};
 ghost use Rattle.ts_cert.specs.CertView.{cert_in};
 ghost use Rattle.ts_path.specs.View.{anchor_in, asked_under};
-ghost use Rattle.ts_search.specs.Search.{certificates_at as certificates_of};
-ghost use Rattle.ts_search.specs.Trial.{AreTriable, FirstOf, FirstOrNone, IsTriable};
+ghost use Rattle.ts_search.specs.Search.{certificates_at as certificates_of, question};
+ghost use Rattle.ts_search.specs.Trial.{AreTriable, FirstOf, FirstOrNone, IsTriable, ValidOrNot};
 ghost use Rattle.ts_search.specs.View.{search_among};
 
 use crate::answer::Answer;
@@ -28,8 +30,12 @@ fn certificate_at<'a>(certificates: &[Cert<'a>], place: u8) -> Option<Cert<'a>>
     certificates.get(place as usize).copied()
 }
 
-/// The certificates at the places of a chain.
-fn certificates_at<'a>(
+/// The certificates at the places of a chain. A place at which there is none is passed over.
+///
+/// # Errors
+///
+/// Out of memory.
+pub fn certificates_at<'a>(
     alloc: Global,
     certificates: &[Cert<'a>],
     chain: &[u8],
@@ -44,6 +50,40 @@ fn certificates_at<'a>(
         }
     }
     Ok(found)
+}
+
+/// Whether an anchor has the name of a certificate's issuer.
+fn is_issuer(anchor: &Anchor<'_>, cert: &Cert<'_>) -> bool
+    ensures { IsTrue result ↔ (canon_name (cert_in cert.now).tbsCertificate.issuer
+        ≡ canon_name (anchor_in anchor.now).name) }
+{
+    cert.issuer().same(anchor.name)
+}
+
+/// The policies that are accepted where a chain is valid under an anchor; `None` where it is not.
+fn policies_under<'a, S: SignatureCheck>(
+    alloc: Global,
+    chain: &[Cert<'a>],
+    anchor: &Anchor<'a>,
+    inputs: &Inputs<'a>,
+    crls: &Crls<'_>,
+    check: &S,
+) -> Result<Option<Vec<&'a [u8]>>, AllocError>
+    requires some { 1 ≤ length chain.now }
+    requires few { length chain.now ≤ 16 }
+    ensures { IfOk result (λ found. ValidOrNot (question
+        (asked_under inputs.now crls.now (S.accepts check.now)) (map cert_in chain.now)
+        (anchor_in anchor.now)) found) }
+{
+    // Why: under an anchor of another name condition 7 fails, whatever the signature is, and so no
+    // signature is computed for it (RFC 5280 6.1.3 (a) (4)).
+    if !is_issuer(anchor, &chain[0]) {
+        return Ok(None);
+    }
+    match validate(alloc, anchor, chain, inputs, crls, check)? {
+        Verdict::Valid(policies) => Ok(Some(policies)),
+        Verdict::Invalid { .. } => Ok(None),
+    }
 }
 
 /// The first anchor under which a chain is valid.
@@ -62,14 +102,8 @@ fn first_anchor<'a, S: SignatureCheck>(
         (map anchor_in anchors.now) found) }
 {
     for number in 0..anchors.len() {
-        if let Verdict::Valid(policies) = validate(
-            alloc,
-            &anchors[number],
-            chain,
-            inputs,
-            crls,
-            check,
-        )? {
+        let anchor = &anchors[number];
+        if let Some(policies) = policies_under(alloc, chain, anchor, inputs, crls, check)? {
             return Ok(Some(Success {
                 anchor: number,
                 policies,

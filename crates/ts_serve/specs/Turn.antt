@@ -1,28 +1,17 @@
 -- A server: a node, and an outbox of its messages. What it does with one request.
-use Rattle.std.specs.Prelude.{◌≡◌, ◌+◌, ◌^◌, List, [], ◌∷◌, ◌++◌, map, take, length, true, false}
-use Rattle.std.specs.Prelude.{Result, OnOk, IsErrOf}
+use Rattle.std.specs.Prelude.{◌≡◌, ◌+◌, List, [], ◌∷◌, ◌++◌, map, take, length}
+use Rattle.std.specs.Prelude.{Result}
 use Rattle.ts_disk.specs.Disk.{State}
-use Rattle.ts_journal.specs.Images.{EveryPair}
-use Rattle.ts_synod.specs.declared.message.Fact.{Fact}
-use Rattle.ts_synod.specs.declared.message.Message.{Message}
-use Rattle.ts_synod.specs.Force.{SameForce}
-use Rattle.ts_synod.specs.Laws.{node_with}
-use Rattle.ts_synod.specs.Node as world
 use Rattle.ts_synod.specs.Store.{Store}
 use Rattle.ts_store.specs.declared.command.Command.{Command}
 use Rattle.ts_store.specs.declared.outcome.Outcome.{Outcome}
 use Rattle.ts_question.specs.Question.{Asked}
 use Rattle.ts_question.specs.Reply.{Answered}
-use Rattle.ts_record.specs.Record.{OpensToForce}
-use Rattle.ts_node.specs.declared.node.Node.{Node}
 use Rattle.ts_node.specs.declared.input.Input.{Input}
 use Rattle.ts_node.specs.declared.input.Input.TheVariants as inputs
 use Rattle.ts_node.specs.declared.input.Output.{Output}
 use Rattle.ts_node.specs.declared.input.NodeFault.{NodeFault}
-use Rattle.ts_node.specs.declared.input.NodeFault.TheVariants.{DiskFailed, Broken}
-use Rattle.ts_node.specs.declared.input.NodeFault.TheVariants.{GenerationsExhausted}
-use Rattle.ts_node.specs.Inputs.{IsInput}
-use Rattle.ts_node.specs.Node.{Compacts, Failed, Handles, Moments, config, facts, owner, volatile}
+use Rattle.ts_node.specs.Call.{IsCall}
 use Rattle.ts_store.specs.Octets.{octets_of}
 use Rattle.ts_wire.specs.declared.frame.Frame.{Frame}
 use Rattle.ts_wire.specs.declared.frame.Frame.TheVariants as frames

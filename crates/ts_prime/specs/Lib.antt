@@ -1,0 +1,3 @@
+pub mod Prime
+pub mod Primes
+pub mod Certificate

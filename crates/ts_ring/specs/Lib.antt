@@ -1,0 +1,3 @@
+pub mod Modular
+pub mod Expression
+pub mod Polynomial

@@ -1,0 +1,6 @@
+pub mod Octets
+pub mod Hash
+pub mod Key
+pub mod Pkcs1
+pub mod Pss
+pub mod Tests
