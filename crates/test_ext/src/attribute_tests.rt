@@ -1,11 +1,9 @@
 //! Rows by hand: values that are one in canonical form or not.
 
 use std::alloc::{AllocError, Global};
+use ts_der::tag::{IA5_STRING, PRINTABLE_STRING, UTF8_STRING};
 use ts_der::{DerFault, Fault};
-use ts_name::{
-    Attribute, Canon, CanonRdn, IA5_STRING, PRINTABLE_STRING, UTF8_STRING, canon_attribute,
-    same_text,
-};
+use ts_name::{Attribute, Canon, CanonRdn, canon_attribute, same_text};
 
 /// commonName, 2.5.4.3.
 const COMMON_NAME: [u8; 3] = [0x55, 0x04, 0x03];
