@@ -1,7 +1,7 @@
 -- The data block of EMSA-PSS: zeros, 1 and the salt.
 use Rattle.std.proofs.Common.{◌≡◌, ℕ, zero, suc, ◌+◌, ◌-◌, ◌%◌, ◌<◌, List, [], ◌∷◌, ◌++◌, length, get_or, set, take, drop, replicate, refl, sym, ap, ◌∙◌, arith}
-use Rattle.ts_rsa.specs.declared.hash.Hash.{Hash}
-use Rattle.ts_rsa.specs.Hash.{hash_size}
+use Rattle.ts_digest.specs.declared.hash.Hash.{Hash}
+use Rattle.ts_digest.specs.Hash.{hash_size}
 use Rattle.ts_rsa.specs.Pss.{first_octet_limit, with_first_octet_below, unmasked_from, hash_in, data_block}
 
 -- the hash before the trailer

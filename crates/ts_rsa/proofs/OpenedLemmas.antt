@@ -5,7 +5,7 @@ use Rattle.std.proofs.lemmas.Nat.{mod_below, div-add-mod'}
 use Rattle.std.proofs.Math.Nat.{mul-le-mul_right}
 use Rattle.std.proofs.lemmas.Bool.{cases_lt}
 use Rattle.std.proofs.Common.{inl, inr}
-use Rattle.ts_rsa.specs.declared.hash.Hash.{Hash}
+use Rattle.ts_digest.specs.declared.hash.Hash.{Hash}
 use Rattle.ts_rsa.specs.Octets.{os2ip, i2osp}
 use Rattle.ts_rsa.specs.Pss.{IsPssEncoding}
 use Rattle.ts_rsa.proofs.OctetLemmas.{os2ip-lt, i2osp-more}

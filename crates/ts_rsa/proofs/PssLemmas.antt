@@ -3,9 +3,9 @@ use Rattle.std.proofs.Common.{◌≡◌, ℕ, zero, suc, ◌+◌, ◌*◌, ◌/�
 use Rattle.std.proofs.Math.Nat.{mul-le-mul_right, mul-le-mul_left}
 use Rattle.std.proofs.lemmas.Nat.{div-add-mod', mod_below, div-mul-add, mod-mul-add}
 use Rattle.std.proofs.lemmas.List.{append-nil}
-use Rattle.ts_rsa.specs.declared.hash.Hash.{Hash}
+use Rattle.ts_digest.specs.declared.hash.Hash.{Hash}
 use Rattle.ts_rsa.specs.Octets.{i2osp}
-use Rattle.ts_rsa.specs.Hash.{hash_size, hash_of}
+use Rattle.ts_digest.specs.Hash.{hash_size, hash_of}
 use Rattle.ts_rsa.specs.Pss.{mask_octet, unmasked_from}
 
 -- a block begins within the octets

@@ -2,7 +2,7 @@
 use Rattle.std.proofs.Common.{◌≡◌, ℕ, ◌-◌, ◌%◌, ◌^◌, ◌<◌, ◌≤◌, ◌↔◌, Bool, true, false, ◌&&◌, leb, ltb, eqb, List, length, get_or, refl, sym}
 use Rattle.std.proofs.lemmas.Bool.{and_parts, and_from, ltb-true, leb-true, eqb-true, lt-ltb, le-leb, eq-eqb}
 use Rattle.std.proofs.lemmas.Slice.Eq.{bytes_eq-Decides}
-use Rattle.ts_rsa.specs.declared.hash.Hash.{Hash}
+use Rattle.ts_digest.specs.declared.hash.Hash.{Hash}
 use Rattle.ts_rsa.specs.declared.key.KeyBounds.{KeyBounds}
 use Rattle.ts_rsa.specs.Octets.{os2ip, i2osp}
 use Rattle.ts_rsa.specs.Key.{IsKey, bit_length}

@@ -1,5 +1,4 @@
 pub mod Octets
-pub mod Hash
 pub mod Key
 pub mod Pkcs1
 pub mod Pss

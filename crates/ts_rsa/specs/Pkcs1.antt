@@ -1,9 +1,9 @@
 -- RFC 8017 8.2.2 and 9.2: signatures of RSASSA-PKCS1-v1_5.
 use Rattle.std.specs.Prelude.{◌≡◌, ℕ, ◌+◌, ◌-◌, ◌%◌, ◌^◌, ◌<◌, ◌≤◌, List, [], ◌∷◌, ◌++◌, length, replicate}
-use Rattle.ts_rsa.specs.declared.hash.Hash.{Hash}
-use Rattle.ts_rsa.specs.declared.hash.Hash.TheVariants.{Sha256, Sha384, Sha512}
+use Rattle.ts_digest.specs.declared.hash.Hash.{Hash}
+use Rattle.ts_digest.specs.declared.hash.Hash.TheVariants.{Sha256, Sha384, Sha512}
 use Rattle.ts_rsa.specs.Octets.{os2ip, i2osp}
-use Rattle.ts_rsa.specs.Hash.{hash_of}
+use Rattle.ts_digest.specs.Hash.{hash_of}
 
 -- what the DER encoding of a DigestInfo has before the hash (9.2, note 1)
 abbrev pub prefix_of : Hash → List ℕ

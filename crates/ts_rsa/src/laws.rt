@@ -2,7 +2,7 @@
 //! function that does nothing.
 
 ghost use Rattle.std.specs.Prelude.{ℕ, ◌-◌, ◌^◌, ◌<◌, ◌≤◌, ◌↔◌, IsTrue, List, length, slice_index};
-ghost use Rattle.ts_rsa.specs.declared.hash.Hash.{Hash};
+ghost use Rattle.ts_digest.specs.declared.hash.Hash.{Hash};
 ghost use Rattle.ts_rsa.specs.declared.key.KeyBounds.{KeyBounds};
 ghost use Rattle.ts_rsa.specs.Octets.{os2ip};
 ghost use Rattle.ts_rsa.specs.Key.{bit_length, IsKey};

@@ -1,5 +1,5 @@
 //! RSA signatures (RFC 8017): RSASSA-PKCS1-v1_5 (8.2) and RSASSA-PSS (8.1) with SHA-256, SHA-384
-//! and SHA-512, from the octets of a modulus and an exponent.
+//! and SHA-512 (`ts_digest`), from the octets of a modulus and an exponent.
 //!
 //! ```text
 //! // Does the key take the signature of these octets?
@@ -12,7 +12,6 @@
 //!   (`IsKey`) and the signature is one of the message under it (`IsPkcs1Signature`, 8.2.2).
 //! - [`is_pss_signature`]: the same with `IsPssSignature` (8.1.2): MGF1 has the message's hash
 //!   function, and the salt is as long as the hash.
-//! - [`size_of_hash`]: how many octets a hash has.
 //! - [`small_number`]: the number of at most eight octets (OS2IP, 4.2).
 //! - [`laws`]: how many bits a modulus has, and that the tests below are the relations.
 //!
@@ -22,7 +21,6 @@
 //! product of two primes; that nobody else can make such a signature.
 #![tactic(auto)]
 
-mod hash;
 mod key;
 pub mod laws;
 mod mgf1;
@@ -31,7 +29,6 @@ mod opened;
 mod pkcs1;
 mod pss;
 
-pub use hash::{Hash, size_of_hash};
 pub use key::{KeyBounds, OCTETS};
 pub use octets::small_number;
 pub use pkcs1::is_pkcs1_signature;

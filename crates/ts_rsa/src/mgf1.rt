@@ -3,7 +3,7 @@
 ghost use Rattle.std.specs.Prelude.{◌≡◌, ℕ, ◌+◌, ◌<◌, ◌≤◌, length, slice_index, bit_xor};
 ghost use Rattle.ts_rsa.specs.Pss.{unmasked_from};
 
-use crate::hash::{Hash, hash_of_parts, size_of_hash};
+use ts_digest::{Hash, hash_of_parts, size_of_hash};
 
 /// Xors octets from an offset on with a block, as far as there are octets.
 fn xor_block(octets: &mut [u8], at: usize, block: &[u8])

@@ -6,10 +6,10 @@ ghost use Rattle.ts_rsa.specs.Key.{IsKey};
 ghost use Rattle.ts_rsa.specs.Pkcs1.{prefix_of, digest_info, encoded_around, IsPkcs1Signature};
 ghost use Rattle.ts_rsa.specs.Tests.{pkcs1_accepts};
 
-use crate::hash::{Hash, append, hash_of_message};
 use crate::key::{KeyBounds, OCTETS, is_key};
 use crate::opened::write_opened;
 use arrayvec::ArrayVec;
+use ts_digest::{Hash, append, hash_of_message};
 
 /// How many octets a DigestInfo has at most.
 const INFO_OCTETS: usize = 83;

@@ -2,15 +2,15 @@
 
 ghost use Rattle.std.specs.Prelude.{◌≡◌, ℕ, ◌+◌, ◌-◌, ◌*◌, ◌^◌, ◌<◌, ◌≤◌, ◌↔◌, ◌++◌, ◌∷◌, length, drop, replicate, slice_index, IsTrue, EachIndex};
 ghost use Rattle.ts_rsa.specs.Octets.{os2ip};
-ghost use Rattle.ts_rsa.specs.Hash.{hash_size, hash_of};
+ghost use Rattle.ts_digest.specs.Hash.{hash_size, hash_of};
 ghost use Rattle.ts_rsa.specs.Key.{bit_length, IsKey};
 ghost use Rattle.ts_rsa.specs.Pss.{first_octet_limit, data_block, hash_in, salt_in, zeros_in, IsPssEncoding, IsPssSignature};
 ghost use Rattle.ts_rsa.specs.Tests.{pss_accepts};
 
-use crate::hash::{Hash, hash_of_message, hash_of_parts, size_of_hash};
 use crate::key::{KeyBounds, OCTETS, bits_of, is_key};
 use crate::mgf1::unmask;
 use crate::opened::write_opened;
+use ts_digest::{Hash, hash_of_message, hash_of_parts, size_of_hash};
 
 /// Whether all octets are 0.
 fn are_zero(octets: &[u8]) -> bool

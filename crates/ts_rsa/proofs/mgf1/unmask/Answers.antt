@@ -2,7 +2,7 @@ use Rattle.std.proofs.Common.{◌≡◌, ◌+◌, ◌-◌, ◌*◌, ◌/◌, ◌
 use Rattle.std.proofs.lemmas.Bool.{cases_lt}
 use Rattle.std.proofs.lemmas.List.{ext_get_or}
 use Rattle.ts_rsa.specs.Pss.{mask_octet, unmasked_from}
-use Rattle.ts_rsa.specs.Hash.{hash_size, hash_of}
+use Rattle.ts_digest.specs.Hash.{hash_size, hash_of}
 use Rattle.ts_rsa.proofs.PssLemmas.{block-small, all-covered, length-unmasked, octet-unmasked, mask-octet}
 use Rattle.ts_rsa.proofs.mgf1.unmask.Goals as goal
 

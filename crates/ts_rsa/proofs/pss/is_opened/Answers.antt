@@ -1,5 +1,5 @@
 use Rattle.std.proofs.Common.{◌≡◌, ◌+◌, ◌-◌, ◌*◌, ◌++◌, true, length, drop, replicate, sym, ap, ◌∙◌, arith}
-use Rattle.ts_rsa.specs.Hash.{hash_of}
+use Rattle.ts_digest.specs.Hash.{hash_of}
 use Rattle.ts_rsa.specs.Pss.{hash_in, zeros_in}
 use Rattle.ts_rsa.proofs.DataLemmas.{zeros-then-one, zeros-before, one-after, placed}
 use Rattle.ts_rsa.proofs.pss.is_opened.Goals as goal

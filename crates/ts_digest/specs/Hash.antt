@@ -2,8 +2,8 @@
 use Rattle.std.specs.Prelude.{ℕ, List}
 use Rattle.sha2.specs.Sha256.{sha256}
 use Rattle.sha2.specs.Sha512.{sha384, sha512}
-use Rattle.ts_rsa.specs.declared.hash.Hash.{Hash}
-use Rattle.ts_rsa.specs.declared.hash.Hash.TheVariants.{Sha256, Sha384, Sha512}
+use Rattle.ts_digest.specs.declared.hash.Hash.{Hash}
+use Rattle.ts_digest.specs.declared.hash.Hash.TheVariants.{Sha256, Sha384, Sha512}
 
 -- how many octets a hash has
 abbrev pub hash_size : Hash → ℕ

@@ -4,7 +4,7 @@ ghost use Rattle.std.specs.Prelude.{◌≡◌, ◌+◌, ◌++◌, ◌≤◌, len
 ghost use Rattle.arrayvec.specs.ArrayVec.{array_vec_len};
 ghost use Rattle.sha2.specs.Sha256.{sha256};
 ghost use Rattle.sha2.specs.Sha512.{sha384, sha512};
-ghost use Rattle.ts_rsa.specs.Hash.{hash_size, hash_of};
+ghost use Rattle.ts_digest.specs.Hash.{hash_size, hash_of};
 
 use arrayvec::ArrayVec;
 use sha2::Digest;

@@ -1,0 +1,4 @@
+pub mod Contents
+pub mod Keys
+pub mod ByRsa
+pub mod Natives

@@ -1,0 +1,34 @@
+-- What the native check accepts.
+use Rattle.std.proofs.Common.{◌≡◌, ℕ, true, List, Some, refl}
+use Rattle.ts_der.specs.Octets.{AreOctets}
+use Rattle.ts_sig.specs.Key.{Key}
+use Rattle.ts_check.specs.declared.algorithm.SignatureAlgorithm.{SignatureAlgorithm}
+use Rattle.ts_check.specs.declared.algorithm.SignatureAlgorithm.TheVariants.{Pkcs1, Pss, Ecdsa}
+use Rattle.ts_check.specs.Algorithm.{algorithm_named}
+use Rattle.ts_check.specs.Native.{IsBy, IsNativeSignature, takes, native_accepts}
+use Rattle.ts_check.proofs.Keys.{holds-found}
+use Rattle.ts_check.proofs.ByRsa.{pkcs1-found, pkcs1-again, pss-found, pss-again}
+
+by-found : (algorithm : SignatureAlgorithm) (key : Key) (signed signature : List ℕ) → AreOctets key.octets
+    → takes algorithm key signed signature ≡ true → IsBy algorithm key signed signature
+by-found (Pkcs1 hash) key signed signature o e = pkcs1-found hash key signed signature o e
+by-found (Pss hash) key signed signature o e = pss-found hash key signed signature o e
+by-found (Ecdsa hash) key signed signature o e = absurd cc
+
+by-again : (algorithm : SignatureAlgorithm) (key : Key) (signed signature : List ℕ)
+    → IsBy algorithm key signed signature → takes algorithm key signed signature ≡ true
+by-again (Pkcs1 hash) key signed signature s = pkcs1-again hash key signed signature s
+by-again (Pss hash) key signed signature s = pss-again hash key signed signature s
+by-again (Ecdsa hash) key signed signature s = absurd s
+
+pub native-found : (identifier : List ℕ) (key : Key) (signed signature : List ℕ) → AreOctets key.octets
+    → native_accepts identifier key signed signature ≡ true → IsNativeSignature identifier key signed signature
+unfolding native_accepts
+native-found identifier key signed signature o read =
+    let a = holds-found (algorithm_named identifier) _ read in
+    record { algorithm = a.0; named = a.1; is_by = by-found a.0 key signed signature o a.2 }
+
+pub native-again : (identifier : List ℕ) (key : Key) (signed signature : List ℕ)
+    → IsNativeSignature identifier key signed signature → native_accepts identifier key signed signature ≡ true
+unfolding native_accepts
+native-again identifier key signed signature s = rw s.named (by-again s.algorithm key signed signature s.is_by)

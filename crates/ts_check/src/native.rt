@@ -1,0 +1,50 @@
+//! The check of signatures that this project computes by itself.
+
+ghost use Rattle.std.specs.Prelude.{◌≡◌, ◌↔◌, IsTrue};
+ghost use Rattle.ts_der.specs.Octets.{AreOctets};
+ghost use Rattle.ts_sig.specs.Key.{key_of};
+ghost use Rattle.ts_check.specs.Native.{IsNativeSignature, native_accepts, takes};
+
+use crate::algorithm::{SignatureAlgorithm, algorithm_named};
+use crate::rsa::{pkcs1_takes, pss_takes};
+use ts_sig::{SignatureCheck, WorkingKey};
+
+/// Checks signatures by RSA and ECDSA. It has no state: each node that has this version answers
+/// alike.
+#[derive(Clone, Copy, Debug)]
+pub struct NativeCheck;
+
+/// Whether the signature is one by this algorithm.
+fn takes(
+    algorithm: SignatureAlgorithm,
+    key: &WorkingKey<'_>,
+    signed: &[u8],
+    signature: &[u8],
+) -> bool
+    ensures { result ≡ takes algorithm (key_of key.now) signed.now signature.now }
+{
+    match algorithm {
+        SignatureAlgorithm::Pkcs1(hash) => pkcs1_takes(hash, key, signed, signature),
+        SignatureAlgorithm::Pss(hash) => pss_takes(hash, key, signed, signature),
+        SignatureAlgorithm::Ecdsa(_) => false,
+    }
+}
+
+impl SignatureCheck for NativeCheck {
+    ghost accepts = { λ _ identifier key signed signature.
+        native_accepts identifier key signed signature };
+
+    #[tactic(auto, unfolding(crate::specs::Native::native_accepts))]
+    fn good(
+        &self,
+        algorithm: &[u8],
+        key: &WorkingKey<'_>,
+        signed: &[u8],
+        signature: &[u8],
+    ) -> bool {
+        match algorithm_named(algorithm) {
+            Some(algorithm) => takes(algorithm, key, signed, signature),
+            None => false,
+        }
+    }
+}
