@@ -1,4 +1,5 @@
 pub mod Contents
 pub mod Keys
 pub mod ByRsa
+pub mod ByEcdsa
 pub mod Natives

@@ -7,19 +7,20 @@ use Rattle.ts_check.specs.declared.algorithm.SignatureAlgorithm.TheVariants.{Pkc
 use Rattle.ts_check.specs.Algorithm.{algorithm_named}
 use Rattle.ts_check.specs.Native.{IsBy, IsNativeSignature, takes, native_accepts}
 use Rattle.ts_check.proofs.Keys.{holds-found}
+use Rattle.ts_check.proofs.ByEcdsa.{ecdsa-found, ecdsa-again}
 use Rattle.ts_check.proofs.ByRsa.{pkcs1-found, pkcs1-again, pss-found, pss-again}
 
 by-found : (algorithm : SignatureAlgorithm) (key : Key) (signed signature : List ℕ) → AreOctets key.octets
     → takes algorithm key signed signature ≡ true → IsBy algorithm key signed signature
 by-found (Pkcs1 hash) key signed signature o e = pkcs1-found hash key signed signature o e
 by-found (Pss hash) key signed signature o e = pss-found hash key signed signature o e
-by-found (Ecdsa hash) key signed signature o e = absurd cc
+by-found (Ecdsa hash) key signed signature o e = ecdsa-found hash key signed signature o e
 
 by-again : (algorithm : SignatureAlgorithm) (key : Key) (signed signature : List ℕ)
     → IsBy algorithm key signed signature → takes algorithm key signed signature ≡ true
 by-again (Pkcs1 hash) key signed signature s = pkcs1-again hash key signed signature s
 by-again (Pss hash) key signed signature s = pss-again hash key signed signature s
-by-again (Ecdsa hash) key signed signature s = absurd s
+by-again (Ecdsa hash) key signed signature s = ecdsa-again hash key signed signature s
 
 pub native-found : (identifier : List ℕ) (key : Key) (signed signature : List ℕ) → AreOctets key.octets
     → native_accepts identifier key signed signature ≡ true → IsNativeSignature identifier key signed signature

@@ -6,6 +6,7 @@ ghost use Rattle.ts_sig.specs.Key.{key_of};
 ghost use Rattle.ts_check.specs.Native.{IsNativeSignature, native_accepts, takes};
 
 use crate::algorithm::{SignatureAlgorithm, algorithm_named};
+use crate::elliptic::ecdsa_takes;
 use crate::rsa::{pkcs1_takes, pss_takes};
 use ts_sig::{SignatureCheck, WorkingKey};
 
@@ -26,7 +27,7 @@ fn takes(
     match algorithm {
         SignatureAlgorithm::Pkcs1(hash) => pkcs1_takes(hash, key, signed, signature),
         SignatureAlgorithm::Pss(hash) => pss_takes(hash, key, signed, signature),
-        SignatureAlgorithm::Ecdsa(_) => false,
+        SignatureAlgorithm::Ecdsa(hash) => ecdsa_takes(hash, key, signed, signature),
     }
 }
 

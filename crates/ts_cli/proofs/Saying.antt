@@ -3,9 +3,11 @@ use Rattle.std.proofs.Common.{◌≡◌, ◌≤◌, ℕ, List, Option, Some, Non
 use Rattle.std.proofs.lemmas.List.{length-map}
 use Rattle.clap.specs.Walk.{Text, Row, first_of}
 use Rattle.ts_cli.specs.Values.{IsNumberIn}
+use Rattle.ts_cli.specs.Serving.{IsServe, IsServable}
+use Rattle.ts_cli.specs.declared.serve_words.ServeWords.{ServeWords}
 use Rattle.ts_cli.specs.Says.{SaysTask, SaysAny, IsInRange}
 use Rattle.ts_cli.specs.declared.task.Task.{Task}
-use Rattle.ts_cli.specs.declared.task.Task.TheVariants.{Lab, Format, Migrate, Serve, Submit, Ask, Carry, Status, CatchUp, Compact, Command, Question, Id, Show}
+use Rattle.ts_cli.specs.declared.task.Task.TheVariants.{Lab, Format, Migrate, Serve, Verify, Submit, Ask, Carry, Status, CatchUp, Compact, Command, Question, Id, Show}
 
 pub says_any : (own : List Row) (name : Text) (rows : List Row) (task : Task) → SaysTask name rows task → SaysAny own name rows task
 says_any own name rows (Command words) says = absurd says
@@ -13,7 +15,8 @@ says_any own name rows (Question words) says = absurd says
 says_any own name rows Lab says = says
 says_any own name rows (Format file id nodes) says = says
 says_any own name rows (Migrate old new) says = says
-says_any own name rows (Serve file listen table connections) says = says
+says_any own name rows (Serve words) says = says
+says_any own name rows (Verify words) says = says
 says_any own name rows (Submit address file) says = says
 says_any own name rows (Ask address file) says = says
 says_any own name rows (Carry addresses rounds) says = says
@@ -23,14 +26,31 @@ says_any own name rows (Compact address) says = says
 says_any own name rows (Id file) says = says
 says_any own name rows (Show file) says = says
 
-connections_in_range : (given : Option Text) (n : ℕ) → MatchOption given (n ≡ 1000000) (λ text. IsNumberIn 1 1000000 text n) → (1 ≤ n) × (n ≤ 1000000)
-connections_in_range None n is = (omega (arith, is), omega (arith, is))
-connections_in_range (Some text) n is = (is.from, is.to)
+from-least : (given : Option Text) (least most absent n : ℕ) → MatchOption given (n ≡ absent) (λ text. IsNumberIn least most text n) → least ≤ absent → least ≤ n
+from-least None least most absent n is h = omega (arith, is, h)
+from-least (Some text) least most absent n is h = is.from
+
+to-most : (given : Option Text) (least most absent n : ℕ) → MatchOption given (n ≡ absent) (λ text. IsNumberIn least most text n) → absent ≤ most → n ≤ most
+to-most None least most absent n is h = omega (arith, is, h)
+to-most (Some text) least most absent n is h = is.to
+
+servable : (rows : List Row) (words : ServeWords) → IsServe rows words → IsServable words
+servable rows words s = record {
+  idle_from = from-least (first_of (codes "idle") rows) 1 3600 30 words.idle s.idle_is (omega arith);
+  idle_to = to-most (first_of (codes "idle") rows) 1 3600 30 words.idle s.idle_is (omega arith);
+  request_from = from-least (first_of (codes "request") rows) 1 3600 5 words.request s.request_is (omega arith);
+  request_to = to-most (first_of (codes "request") rows) 1 3600 5 words.request s.request_is (omega arith);
+  at_once_from = from-least (first_of (codes "connections-at-once") rows) 1 4096 512 words.at_once s.at_once_is (omega arith);
+  at_once_to = to-most (first_of (codes "connections-at-once") rows) 1 4096 512 words.at_once s.at_once_is (omega arith);
+  connections_from = from-least (first_of (codes "connections") rows) 1 1000000 1000000 words.connections s.connections_is (omega arith);
+  connections_to = to-most (first_of (codes "connections") rows) 1 1000000 1000000 words.connections s.connections_is (omega arith);
+}
 
 -- what is asked for is in range
 pub in_range : (own : List Row) (name : Text) (rows : List Row) (task : Task) → SaysAny own name rows task → IsInRange task
 in_range own name rows (Format file id nodes) says = (says.id_is.is.from, says.id_is.is.to, says.nodes_is.is.to)
-in_range own name rows (Serve file listen table connections) says = connections_in_range (first_of (codes "connections") rows) connections says.connections_is
+in_range own name rows (Serve words) says = servable rows words says.1
+in_range own name rows (Verify words) says = tt
 in_range own name rows (Carry addresses rounds) says =
     let count = length-map addresses.items string_bytes in
     (omega (arith, count, says.least), omega (arith, count, says.most), says.rounds_is.is.from, says.rounds_is.is.to)

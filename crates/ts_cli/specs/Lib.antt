@@ -3,3 +3,5 @@ pub mod Encoding
 pub mod Given
 pub mod Says
 pub mod Values
+pub mod Serving
+pub mod Verifying

@@ -1,11 +1,13 @@
 -- The task that a command line asks for: its subcommand, and what that is given.
 use Rattle.std.specs.Prelude.{◌≡◌, ◌≤◌, ℕ, List, [], ◌∷◌, IsPermutation, length, map, option_map}
-use Rattle.std.specs.Prelude.{Option, Some, None, codes, string_bytes, MatchOption}
+use Rattle.std.specs.Prelude.{Option, Some, None, codes, string_bytes}
 use Rattle.std.specs.List.{AllByRecursion}
 use Rattle.clap.specs.Walk.{Row, Text, first_of}
 use Rattle.clap.specs.Simple.{App, matches_of, subcommand_of}
 use Rattle.ts_cli.specs.CommandLine.{app_in, group_of, words_in}
 use Rattle.ts_cli.specs.Values.{IsAddressed, IsNumberIn, IsHex, IsDotted, AsWritten, written}
+use Rattle.ts_cli.specs.Serving.{IsServe, IsServable}
+use Rattle.ts_cli.specs.Verifying.{IsVerify}
 use Rattle.ts_cli.specs.Given.{IsAt, IsNumberAt, IsDigestAt, IsMomentAt, all_at, is_set}
 use Rattle.ts_question.specs.declared.terms.Flags.{Flags}
 use Rattle.ts_cli.specs.declared.command_words.CommandWords.{CommandWords}
@@ -17,8 +19,8 @@ use Rattle.ts_cli.specs.declared.question_words.TermWords.{TermWords}
 use Rattle.ts_cli.specs.declared.question_words.Subject.{Subject}
 use Rattle.ts_cli.specs.declared.question_words.Subject.TheVariants.{Chain, Search}
 use Rattle.ts_cli.specs.declared.task.Task.{Task}
-use Rattle.ts_cli.specs.declared.task.Task.TheVariants.{Lab, Format, Migrate, Serve, Submit, Ask}
-use Rattle.ts_cli.specs.declared.task.Task.TheVariants.{Carry, Status, CatchUp, Compact, Command}
+use Rattle.ts_cli.specs.declared.task.Task.TheVariants.{Lab, Format, Migrate, Serve, Verify, Submit}
+use Rattle.ts_cli.specs.declared.task.Task.TheVariants.{Ask, Carry, Status, CatchUp, Compact, Command}
 use Rattle.ts_cli.specs.declared.task.Task.TheVariants.{Question, Id, Show}
 
 pub record IsFormat (name : Text) (rows : List Row) (file : Text) (id nodes : ℕ) : Type 0 where
@@ -31,16 +33,6 @@ pub record IsMigration (name : Text) (rows : List Row) (old new : Text) : Type 0
   pub name_is : name ≡ codes "migrate"
   pub old_is : IsAt (codes "old") rows old
   pub new_is : IsAt (codes "new") rows new
-
-pub record IsServe (name : Text) (rows : List Row) (file listen : Text) (table : Option Text)
-    (connections : ℕ) : Type 0 where
-  pub name_is : name ≡ codes "serve"
-  pub file_is : IsAt (codes "file") rows file
-  pub listen_is : IsAt (codes "listen") rows listen
-  pub listen_address : IsAddressed listen
-  pub table_is : first_of (codes "table") rows ≡ table
-  pub connections_is : MatchOption (first_of (codes "connections") rows) (connections ≡ 1000000)
-      (λ text. IsNumberIn 1 1000000 text connections)
 
 -- `submit` and `ask`, by their names
 pub record IsSending (name expected : Text) (rows : List Row) (address file : Text) : Type 0 where
@@ -164,8 +156,8 @@ abbrev pub SaysTask : Text → List Row → Task → Type 0
 SaysTask name rows Lab = name ≡ codes "lab"
 SaysTask name rows (Format file id nodes) = IsFormat name rows (string_bytes file) id nodes
 SaysTask name rows (Migrate old new) = IsMigration name rows (string_bytes old) (string_bytes new)
-SaysTask name rows (Serve file listen table connections) = IsServe name rows (string_bytes file)
-    (string_bytes listen) (option_map string_bytes table) connections
+SaysTask name rows (Serve words) = (name ≡ codes "serve") × IsServe rows words
+SaysTask name rows (Verify words) = (name ≡ codes "verify") × IsVerify rows words
 SaysTask name rows (Submit address file) =
     IsSending name (codes "submit") rows (string_bytes address) (string_bytes file)
 SaysTask name rows (Ask address file) =
@@ -187,8 +179,8 @@ SaysAny own name rows (Question words) = SaysQuestion name rows words
 SaysAny own name rows Lab = SaysTask name rows Lab
 SaysAny own name rows (Format file id nodes) = SaysTask name rows (Format file id nodes)
 SaysAny own name rows (Migrate old new) = SaysTask name rows (Migrate old new)
-SaysAny own name rows (Serve file listen table connections) =
-    SaysTask name rows (Serve file listen table connections)
+SaysAny own name rows (Serve words) = SaysTask name rows (Serve words)
+SaysAny own name rows (Verify words) = SaysTask name rows (Verify words)
 SaysAny own name rows (Submit address file) = SaysTask name rows (Submit address file)
 SaysAny own name rows (Ask address file) = SaysTask name rows (Ask address file)
 SaysAny own name rows (Carry addresses rounds) = SaysTask name rows (Carry addresses rounds)
@@ -209,10 +201,11 @@ pub record Asks (app : App) (words : List Text) (task : Task) : Type 0 where
 abbrev pub AsksFor : List Text → Task → Type 0
 AsksFor words task = Asks (app_in (group_of words)) (words_in (group_of words) words) task
 
--- nodes and one of them, connections, addresses and rounds are in range
+-- the numbers of a task are in range
 abbrev pub IsInRange : Task → Type 0
 IsInRange (Format file id nodes) = (1 ≤ id) × (id ≤ nodes) × (nodes ≤ 9)
-IsInRange (Serve file listen table connections) = (1 ≤ connections) × (connections ≤ 1000000)
+IsInRange (Serve words) = IsServable words
+IsInRange (Verify words) = Unit {0}
 IsInRange (Carry addresses rounds) =
     (1 ≤ length addresses.items) × (length addresses.items ≤ 9) × (1 ≤ rounds) × (rounds ≤ 1000000)
 IsInRange Lab = Unit {0}

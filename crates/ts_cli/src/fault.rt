@@ -19,6 +19,12 @@ pub enum WrongValue {
     Node,
     /// No number of connections.
     Connections,
+    /// A table and the stand-in at once.
+    Check,
+    /// No number of seconds.
+    Seconds,
+    /// No number of connections at once.
+    AtOnce,
     /// No number of rounds.
     Rounds,
     /// No address.
@@ -31,6 +37,8 @@ pub enum WrongValue {
     Digest,
     /// No moment.
     Time,
+    /// No moment, and not now.
+    TimeOrNow,
     /// No number of commands.
     Position,
     /// No object identifier.
@@ -51,12 +59,16 @@ impl fmt::Display for WrongValue {
             WrongValue::Nodes => "--nodes is a number from 1 to 9",
             WrongValue::Node => "--id is a number from 1 to that of the nodes",
             WrongValue::Connections => "--connections is a number from 1 to 1000000",
+            WrongValue::Check => "--stand-in goes without --table",
+            WrongValue::Seconds => "--idle and --request are numbers of seconds from 1 to 3600",
+            WrongValue::AtOnce => "--connections-at-once is a number from 1 to 4096",
             WrongValue::Rounds => "--rounds is a number from 1 to 1000000",
             WrongValue::Address => "an address is a host, a colon and a port from 0 to 65535",
             WrongValue::Addresses => "there are at most nine addresses",
             WrongValue::CommandId => "the id of a command is 32 lower-case hexadecimal digits",
             WrongValue::Digest => "an id is 64 lower-case hexadecimal digits",
             WrongValue::Time => "--at is a moment, as 20260101000000Z",
+            WrongValue::TimeOrNow => "--at is a moment, as 20260101000000Z, or now",
             WrongValue::Position => "--k is a number from 0 to 1000000",
             WrongValue::Oid => "an object identifier is written as 2.5.29.32.0",
             WrongValue::Policies => "there are at most 32 policies",

@@ -50,13 +50,17 @@ mod matched;
 mod oids;
 mod program_task;
 mod question_words;
+mod serve_words;
 mod task;
 mod values;
+mod verify_words;
 
 pub use command_line::{task_of, task_of_process};
 pub use command_words::{Change, CommandWords};
 pub use encoding::{MakeFault, command_octets, id_text, question_octets};
 pub use fault::{CommandFault, WrongValue, report};
 pub use question_words::{QuestionWords, Subject, TermWords};
+pub use serve_words::ServeWords;
 pub use task::Task;
 pub use values::address_of;
+pub use verify_words::VerifyWords;

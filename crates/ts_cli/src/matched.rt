@@ -5,7 +5,7 @@ ghost use Rattle.std.specs.List.{AllByRecursion};
 ghost use Rattle.clap.specs.Matches.{found_of};
 ghost use Rattle.clap.specs.Walk.{rows_of, first_of, all_of};
 ghost use Rattle.ts_cli.specs.Values.{IsAddressed};
-ghost use Rattle.ts_cli.specs.Given.{IsNumberAt, all_at, is_set};
+ghost use Rattle.ts_cli.specs.Given.{IsNumberAt, IsNumberOr, all_at, is_set};
 
 use crate::fault::{CommandFault, WrongValue};
 use crate::values::{address_of, number_in};
@@ -87,6 +87,26 @@ pub(crate) fn number_at(
     ensures { IfOk result (IsNumberAt id.now (rows_of (found_of matches.now)) least most) }
 {
     let text = text_at(matches, id)?;
+    match number_in(text, least, most) {
+        Some(number) => Ok(number),
+        None => Err(CommandFault::Value(wrong)),
+    }
+}
+
+/// The number that an argument gives, from `least` to `most`; where it gives none, the one for that.
+pub(crate) fn number_or(
+    matches: &ArgMatches<'_>,
+    id: &str,
+    least: u32,
+    most: u32,
+    absent: u32,
+    wrong: WrongValue,
+) -> Result<u32, CommandFault>
+    ensures { IfOk result (IsNumberOr id.now (rows_of (found_of matches.now)) least most absent) }
+{
+    let Some(text) = value_at(matches, id) else {
+        return Ok(absent);
+    };
     match number_in(text, least, most) {
         Some(number) => Ok(number),
         None => Err(CommandFault::Value(wrong)),

@@ -1,22 +1,20 @@
 //! The tasks of the program's own words.
 
-ghost use Rattle.std.specs.Prelude.{◌≡◌, Ok, IfOk, MatchOption, codes};
+ghost use Rattle.std.specs.Prelude.{◌≡◌, Ok, IfOk, codes};
 ghost use Rattle.clap.specs.Matches.{found_of};
-ghost use Rattle.clap.specs.Walk.{first_of, rows_of};
-ghost use Rattle.ts_cli.specs.Values.{IsNumberIn};
+ghost use Rattle.clap.specs.Walk.{rows_of};
 ghost use Rattle.ts_cli.specs.Says.{SaysTask};
 ghost use Rattle.ts_cli.specs.declared.task.Task.TheVariants.{Lab};
 
 use crate::fault::{CommandFault, WrongValue};
-use crate::matched::{
-    address_at, are_addresses, number_at, optional_string_at, string_at, strings_at, value_at,
-};
+use crate::matched::{address_at, are_addresses, number_at, string_at, strings_at};
+use crate::serve_words::serve_words;
 use crate::task::Task;
-use crate::values::number_in;
+use crate::verify_words::verify_words;
 use clap::ArgMatches;
 use std::alloc::Global;
 
-/// The most connections that a server takes, and the most rounds of carrying.
+/// The most rounds of carrying.
 const MANY: u32 = 1_000_000;
 
 /// The most nodes, which is the most addresses.
@@ -40,32 +38,6 @@ fn migrate(alloc: Global, matches: &ArgMatches<'_>) -> Result<Task, CommandFault
     Ok(Task::Migrate {
         old: string_at(alloc, matches, "old")?,
         new: string_at(alloc, matches, "new")?,
-    })
-}
-
-/// How many connections to take, which need not be given.
-fn connections(matches: &ArgMatches<'_>) -> Result<u32, CommandFault>
-    ensures { IfOk result (λ n. MatchOption
-        (first_of (codes "connections") (rows_of (found_of matches.now))) (n ≡ 1000000)
-        (λ text. IsNumberIn 1 1000000 text n)) }
-{
-    let Some(text) = value_at(matches, "connections") else {
-        return Ok(MANY);
-    };
-    match number_in(text, 1, MANY) {
-        Some(number) => Ok(number),
-        None => Err(CommandFault::Value(WrongValue::Connections)),
-    }
-}
-
-fn serve(alloc: Global, matches: &ArgMatches<'_>) -> Result<Task, CommandFault>
-    ensures { IfOk result (SaysTask (codes "serve") (rows_of (found_of matches.now))) }
-{
-    Ok(Task::Serve {
-        file: string_at(alloc, matches, "file")?,
-        listen: address_at(alloc, matches, "listen")?,
-        table: optional_string_at(alloc, matches, "table")?,
-        connections: connections(matches)?,
     })
 }
 
@@ -114,7 +86,8 @@ pub(crate) fn task_named(
         "lab" => Ok(Task::Lab),
         "format" => format(alloc, matches),
         "migrate" => migrate(alloc, matches),
-        "serve" => serve(alloc, matches),
+        "serve" => Ok(Task::Serve(serve_words(alloc, matches)?)),
+        "verify" => Ok(Task::Verify(verify_words(alloc, matches)?)),
         "submit" => submit(alloc, matches),
         "ask" => ask(alloc, matches),
         "carry" => carry(alloc, matches),

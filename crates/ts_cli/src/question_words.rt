@@ -90,7 +90,8 @@ fn flags_in(matches: &ArgMatches<'_>) -> Flags
     }
 }
 
-fn policies_at(alloc: Global, matches: &ArgMatches<'_>) -> Result<Oids, CommandFault>
+/// The policies that are given, at most 32.
+pub(crate) fn policies_at(alloc: Global, matches: &ArgMatches<'_>) -> Result<Oids, CommandFault>
     ensures { IfOk result (λ oids.
         (map written oids ≡ all_at (codes "policy") (rows_of (found_of matches.now)))
         × (length oids ≤ 32)) }

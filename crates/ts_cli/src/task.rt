@@ -2,6 +2,8 @@
 
 use crate::command_words::CommandWords;
 use crate::question_words::QuestionWords;
+use crate::serve_words::ServeWords;
+use crate::verify_words::VerifyWords;
 
 /// What the program is to do.
 #[derive(Debug, Drop)]
@@ -25,16 +27,9 @@ pub enum Task {
         new: String,
     },
     /// Answer clients and other nodes.
-    Serve {
-        /// The record.
-        file: String,
-        /// The address to listen at.
-        listen: String,
-        /// Signatures that are good.
-        table: Option<String>,
-        /// How many connections to take.
-        connections: u32,
-    },
+    Serve(ServeWords),
+    /// Judge a chain without a node.
+    Verify(VerifyWords),
     /// Hand a command to a node.
     Submit {
         /// The address of the node.

@@ -6,6 +6,7 @@ ghost use Rattle.ts_file.specs.FileDisk.{state_of};
 use crate::FileDisk;
 use std::alloc::Global;
 use std::fs::{OpenFile, OpenOptions};
+use std::os::unix::fs::OpenOptionsExt;
 use std::path::Path;
 use std::rt::Files;
 use std::{fs, io};
@@ -23,7 +24,7 @@ pub fn open<R: Files>(rt: &R, alloc: Global, path: &str) -> io::Result<FileDisk<
 }
 
 /// The disk of the file at a path, which is made where it is missing. Octets that the file holds
-/// stay. The name of the file is synced.
+/// stay. The name of the file is synced. A file that is made is for its owner alone (mode 0600).
 ///
 /// # Errors
 ///
@@ -36,9 +37,18 @@ pub fn create<R: Files>(rt: &R, alloc: Global, path: &str) -> io::Result<FileDis
         .read(true)
         .write(true)
         .create(true)
+        .mode(0o600)
         .open(rt, path)?;
-    fs::open(rt, folder_of(path))?.sync_all()?;
+    sync_folder(rt, alloc, path)?;
     FileDisk::new(alloc, file)
+}
+
+/// Syncs the folder that a file is in, which is not that of the path where that is a symbolic link.
+fn sync_folder<R: Files>(rt: &R, alloc: Global, path: &str) -> io::Result<()> {
+    match rt.canonicalize(alloc, path) {
+        Ok(real) => fs::open(rt, folder_of(real.as_str()))?.sync_all(),
+        Err(_) => fs::open(rt, folder_of(path))?.sync_all(),
+    }
 }
 
 /// The folder of a path.

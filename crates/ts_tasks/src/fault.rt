@@ -19,6 +19,8 @@ pub enum Fault {
     Memory,
     /// A file can't be opened, read or made; or a record is to be made where octets are.
     File,
+    /// Another process holds the record.
+    Busy,
     /// A file is not one whole command or question.
     Field,
     /// A file is longer than a command's certificate or list may be.
@@ -50,6 +52,7 @@ impl fmt::Display for Fault {
         let name = match self {
             Fault::Memory => "Memory",
             Fault::File => "File",
+            Fault::Busy => "Busy",
             Fault::Field => "Field",
             Fault::TooLong => "TooLong",
             Fault::OutOfLimits => "OutOfLimits",

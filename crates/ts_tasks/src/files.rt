@@ -3,10 +3,12 @@
 ghost use Rattle.std.specs.Prelude.{◌≤◌, IfOk, length};
 
 use crate::fault::Fault;
+use crate::locking::RecordLock;
 use std::alloc::Global;
-use std::fs;
+use std::fs::File;
 use std::io::{Error, ErrorKind, Read};
 use std::rt::Files;
+use std::{fs, io};
 use ts_disk::Disk;
 use ts_file::{FileDisk, create, open};
 use ts_record::Record;
@@ -16,13 +18,13 @@ use ts_store::Command;
 /// question: as many as a frame may have.
 pub const MAX_LENGTH: u64 = 8_388_608;
 
-/// Why a file is not read.
-fn fault_of(error: &Error) -> Fault {
+/// Says on standard error what the system says of a file, and gives the fault.
+pub(crate) fn fault_of(rt: &impl Eprint, path: &str, error: &Error) -> Fault {
     if error.kind() == ErrorKind::OutOfMemory {
-        Fault::Memory
-    } else {
-        Fault::File
+        return Fault::Memory;
     }
+    let _ = eprintln!(rt; "trustd: {path}: {error}");
+    Fault::File
 }
 
 /// The octets of a file, if they are no more than a frame may have.
@@ -30,19 +32,27 @@ fn fault_of(error: &Error) -> Fault {
 /// # Errors
 ///
 /// `TooLong` for more; `File`, `Memory`.
-pub fn read_file<R: Files>(rt: &R, alloc: Global, path: &str) -> Result<Vec<u8>, Fault>
+pub fn read_file<R: Files + Eprint>(rt: &R, alloc: Global, path: &str) -> Result<Vec<u8>, Fault>
     ensures short { IfOk result (λ octets. length octets.items ≤ 8388608) }
 {
     let file = match fs::open(rt, path) {
         Ok(file) => file,
-        Err(error) => return Err(fault_of(&error)),
+        Err(error) => return Err(fault_of(rt, path, &error)),
     };
     let mut octets = Vec::new(alloc);
     match file.take(MAX_LENGTH + 1).read_to_end(&mut octets) {
         Ok(_) if octets.len() as u64 > MAX_LENGTH => Err(Fault::TooLong),
         Ok(_) => Ok(octets),
-        Err(error) => Err(fault_of(&error)),
+        Err(error) => Err(fault_of(rt, path, &error)),
     }
+}
+
+/// All octets of a file, without a word on standard error where it can't be read.
+pub(crate) fn read_whole<R: Files>(rt: &R, alloc: Global, path: &str) -> io::Result<Vec<u8>> {
+    let mut file = fs::open(rt, path)?;
+    let mut octets = Vec::new(alloc);
+    file.read_to_end(&mut octets)?;
+    Ok(octets)
 }
 
 /// All octets of a file.
@@ -50,15 +60,10 @@ pub fn read_file<R: Files>(rt: &R, alloc: Global, path: &str) -> Result<Vec<u8>,
 /// # Errors
 ///
 /// `File`, `Memory`.
-pub fn read_all<R: Files>(rt: &R, alloc: Global, path: &str) -> Result<Vec<u8>, Fault> {
-    let mut file = match fs::open(rt, path) {
-        Ok(file) => file,
-        Err(error) => return Err(fault_of(&error)),
-    };
-    let mut octets = Vec::new(alloc);
-    match file.read_to_end(&mut octets) {
-        Ok(_) => Ok(octets),
-        Err(error) => Err(fault_of(&error)),
+pub fn read_all<R: Files + Eprint>(rt: &R, alloc: Global, path: &str) -> Result<Vec<u8>, Fault> {
+    match read_whole(rt, alloc, path) {
+        Ok(octets) => Ok(octets),
+        Err(error) => Err(fault_of(rt, path, &error)),
     }
 }
 
@@ -72,7 +77,7 @@ pub fn second(alloc: Global, path: &str) -> Result<String, Fault> {
 /// # Errors
 ///
 /// `File`, `Memory`.
-pub fn open_disks<R: Files>(
+pub fn open_disks<R: Files + Eprint>(
     rt: &R,
     alloc: Global,
     path: &str,
@@ -80,23 +85,30 @@ pub fn open_disks<R: Files>(
     let other = second(alloc, path)?;
     let a = match open(rt, alloc, path) {
         Ok(disk) => disk,
-        Err(error) => return Err(fault_of(&error)),
+        Err(error) => return Err(fault_of(rt, path, &error)),
     };
     match open(rt, alloc, other.as_str()) {
         Ok(b) => Ok((a, b)),
-        Err(error) => Err(fault_of(&error)),
+        Err(error) => Err(fault_of(rt, other.as_str(), &error)),
     }
 }
 
 /// A disk on a file that holds no octets, which is made where it is missing.
-fn create_empty<R: Files>(rt: &R, alloc: Global, path: &str) -> Result<FileDisk<R::File>, Fault> {
+fn create_empty<R: Files + Eprint>(
+    rt: &R,
+    alloc: Global,
+    path: &str,
+) -> Result<FileDisk<R::File>, Fault> {
     let mut disk = match create(rt, alloc, path) {
         Ok(disk) => disk,
-        Err(error) => return Err(fault_of(&error)),
+        Err(error) => return Err(fault_of(rt, path, &error)),
     };
     match disk.read(alloc) {
         Ok(octets) if octets.is_empty() => Ok(disk),
-        Ok(_) => Err(Fault::File),
+        Ok(_) => {
+            let _ = eprintln!(rt; "trustd: {path}: holds octets, and is not written over");
+            Err(Fault::File)
+        }
         Err(fault) => Err(Fault::from(ts_record::Fault::from(fault))),
     }
 }
@@ -106,8 +118,9 @@ fn create_empty<R: Files>(rt: &R, alloc: Global, path: &str) -> Result<FileDisk<
 ///
 /// # Errors
 ///
-/// `File`, also where a file holds octets; `Memory`; `Record`.
-pub fn format_files<R: Files>(
+/// `Busy` where another process holds one of them; `File`, also where a file holds octets;
+/// `Memory`; `Record`.
+pub fn format_files<R: Files<File = File> + Eprint>(
     rt: &R,
     alloc: Global,
     path: &str,
@@ -119,9 +132,10 @@ pub fn format_files<R: Files>(
     requires few { nodes ≤ 9 }
 {
     let other = second(alloc, path)?;
+    let _lock = RecordLock::of_new_record(rt, alloc, path)?;
     let mut a = create_empty(rt, alloc, path)?;
     let mut b = create_empty(rt, alloc, other.as_str())?;
-    Record::<FileDisk<R::File>, Command>::format(&mut a, &mut b, node, nodes)?;
+    Record::<FileDisk<File>, Command>::format(&mut a, &mut b, node, nodes)?;
     Ok(())
 }
 
@@ -130,15 +144,22 @@ pub fn format_files<R: Files>(
 ///
 /// # Errors
 ///
-/// `File`, also where one of the two files holds octets; `Memory`; `Record`.
-pub fn migrate_files<R: Files>(rt: &R, alloc: Global, old: &str, new: &str) -> Result<u32, Fault> {
+/// `Busy` where another process holds one of the new files; `File`, also where one of them holds
+/// octets; `Memory`; `Record`.
+pub fn migrate_files<R: Files<File = File> + Eprint>(
+    rt: &R,
+    alloc: Global,
+    old: &str,
+    new: &str,
+) -> Result<u32, Fault> {
     let mut old = match open(rt, alloc, old) {
         Ok(disk) => disk,
-        Err(error) => return Err(fault_of(&error)),
+        Err(error) => return Err(fault_of(rt, old, &error)),
     };
     let other = second(alloc, new)?;
+    let _lock = RecordLock::of_new_record(rt, alloc, new)?;
     let mut a = create_empty(rt, alloc, new)?;
     let mut b = create_empty(rt, alloc, other.as_str())?;
-    let facts = Record::<FileDisk<R::File>, Command>::migrate(alloc, &mut old, &mut a, &mut b)?;
+    let facts = Record::<FileDisk<File>, Command>::migrate(alloc, &mut old, &mut a, &mut b)?;
     Ok(facts)
 }

@@ -15,6 +15,7 @@
 
 mod fault;
 mod files;
+mod locking;
 mod making;
 mod programs;
 mod requests;
@@ -23,6 +24,7 @@ mod upkeep;
 
 pub use fault::Fault;
 pub use files::{format_files, migrate_files, open_disks, read_file};
+pub use locking::RecordLock;
 pub use requests::{ask, submit};
 pub use running::run;
 pub use upkeep::{Upkeep, tend};

@@ -2,9 +2,9 @@
 //! lists; what files hold.
 
 use crate::fault::Fault;
-use crate::files::{read_all, read_file, second};
+use crate::files::{read_all, read_file, read_whole, second};
 use std::alloc::Global;
-use std::io::{Print, Read, Write};
+use std::io::{ErrorKind, Print, Read, Write};
 use std::rt::Files;
 use std::{fs, io};
 use ts_cli::{Change, CommandWords, QuestionWords, command_octets, id_text, question_octets};
@@ -71,7 +71,11 @@ pub fn make_command(
 }
 
 /// The octets of each of these files.
-fn read_files<R: Files>(rt: &R, alloc: Global, files: &[String]) -> Result<Vec<Vec<u8>>, Fault> {
+fn read_files<R: Files + Eprint>(
+    rt: &R,
+    alloc: Global,
+    files: &[String],
+) -> Result<Vec<Vec<u8>>, Fault> {
     let mut found = Vec::new(alloc);
     for file in files {
         found.push(read_file(rt, alloc, file.as_str())?)?;
@@ -85,7 +89,7 @@ fn read_files<R: Files>(rt: &R, alloc: Global, files: &[String]) -> Result<Vec<V
 ///
 /// Those of the files with the certificates; `OutOfLimits`; `Write`.
 pub fn make_question(
-    rt: &(impl AllocGlobal + Files + Print),
+    rt: &(impl AllocGlobal + Files + Print + Eprint),
     words: &QuestionWords,
 ) -> Result<(), Fault> {
     let alloc = rt.alloc();
@@ -99,7 +103,7 @@ pub fn make_question(
 /// # Errors
 ///
 /// Those of the file; `Write`.
-pub fn print_id(rt: &(impl AllocGlobal + Files + Print), file: &str) -> Result<(), Fault> {
+pub fn print_id(rt: &(impl AllocGlobal + Files + Print + Eprint), file: &str) -> Result<(), Fault> {
     let alloc = rt.alloc();
     let octets = read_file(rt, alloc, file)?;
     let text = id_text(alloc, &octets)?;
@@ -115,12 +119,12 @@ pub fn print_id(rt: &(impl AllocGlobal + Files + Print), file: &str) -> Result<(
 /// # Errors
 ///
 /// Those of the file; `Write`.
-pub fn show_file(rt: &(impl AllocGlobal + Files + Print), file: &str) -> Result<(), Fault> {
+pub fn show_file(rt: &(impl AllocGlobal + Files + Print + Eprint), file: &str) -> Result<(), Fault> {
     let alloc = rt.alloc();
     let octets = read_all(rt, alloc, file)?;
-    let other = match read_all(rt, alloc, second(alloc, file)?.as_str()) {
+    let other = match read_whole(rt, alloc, second(alloc, file)?.as_str()) {
         Ok(other) => other,
-        Err(Fault::Memory) => return Err(Fault::Memory),
+        Err(error) if error.kind() == ErrorKind::OutOfMemory => return Err(Fault::Memory),
         Err(_) => Vec::new(alloc),
     };
     let text = show(alloc, &octets, &other)?;

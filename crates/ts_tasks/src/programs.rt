@@ -4,15 +4,19 @@ ghost use Rattle.std.specs.Prelude.{◌≤◌};
 
 use crate::fault::Fault;
 use crate::files::{format_files, migrate_files, open_disks, read_all};
+use crate::locking::RecordLock;
 use std::alloc::Global;
+use std::fs::File;
 use std::io::Print;
 use std::net::{Net, TcpListener, TcpStream};
 use std::rt::Files;
 use ts_answer::Answers;
+use ts_check::ChosenCheck;
+use ts_cli::ServeWords;
 use ts_disk::Disk;
 use ts_node::Node;
 use ts_serve::{Server, listen};
-use ts_sig::{DigestCheck, SignatureCheck, TableCheck};
+use ts_sig::TableCheck;
 
 /// Makes the record of a node, and says so.
 ///
@@ -20,7 +24,7 @@ use ts_sig::{DigestCheck, SignatureCheck, TableCheck};
 ///
 /// Those of the record's files; `Write`.
 pub fn format_record(
-    rt: &(impl AllocGlobal + Files + Print),
+    rt: &(impl AllocGlobal + Files<File = File> + Print + Eprint),
     file: &str,
     node: u8,
     nodes: u8,
@@ -42,7 +46,7 @@ pub fn format_record(
 ///
 /// Those of the two records' files; `Write`.
 pub fn migrate_record(
-    rt: &(impl AllocGlobal + Files + Print),
+    rt: &(impl AllocGlobal + Files<File = File> + Print + Eprint),
     old: &str,
     new: &str,
 ) -> Result<(), Fault> {
@@ -53,18 +57,25 @@ pub fn migrate_record(
     }
 }
 
-/// Serves the node on two disks, whose signatures this check decides, to so many connections.
-fn serve_node<
-    D: Disk + Drop,
-    S: SignatureCheck + Drop,
-    R: Net<Listener = TcpListener, Stream = TcpStream>,
->(
+/// The check of signatures that the words choose.
+fn check_of<R: Files + Eprint>(rt: &R, alloc: Global, words: &ServeWords) -> Result<ChosenCheck, Fault> {
+    if words.stand_in {
+        return Ok(ChosenCheck::StandIn);
+    }
+    let Some(path) = &words.table else {
+        return Ok(ChosenCheck::Native);
+    };
+    let text = read_all(rt, alloc, path.as_str())?;
+    Ok(ChosenCheck::NativeOrTable(TableCheck::read(alloc, &text)?))
+}
+
+/// Serves the node on two disks, whose signatures this check decides.
+fn serve_node<D: Disk + Drop, R: Net<Listener = TcpListener, Stream = TcpStream>>(
     rt: &R,
     alloc: Global,
     disks: (D, D),
-    check: S,
-    address: &str,
-    connections: u32,
+    check: ChosenCheck,
+    words: &ServeWords,
 ) -> Result<(), Fault> {
     let (a, b) = disks;
     let node = match Node::open(alloc, a, b, Answers::new(alloc, check)) {
@@ -74,35 +85,34 @@ fn serve_node<
     let Ok(mut server) = Server::new(alloc, node) else {
         return Err(Fault::Memory);
     };
-    let Ok(listener) = TcpListener::bind(rt, address) else {
+    let Ok(listener) = TcpListener::bind(rt, words.listen.as_str()) else {
         return Err(Fault::Read);
     };
-    listen(&mut server, &listener, connections)?;
+    listen(&mut server, &listener, words.connections)?;
     Ok(())
 }
 
-/// Serves the node whose record lies in a file and the one beside it, to so many connections, one
-/// after the other. A table decides which signatures are good; without one it is the stand-in,
-/// which is no security.
+/// Serves the node whose record lies in a file and the one beside it, as the words say. Signatures
+/// are computed; a table adds those that it lists; the stand-in, which is no security, takes their
+/// place.
 ///
 /// # Errors
 ///
-/// Those of files, table, record and address, in this order.
-pub fn serve_record<R: AllocGlobal + Files + Net<Listener = TcpListener, Stream = TcpStream>>(
+/// `Busy` where another process serves the record; those of files, table, record and address, in
+/// this order.
+pub fn serve_record<
+    R: AllocGlobal + Files<File = File> + Net<Listener = TcpListener, Stream = TcpStream> + Eprint,
+>(
     rt: &R,
-    file: &str,
-    address: &str,
-    table: Option<&str>,
-    connections: u32,
+    words: &ServeWords,
 ) -> Result<(), Fault> {
     let alloc = rt.alloc();
+    let file = words.file.as_str();
+    let _lock = RecordLock::of_record(rt, alloc, file)?;
     let disks = open_disks(rt, alloc, file)?;
-    match table {
-        Some(path) => {
-            let text = read_all(rt, alloc, path)?;
-            let check = TableCheck::read(alloc, &text)?;
-            serve_node(rt, alloc, disks, check, address, connections)
-        }
-        None => serve_node(rt, alloc, disks, DigestCheck, address, connections),
+    let check = check_of(rt, alloc, words)?;
+    if words.stand_in {
+        let _ = eprintln!(rt; "signatures are the examples' stand-in: anybody can forge them");
     }
+    serve_node(rt, alloc, disks, check, words)
 }

@@ -127,7 +127,7 @@ pub fn server_at<'a, R: Net>(
 ///
 /// `Field` where the file is not one whole command; those of the file and of [`submit`].
 pub fn submit_file(
-    rt: &(impl AllocGlobal + Files + Net + Print),
+    rt: &(impl AllocGlobal + Files + Net + Print + Eprint),
     address: &str,
     file: &str,
 ) -> Result<(), Fault> {
@@ -146,7 +146,7 @@ pub fn submit_file(
 ///
 /// `Field` where the file is not one whole question; those of the file and of [`ask`].
 pub fn ask_file(
-    rt: &(impl AllocGlobal + Files + Net + Print),
+    rt: &(impl AllocGlobal + Files + Net + Print + Eprint),
     address: &str,
     file: &str,
 ) -> Result<(), Fault> {

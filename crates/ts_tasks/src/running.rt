@@ -7,6 +7,7 @@ use crate::making::{make_command, make_question, print_id, show_file};
 use crate::programs::{format_record, migrate_record, serve_record};
 use crate::requests::{ask_file, carry_messages, submit_file};
 use crate::upkeep::{Upkeep, tend_server};
+use std::fs::File;
 use std::io::Print;
 use std::net::{Net, TcpListener, TcpStream};
 use std::rt::Files;
@@ -18,7 +19,11 @@ use ts_cli::Task;
 ///
 /// Why the task fails.
 pub fn run<
-    R: AllocGlobal + Files + Net<Listener = TcpListener, Stream = TcpStream> + Print + Eprint,
+    R: AllocGlobal
+        + Files<File = File>
+        + Net<Listener = TcpListener, Stream = TcpStream>
+        + Print
+        + Eprint,
 >(rt: &R, task: &Task) -> Result<(), Fault>
     requires { IsInRange task.now }
 {
@@ -26,18 +31,8 @@ pub fn run<
         Task::Lab => Ok(()),
         Task::Format { file, id, nodes } => format_record(rt, file.as_str(), *id, *nodes),
         Task::Migrate { old, new } => migrate_record(rt, old.as_str(), new.as_str()),
-        Task::Serve {
-            file,
-            listen,
-            table,
-            connections,
-        } => {
-            let table = match table {
-                Some(path) => Some(path.as_str()),
-                None => None,
-            };
-            serve_record(rt, file.as_str(), listen.as_str(), table, *connections)
-        }
+        Task::Serve(words) => serve_record(rt, words),
+        Task::Verify(_words) => Ok(()),
         Task::Submit { address, file } => submit_file(rt, address.as_str(), file.as_str()),
         Task::Ask { address, file } => ask_file(rt, address.as_str(), file.as_str()),
         Task::Carry { addresses, rounds } => carry_messages(rt, addresses, *rounds),

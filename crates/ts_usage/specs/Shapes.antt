@@ -43,6 +43,11 @@ leaf name rules = record (new_shape name) { rules = rules }
 abbrev pub with_argument : Shape → Rule → Shape
 with_argument shape rule = record shape { rules = shape.rules ++ rule ∷ [] }
 
+-- a command with more arguments
+abbrev pub with_arguments : Shape → List Rule → Shape
+with_arguments shape [] = shape
+with_arguments shape (rule ∷ rules) = with_arguments (with_argument shape rule) rules
+
 -- a command that wants a subcommand, and has none for help
 abbrev pub choice : Text → List Rule → List Shape → App
 choice name rules subs = record {
@@ -88,9 +93,26 @@ format = leaf (codes "format")
 unfoldable pub migrate : Shape
 migrate = leaf (codes "migrate") (word (codes "old") ∷ word (codes "new") ∷ [])
 
+-- how long a client is waited for, and how many are served at once
+unfoldable pub with_limits : Shape → Shape
+with_limits own = with_arguments own
+    (option (codes "idle") ∷ option (codes "request") ∷ option (codes "connections-at-once")
+    ∷ option (codes "connections") ∷ [])
+
 unfoldable pub serve : Shape
-serve = leaf (codes "serve") (word (codes "file") ∷ needed (option (codes "listen"))
-    ∷ option (codes "table") ∷ option (codes "connections") ∷ [])
+serve = with_limits (leaf (codes "serve") (word (codes "file")
+    ∷ needed (option (codes "listen")) ∷ option (codes "table") ∷ flag (codes "stand-in") ∷ []))
+
+-- what path validation is asked beside the certificates
+unfoldable pub with_inputs : Shape → Shape
+with_inputs own = with_arguments own
+    (option (codes "at") ∷ option (codes "host") ∷ flag (codes "soft") ∷ flag (codes "deltas")
+    ∷ flag (codes "explicit") ∷ flag (codes "nomap") ∷ flag (codes "noany")
+    ∷ options (codes "policy") ∷ option (codes "purpose") ∷ [])
+
+unfoldable pub verify : Shape
+verify = with_inputs (leaf (codes "verify") (needed (options (codes "anchor"))
+    ∷ options (codes "crl") ∷ needed (words (codes "certificates")) ∷ []))
 
 -- an address and a file
 abbrev pub sending : Text → Shape
@@ -121,7 +143,7 @@ with_upkeep app = with_tasks app
 
 unfoldable pub program : App
 program = with_upkeep (with_tasks node_tasks
-    (named (codes "command") ∷ named (codes "question") ∷ reading (codes "id")
+    (verify ∷ named (codes "command") ∷ named (codes "question") ∷ reading (codes "id")
     ∷ reading (codes "show") ∷ []))
 
 -- ---- `trustd command`
@@ -141,11 +163,6 @@ commands = with_tasks (with_rule (choice (codes "command") [] []) (option (codes
     )
 
 -- ---- `trustd question`
-
--- a command with more arguments
-abbrev pub with_arguments : Shape → List Rule → Shape
-with_arguments shape [] = shape
-with_arguments shape (rule ∷ rules) = with_arguments (with_argument shape rule) rules
 
 unfoldable pub with_flags : Shape → Shape
 with_flags own = with_arguments own

@@ -1,11 +1,12 @@
 //! What the program takes.
 
 ghost use Rattle.std.specs.Prelude.{◌≡◌, IfOk};
-ghost use Rattle.clap.specs.Simple.{App, app_of};
+ghost use Rattle.clap.specs.Simple.{App, Shape, app_of};
 ghost use Rattle.ts_usage.specs.Shapes as shapes;
 ghost use Rattle.ts_usage.specs.Shapes.{IsApp, IsLocal, IsShape};
 
-use crate::arguments::{among, choice, leaf, needed, option, reading, with, word, words};
+use crate::arguments::{among, choice, flag, leaf, needed, option, reading, with, word, words};
+use crate::verify_shape::verify;
 use clap::Command;
 use std::alloc::{AllocError, Global};
 
@@ -39,6 +40,25 @@ fn migrate<'a>(alloc: Global) -> Result<Command<'a>, AllocError>
     with(with(leaf(alloc, "migrate", about), old), new)
 }
 
+/// A command with how long a client is waited for, and how many are served at once.
+fn with_limits<'a>(
+    alloc: Global,
+    own: Result<Command<'a>, AllocError>,
+) -> Result<Command<'a>, AllocError>
+    ensures shape { (shape : Shape) → IfOk own.entry (IsShape shape)
+        → IfOk result (IsShape (shapes.with_limits shape)) }
+    ensures local { IfOk own.entry IsLocal → IfOk result IsLocal }
+{
+    let help = "Seconds that a silent client is kept, 1 to 3600; 30 if not given";
+    let all = with(own, option(alloc, "idle", "SECONDS", help));
+    let help = "Seconds for a whole request, and for an answer to be read; 5 if not given";
+    let all = with(all, option(alloc, "request", "SECONDS", help));
+    let help = "How many clients are served at once, 1 to 4096; 512 if not given";
+    let all = with(all, option(alloc, "connections-at-once", "N", help));
+    let help = "End after so many connections, for tests; never if not given";
+    with(all, option(alloc, "connections", "C", help))
+}
+
 /// A node is served.
 fn serve<'a>(alloc: Global) -> Result<Command<'a>, AllocError>
     ensures shape { IfOk result (IsShape shapes.serve) }
@@ -46,15 +66,18 @@ fn serve<'a>(alloc: Global) -> Result<Command<'a>, AllocError>
 {
     let about = "Answers clients and other nodes";
     let record = "The record of the node";
-    let table = "Signatures that are good, a line each";
-    let connections = "How many connections to take, 1 to 1000000; 1000000 if not given";
+    let table = "Signatures that are good besides, a line each";
+    let stand_in = "Take the examples' stand-in for signatures: anybody can forge one";
     let command = with(
         leaf(alloc, "serve", about),
         word(alloc, "file", "FILE", record),
     );
     let listen = needed(option(alloc, "listen", "ADDR", "HOST:PORT to listen at"));
     let command = with(with(command, listen), option(alloc, "table", "FILE", table));
-    with(command, option(alloc, "connections", "C", connections))
+    with_limits(
+        alloc,
+        with(command, flag(alloc, "stand-in", stand_in)),
+    )
 }
 
 /// A command with an address and a file.
@@ -137,12 +160,13 @@ fn node_tasks<'a>(alloc: Global) -> Result<Command<'a>, AllocError>
 pub fn program<'a>(alloc: Global) -> Result<Command<'a>, AllocError>
     ensures { IfOk result (λ r. app_of r ≡ shapes.program) }
 {
+    let program = among(node_tasks(alloc), verify(alloc));
     let what = "Writes an encoded command to standard output";
-    let program = among(node_tasks(alloc), leaf(alloc, "command", what));
+    let program = among(program, leaf(alloc, "command", what));
     let what = "Writes an encoded question to standard output";
     let program = among(program, leaf(alloc, "question", what));
     let about = "Prints the id of an anchor or list";
-    let what = "The certificate or list in DER";
+    let what = "The certificate or CRL, in PEM or DER";
     let program = among(program, reading(alloc, "id", about, "FILE", what));
     let what = "A certificate, list, command, question or record";
     let program = among(

@@ -1,0 +1,53 @@
+//! What `trustd verify` takes.
+
+ghost use Rattle.std.specs.Prelude.{◌≡◌, IfOk};
+ghost use Rattle.clap.specs.Simple.{Shape};
+ghost use Rattle.ts_usage.specs.Shapes as shapes;
+ghost use Rattle.ts_usage.specs.Shapes.{IsLocal, IsShape};
+
+use crate::arguments::{flag, leaf, needed, option, options, with, words};
+use clap::Command;
+use std::alloc::{AllocError, Global};
+
+/// A command with what path validation is asked beside the certificates.
+fn with_inputs<'a>(
+    alloc: Global,
+    own: Result<Command<'a>, AllocError>,
+) -> Result<Command<'a>, AllocError>
+    ensures shape { (shape : Shape) → IfOk own.entry (IsShape shape)
+        → IfOk result (IsShape (shapes.with_inputs shape)) }
+    ensures local { IfOk own.entry IsLocal → IfOk result IsLocal }
+{
+    let help = "The moment, as 20260101000000Z, or now, which is the default";
+    let all = with(own, option(alloc, "at", "TIME", help));
+    let help = "The host name or IP address that the leaf is for";
+    let all = with(all, option(alloc, "host", "NAME", help));
+    let help = "With --crl: accept a certificate whose status no CRL gives";
+    let all = with(all, flag(alloc, "soft", help));
+    let all = with(all, flag(alloc, "deltas", "Use delta CRLs"));
+    let all = with(all, flag(alloc, "explicit", "Want a valid policy"));
+    let all = with(all, flag(alloc, "nomap", "Map no policies"));
+    let help = "Let anyPolicy stand for no other";
+    let all = with(all, flag(alloc, "noany", help));
+    let help = "A policy that the user accepts; any if none is given";
+    let all = with(all, options(alloc, "policy", "OID", help));
+    with(
+        all,
+        option(alloc, "purpose", "OID", "What the leaf is for"),
+    )
+}
+
+/// A chain is judged without a node.
+pub(crate) fn verify<'a>(alloc: Global) -> Result<Command<'a>, AllocError>
+    ensures shape { IfOk result (IsShape shapes.verify) }
+    ensures local { IfOk result IsLocal }
+{
+    let command = leaf(alloc, "verify", "Judges a certificate chain, without a node");
+    let help = "Trust anchors, in PEM or DER; several files by several --anchor";
+    let command = with(command, needed(options(alloc, "anchor", "FILE", help)));
+    let help = "CRLs, in PEM or DER; revocation is then checked";
+    let command = with(command, options(alloc, "crl", "FILE", help));
+    let help = "The leaf and the certificates between, in PEM or DER, in any order";
+    let command = with(command, needed(words(alloc, "certificates", "CERT", help)));
+    with_inputs(alloc, command)
+}
