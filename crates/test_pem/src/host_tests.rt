@@ -60,7 +60,10 @@ const FAULTS: &[(&str, HostFault)] = &[
 #[test]
 fn no_hosts(rt: HostRuntime) -> Result<(), Fail> {
     for (text, fault) in FAULTS {
-        assert!(rt; matches!(Host::parse(text.as_bytes()), Err(found) if found == *fault), "{text}");
+        assert!(rt;
+            matches!(Host::parse(text.as_bytes()), Err(found) if found == *fault),
+            "{text}"
+        );
     }
     let label = [b'a'; 64];
     assert!(rt; matches!(Host::parse(&label), Err(HostFault::LongLabel)));

@@ -30,11 +30,19 @@ fn with_returns(alloc: Global, text: &str) -> Result<Vec<u8>, AllocError> {
 #[test]
 fn texts_of_openssl(rt: HostRuntime) -> Result<(), Fail> {
     let alloc = rt.alloc();
-    let text = format!(in alloc; "{KEY}Certificate:\n    Data: 3\n{CERTIFICATE}\n{CRL}{CERTIFICATE}")?;
+    let text = format!(in alloc;
+        "{KEY}Certificate:\n    Data: 3\n{CERTIFICATE}\n{CRL}{CERTIFICATE}"
+    )?;
     let certificates = read_certificates(alloc, text.as_bytes())?;
     assert_eq!(rt; certificates.len(), 2);
-    assert_eq!(rt; digest(alloc, &certificates[0])?.as_str(), CERTIFICATE_DIGEST);
-    assert_eq!(rt; digest(alloc, &certificates[1])?.as_str(), CERTIFICATE_DIGEST);
+    assert_eq!(rt;
+        digest(alloc, &certificates[0])?.as_str(),
+        CERTIFICATE_DIGEST
+    );
+    assert_eq!(rt;
+        digest(alloc, &certificates[1])?.as_str(),
+        CERTIFICATE_DIGEST
+    );
     let lists = read_crls(alloc, text.as_bytes())?;
     assert_eq!(rt; lists.len(), 1);
     assert_eq!(rt; digest(alloc, &lists[0])?.as_str(), CRL_DIGEST);

@@ -1,12 +1,12 @@
 -- The lines of a text by its first line feed.
-use Rattle.std.proofs.Common.{◌≡◌, ℕ, ◌+◌, ◌<◌, ◌≤◌, Bool, true, false, List, [], ◌∷◌, ◌-◌, suc, length, get_or, take, drop, refl, ap, arith, sym, ◌∙◌, length-drop, cond, not, nat_lt}
+use Rattle.std.proofs.Common.{◌≡◌, ℕ, ◌+◌, ◌<◌, ◌≤◌, Bool, true, false, List, [], ◌∷◌, ◌-◌, suc, length, take, drop, refl, ap, arith, sym, ◌∙◌, length-drop, cond, not, nat_lt}
 use Rattle.std.specs.Prelude.{Some, None}
 use Rattle.std.specs.List.{position, position_or_len, prefix_len, slice_split, onto_first}
 use Rattle.std.proofs.lemmas.List.{take_all}
 use Rattle.std.proofs.lemmas.Bool.Decides.{nat_tests}
 use Rattle.std.proofs.lemmas.List.Quantifiers.{position-Some}
 use Rattle.std.proofs.lemmas.List.Sums.{position_or_len_is}
-use Rattle.std.proofs.lemmas.List.Splits.{slice_split_first, slice_split_none}
+use Rattle.std.proofs.lemmas.List.Splits.{slice_split_first}
 
 first_is : (p : ℕ → Bool) (xs : List ℕ) (i : ℕ) → position p xs ≡ Some i → position_or_len p xs ≡ i
 first_is p xs i found =
@@ -41,8 +41,8 @@ split_whole p [] few = refl
 split_whole p (x ∷ xs) few =
     (elim (p x) as (λ b. suc (length xs) ≤ cond (not b) (1 + prefix_len (λ y. not (p y)) xs) 0
     → cond b ([] ∷ slice_split p xs) (onto_first x (slice_split p xs)) ≡ (x ∷ xs) ∷ []) [
-      true ↦ λ h. absurd (omega arith)
-    | false ↦ λ h. ap (λ (parts : List (List ℕ)). onto_first x parts) (split_whole p xs (omega arith))
+      | true ↦ λ h. absurd (omega arith)
+      | false ↦ λ h. ap (λ (parts : List (List ℕ)). onto_first x parts) (split_whole p xs (omega arith))
     ]) few
 
 pub split_none : (p : ℕ → Bool) (xs : List ℕ) → position p xs ≡ None → slice_split p xs ≡ xs ∷ []

@@ -1,6 +1,6 @@
 -- The blocks of lines, line by line.
 use Rattle.std.proofs.Common.{◌≡◌, ℕ, ◌+◌, List, [], ◌∷◌, refl, ap, sym, ◌∙◌}
-use Rattle.std.specs.Prelude.{Result, Ok, Err, Option, Some, None}
+use Rattle.std.specs.Prelude.{Result, Ok, Err}
 use Rattle.ts_pem.specs.declared.fault.PemFault.{PemFault}
 use Rattle.ts_pem.specs.declared.fault.PemFault.TheVariants.{NoEnd, OtherEnd, NotBase64, OutOfMemory}
 use Rattle.ts_pem.specs.Pem.{Reading, PemBlock, step, trimmed, blocks_from, at_end, and_then}

@@ -1,5 +1,5 @@
 -- Blanks at the end of a line.
-use Rattle.std.proofs.Common.{◌≡◌, ℕ, Bool, true, false, List, [], ◌∷◌, ◌++◌, ◌≤◌, ◌-◌, ◌<◌, suc, length, get_or, take, refl, ap, ◌∙◌, sym, arith}
+use Rattle.std.proofs.Common.{◌≡◌, ℕ, true, false, List, [], ◌∷◌, ◌++◌, ◌≤◌, ◌-◌, ◌<◌, suc, length, get_or, take, refl, ap, ◌∙◌, sym, arith}
 use Rattle.std.proofs.Math.Seq.{take-suc}
 use Rattle.std.proofs.lemmas.List.{take_all}
 use Rattle.ts_pem.specs.Pem.{trimmed, in_front, is_blank}

@@ -7,7 +7,7 @@ use Rattle.ts_pem.specs.declared.block.Label.{Label}
 use Rattle.ts_pem.specs.declared.block.Label.TheVariants.{Certificate, Crl}
 use Rattle.ts_pem.specs.declared.fault.PemFault.{PemFault}
 use Rattle.ts_pem.specs.declared.fault.PemFault.TheVariants.{OutOfMemory}
-use Rattle.ts_pem.specs.Pem.{PemBlock, blocks_of, lines, trimmed, is_begin}
+use Rattle.ts_pem.specs.Pem.{PemBlock, blocks_of, lines, is_begin}
 
 abbrev pub block_in : Block → PemBlock
 block_in b = record { label = b.label; octets = b.octets.items }

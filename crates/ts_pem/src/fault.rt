@@ -4,8 +4,7 @@ ghost use Rattle.std.specs.Prelude.{◌≡◌};
 ghost use Rattle.ts_pem.specs.declared.fault.PemFault.TheVariants.{OutOfMemory as NoMemory};
 
 use std::alloc::AllocError;
-use std::error;
-use std::fmt;
+use std::{error, fmt};
 
 /// Why the blocks of a text can't be read. Lines are counted from 1.
 #[derive(Clone, Copy, Debug, PartialEq, Eq, Drop)]

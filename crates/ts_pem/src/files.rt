@@ -60,9 +60,7 @@ fn read_values(alloc: Global, label: Label, octets: &[u8]) -> Result<Vec<Vec<u8>
         return Ok(labelled(alloc, label, blocks)?);
     }
     let mut found = Vec::new(alloc);
-    found
-        .push(octets.to_vec(alloc)?)
-        .map_err(AllocError::from)?;
+    found.push(octets.to_vec(alloc)?).map_err(AllocError::from)?;
     Ok(found)
 }
 

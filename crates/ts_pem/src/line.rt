@@ -10,8 +10,11 @@ ghost use Rattle.ts_pem.specs.Lines.{rest_of, IsShorter};
 use crate::block::Label;
 
 const BEGIN_CERTIFICATE: &[u8] = b"-----BEGIN CERTIFICATE-----";
+
 const END_CERTIFICATE: &[u8] = b"-----END CERTIFICATE-----";
+
 const BEGIN_CRL: &[u8] = b"-----BEGIN X509 CRL-----";
+
 const END_CRL: &[u8] = b"-----END X509 CRL-----";
 
 /// Where the first line feed of a text is.

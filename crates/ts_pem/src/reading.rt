@@ -76,7 +76,11 @@ impl Reading {
     fn take(self, number: usize, line: &[u8]) -> Result<Reading, PemFault>
         ensures { Gives (λ r. r) result (step number line.now self.blocks self.open_block) }
     {
-        let Reading { alloc, blocks, current } = self;
+        let Reading {
+            alloc,
+            blocks,
+            current,
+        } = self;
         match current {
             None => Ok(begin(alloc, blocks, number, line)),
             Some(current) => within(alloc, blocks, current, number, line),
@@ -161,11 +165,12 @@ fn close(
     let Some(octets) = decode(alloc, &current.body)? else {
         return Err(PemFault::NotBase64(number));
     };
-    blocks.push(Block {
-        label: current.label,
-        octets,
-    })
-    .map_err(AllocError::from)?;
+    blocks
+        .push(Block {
+            label: current.label,
+            octets,
+        })
+        .map_err(AllocError::from)?;
     Ok(Reading {
         alloc,
         blocks,

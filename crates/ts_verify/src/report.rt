@@ -1,7 +1,7 @@
 //! What is reported of a chain of certificates.
 
 use ts_cert::Cert;
-use ts_path::Reason;
+use ts_path::{Anchor, Reason};
 
 /// What is found of a chain.
 #[derive(Drop)]
@@ -27,4 +27,8 @@ pub struct Report<'a> {
     pub chain: Vec<Cert<'a>>,
     /// The place of its anchor among those that were given, from 0.
     pub anchor_place: usize,
+    /// That anchor.
+    pub anchor: Anchor<'a>,
+    /// Whether a CRL was given. Where none was, revocation was not looked at.
+    pub has_lists: bool,
 }

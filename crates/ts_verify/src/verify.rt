@@ -69,6 +69,8 @@ fn report_on<'a, S: SignatureCheck>(
         finding: finding_of(&certificates[0], host, verdict),
         chain,
         anchor_place: place,
+        anchor: anchors[place],
+        has_lists: !crls.lists.is_empty() || !crls.deltas.is_empty(),
     })
 }
 
