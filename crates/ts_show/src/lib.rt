@@ -12,6 +12,9 @@
 //!   digest that names it; of what is neither and begins with the tag of a SEQUENCE they are the
 //!   first broken rule of each, with its place.
 //! - [`Kind::word`]: the word for a kind.
+//! - [`Line`]: a line of printable characters alone, whatever is written to it (`printable`): octets
+//!   as they are shown, octets in hexadecimal digits, numbers in decimal (their clauses).
+//! - [`write_name`], [`write_oid`]: a distinguished name and an object identifier in such a line.
 //! - [`laws::one_kind`]: octets hold one kind of thing.
 //!
 //! What the other lines say of a certificate, a list, a command, a question and a record no clause
@@ -44,4 +47,6 @@ mod time;
 mod value;
 
 pub use kind::{Kind, kind_of};
+pub use line::Line;
+pub use name::{write_name, write_oid};
 pub use shown::show;

@@ -10,7 +10,7 @@ use std::marker::Model;
 
 /// A line of printable characters of ASCII alone, whatever is written. Contracts see its octets.
 #[derive(Drop)]
-pub(crate) struct Line {
+pub struct Line {
     alloc: Global,
     octets: Vec<u8>,
 }
@@ -49,7 +49,7 @@ fn is_printable(octet: u8) -> bool
 
 impl Line {
     /// An empty line.
-    pub(crate) fn new(alloc: Global) -> Line
+    pub fn new(alloc: Global) -> Line
         ensures { result ≡ [] }
     {
         Line {
@@ -59,7 +59,7 @@ impl Line {
     }
 
     /// A line that begins with these octets.
-    pub(crate) fn of(alloc: Global, octets: &[u8]) -> Result<Line, AllocError>
+    pub fn of(alloc: Global, octets: &[u8]) -> Result<Line, AllocError>
         ensures { IfOk result (λ line. line ≡ shown octets.now) }
     {
         let mut line = Line::new(alloc);
@@ -68,7 +68,7 @@ impl Line {
     }
 
     /// The octets of the line.
-    pub(crate) fn as_slice(&self) -> &[u8]
+    pub fn as_slice(&self) -> &[u8]
         ensures octets { result.now ≡ self.now }
         ensures printable { list_all is_printable self.now ≡ true }
     {
@@ -98,7 +98,7 @@ impl Line {
     }
 
     /// Writes octets in this way.
-    pub(crate) fn text(&mut self, octets: &[u8]) -> Result<(), AllocError>
+    pub fn text(&mut self, octets: &[u8]) -> Result<(), AllocError>
         ensures { OnOk result (self.new ≡ self.old ++ shown octets.now) }
     {
         for octet in octets {
@@ -108,7 +108,7 @@ impl Line {
     }
 
     /// Writes a space and octets.
-    pub(crate) fn word(&mut self, octets: &[u8]) -> Result<(), AllocError>
+    pub fn word(&mut self, octets: &[u8]) -> Result<(), AllocError>
         ensures { OnOk result (self.new ≡ self.old ++ 32 ∷ shown octets.now) }
     {
         self.put(b' ')?;
@@ -124,7 +124,7 @@ impl Line {
     }
 
     /// Writes octets as hexadecimal digits.
-    pub(crate) fn hex(&mut self, octets: &[u8]) -> Result<(), AllocError>
+    pub fn hex(&mut self, octets: &[u8]) -> Result<(), AllocError>
         ensures { OnOk result (self.new ≡ self.old ++ hex octets.now) }
     {
         for octet in octets {
@@ -135,7 +135,7 @@ impl Line {
 
     /// Writes a number in decimal.
     #[tactic(auto, using(crate::proofs::Plain::shown_decimal))]
-    pub(crate) fn number(&mut self, number: u64) -> Result<(), AllocError>
+    pub fn number(&mut self, number: u64) -> Result<(), AllocError>
         ensures { OnOk result (self.new ≡ self.old ++ decimal number) }
     {
         let digits = format!(in self.alloc; "{number}")?;

@@ -19,7 +19,7 @@ const SHORT_NAMES: [(&[u8], &str); 7] = [
 ];
 
 /// Writes the dotted form of the object identifier that has these contents octets.
-pub(crate) fn write_oid(alloc: Global, line: &mut Line, content: &[u8]) -> Result<(), AllocError> {
+pub fn write_oid(alloc: Global, line: &mut Line, content: &[u8]) -> Result<(), AllocError> {
     match OidRef::from_content(content) {
         Some(oid) => {
             let dotted = format!(in alloc; "{oid}")?;
@@ -68,7 +68,7 @@ fn write_rdn(alloc: Global, line: &mut Line, rdn: Rdn<'_>) -> Result<(), AllocEr
 
 /// Writes a distinguished name, its relative ones in their order and a comma between each two; of
 /// an empty one a hyphen.
-pub(crate) fn write_name(alloc: Global, line: &mut Line, name: Name<'_>) -> Result<(), AllocError> {
+pub fn write_name(alloc: Global, line: &mut Line, name: Name<'_>) -> Result<(), AllocError> {
     let mut is_first = true;
     for rdn in name.rdns() {
         if !is_first {

@@ -1,0 +1,3 @@
+pub mod Splits
+pub mod Trimmed
+pub mod Steps

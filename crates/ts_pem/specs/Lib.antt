@@ -1,0 +1,3 @@
+pub mod Pem
+pub mod Lines
+pub mod Files

@@ -1,0 +1,6 @@
+pub mod Leaf
+pub mod Lines
+pub mod Judged
+pub mod Judging
+pub mod Report
+pub mod Text
