@@ -1,7 +1,7 @@
 //! The program `trustd`: reads the command line, and runs what it asks for.
 #![tactic(auto)]
 
-ghost use Rattle.std.specs.Prelude.{◌≡◌, ◌≤◌, OnErr, OnOk};
+ghost use Rattle.std.specs.Prelude.{◌≡◌, ◌≤◌, OnErr, OnOk, Ok, true, false};
 ghost use Rattle.ts_cli.specs.Says.{IsInRange};
 
 use std::io;
@@ -9,7 +9,7 @@ use std::io::Input;
 use std::process::ExitCode;
 use ts_cli::{Task, report, task_of_process};
 use ts_lab::lab;
-use ts_tasks::{Fault, run};
+use ts_tasks::{Fault, run, verify_files};
 
 /// Ends with the status of the task that the command line asks for, and with 2 for a wrong command
 /// line.
@@ -27,6 +27,7 @@ fn status_of_task(rt: &HostRuntime, task: &Task) -> u8
 {
     match task {
         Task::Lab => run_lab(rt),
+        Task::Verify(words) => status_of_verdict(rt, verify_files(rt, words)),
         other => status_of(rt, run(rt, other)),
     }
 }
@@ -48,6 +49,23 @@ fn status_of(rt: &impl Eprint, ended: Result<(), Fault>) -> u8
         Err(fault) => {
             let _printed = eprintln!(rt; "fault: {fault}");
             1
+        }
+    }
+}
+
+/// The status that a verdict ends with: 0 where the chain is valid, 1 where it is not, and 2 for a
+/// fault, whose name is printed on standard error.
+fn status_of_verdict(rt: &impl Eprint, ended: Result<bool, Fault>) -> u8
+    ensures valid { ended ≡ Ok true → result ≡ 0 }
+    ensures invalid { ended ≡ Ok false → result ≡ 1 }
+    ensures failed { OnErr ended (result ≡ 2) }
+{
+    match ended {
+        Ok(true) => 0,
+        Ok(false) => 1,
+        Err(fault) => {
+            let _printed = eprintln!(rt; "fault: {fault}");
+            2
         }
     }
 }

@@ -96,6 +96,7 @@ SaysChange name rows Noop = name ≡ codes "noop"
 pub record SaysCommand (own : List Row) (name : Text) (rows : List Row)
     (words : CommandWords) : Type 0 where
   pub id_is : AsWritten (IsHex 16) (first_of (codes "id") own) words.id
+  pub force_is : words.force ≡ is_set (codes "force") own
   pub change_is : SaysChange name rows words.change
 
 -- ---- questions

@@ -8,7 +8,7 @@ ghost use Rattle.ts_cli.specs.Given.{IsDigestAt};
 ghost use Rattle.ts_cli.specs.Says.{SaysChange, SaysCommand};
 
 use crate::fault::{CommandFault, WrongValue};
-use crate::matched::{string_at, text_at, value_at};
+use crate::matched::{is_set, string_at, text_at, value_at};
 use crate::oids::{oids_at, purposes_of};
 use crate::values::{digest_of, id_of};
 use clap::ArgMatches;
@@ -20,6 +20,8 @@ use ts_store::Purposes;
 pub struct CommandWords {
     /// The id of the command, if it is given.
     pub id: Option<[u8; 16]>,
+    /// Whether the command is written though the store will refuse its file.
+    pub force: bool,
     /// What the command does.
     pub change: Change,
 }
@@ -129,6 +131,7 @@ pub(crate) fn command_named(
 {
     Ok(CommandWords {
         id: command_id(own)?,
+        force: is_set(own, "force"),
         change: change_named(alloc, name, matches)?,
     })
 }

@@ -21,7 +21,9 @@ pub enum Fault {
     File,
     /// Another process holds the record.
     Busy,
-    /// A file is not one whole command or question.
+    /// The clock gives no time.
+    Clock,
+    /// A file is not one whole command or question, or holds no certificate or CRL.
     Field,
     /// A file is longer than a command's certificate or list may be.
     TooLong,
@@ -53,6 +55,7 @@ impl fmt::Display for Fault {
             Fault::Memory => "Memory",
             Fault::File => "File",
             Fault::Busy => "Busy",
+            Fault::Clock => "Clock",
             Fault::Field => "Field",
             Fault::TooLong => "TooLong",
             Fault::OutOfLimits => "OutOfLimits",

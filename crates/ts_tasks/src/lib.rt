@@ -1,5 +1,6 @@
 //! The tasks of the program, but the lab: the record of a node is made and served; commands,
-//! questions and messages are brought to servers; and what these programs read is made.
+//! questions and messages are brought to servers; what these programs read is made; and chains are
+//! judged without a node.
 //!
 //! ```text
 //! run(&rt, &task)?;                                               // `Fault` says why a task fails
@@ -9,18 +10,23 @@
 //!   it; what it prints and which fault it ends with, no clause says.
 //! - [`read_file`]: `short`: no more octets than a frame may have.
 //! - [`submit`], [`ask`], [`tend`]: the peer that is asked can be asked again.
-//! - [`format_files`], [`migrate_files`], [`open_disks`]: they end; what files give and take, no
-//!   contract can say.
+//! - [`format_files`], [`migrate_files`], [`open_disks`], [`RecordLock`]: they end; what files give
+//!   and take, no contract can say. A record is locked while it is made or served, so that another
+//!   process is answered `Busy`.
+//! - [`verify_files`]: it hands the certificates, CRLs and inputs that files and words give to
+//!   `ts_verify`, whose clauses say what the verdict is.
 #![tactic(auto)]
 
 mod fault;
 mod files;
 mod locking;
 mod making;
+mod material;
 mod programs;
 mod requests;
 mod running;
 mod upkeep;
+mod verifying;
 
 pub use fault::Fault;
 pub use files::{format_files, migrate_files, open_disks, read_file};
@@ -28,3 +34,4 @@ pub use locking::RecordLock;
 pub use requests::{ask, submit};
 pub use running::run;
 pub use upkeep::{Upkeep, tend};
+pub use verifying::verify_files;

@@ -2,12 +2,14 @@
 //! lists; what files hold.
 
 use crate::fault::Fault;
-use crate::files::{read_all, read_file, read_whole, second};
+use crate::files::{read_all, read_whole, second};
+use crate::material::{certificate_of, certificates_of, crl_of, crls_of, values_of};
 use std::alloc::Global;
 use std::io::{ErrorKind, Print, Read, Write};
 use std::rt::Files;
 use std::{fs, io};
 use ts_cli::{Change, CommandWords, QuestionWords, command_octets, id_text, question_octets};
+use ts_pem::{PemFault, is_pem, read_certificates, read_crls};
 use ts_show::show;
 
 /// Where ids are drawn from.
@@ -43,7 +45,7 @@ fn id_of(
 }
 
 /// Writes octets to standard output.
-fn put(rt: &impl Print, octets: &[u8]) -> Result<(), Fault> {
+pub(crate) fn put(rt: &impl Print, octets: &[u8]) -> Result<(), Fault> {
     match io::writer(rt).write_all(octets) {
         Ok(()) => Ok(()),
         Err(_) => Err(Fault::Write),
@@ -62,7 +64,8 @@ pub fn make_command(
 ) -> Result<(), Fault> {
     let alloc = rt.alloc();
     let contents = match &words.change {
-        Change::Add { file } | Change::Load { file } => read_file(rt, alloc, file.as_str())?,
+        Change::Add { file } => certificate_of(rt, alloc, file.as_str(), words.force)?,
+        Change::Load { file } => crl_of(rt, alloc, file.as_str(), words.force)?,
         _ => Vec::new(alloc),
     };
     let id = id_of(rt, words)?;
@@ -70,15 +73,17 @@ pub fn make_command(
     put(rt, &octets)
 }
 
-/// The octets of each of these files.
-fn read_files<R: Files + Eprint>(
+/// The certificates of these files, in their order.
+fn read_chain<R: Files + Eprint>(
     rt: &R,
     alloc: Global,
     files: &[String],
 ) -> Result<Vec<Vec<u8>>, Fault> {
     let mut found = Vec::new(alloc);
     for file in files {
-        found.push(read_file(rt, alloc, file.as_str())?)?;
+        for certificate in certificates_of(rt, alloc, file.as_str())? {
+            found.push(certificate)?;
+        }
     }
     Ok(found)
 }
@@ -93,35 +98,75 @@ pub fn make_question(
     words: &QuestionWords,
 ) -> Result<(), Fault> {
     let alloc = rt.alloc();
-    let certificates = read_files(rt, alloc, &words.files)?;
+    let certificates = read_chain(rt, alloc, &words.files)?;
     let octets = question_octets(alloc, words, &certificates)?;
     put(rt, &octets)
 }
 
-/// Prints the id by which a store knows the trust anchor or the list in a file.
+/// Prints the ids by which a store knows the trust anchors or the CRLs in a file, a line each: of
+/// PEM those of its certificates, or where it has none of its CRLs.
 ///
 /// # Errors
 ///
-/// Those of the file; `Write`.
-pub fn print_id(rt: &(impl AllocGlobal + Files + Print + Eprint), file: &str) -> Result<(), Fault> {
+/// Those of the file; `Field` where a block is broken; `Write`.
+pub fn print_id(
+    rt: &(impl AllocGlobal + Files + Print + Eprint),
+    file: &str,
+) -> Result<(), Fault> {
     let alloc = rt.alloc();
-    let octets = read_file(rt, alloc, file)?;
-    let text = id_text(alloc, &octets)?;
-    match println!(rt; "{text}") {
-        Ok(()) => Ok(()),
-        Err(_) => Err(Fault::Write),
+    let mut values = certificates_of(rt, alloc, file)?;
+    if values.is_empty() {
+        values = crls_of(rt, alloc, file)?;
     }
+    for octets in &values {
+        let text = id_text(alloc, octets)?;
+        if println!(rt; "{text}").is_err() {
+            return Err(Fault::Write);
+        }
+    }
+    Ok(())
 }
 
-/// Prints what a file holds. A record lies in two files; where the second can't be read it is taken
-/// for an empty one.
+/// The octets of the blocks of a text of PEM, certificates first.
+fn blocks_of(alloc: Global, octets: &[u8]) -> Result<Vec<Vec<u8>>, PemFault> {
+    let mut values = read_certificates(alloc, octets)?;
+    for crl in read_crls(alloc, octets)? {
+        if values.push(crl).is_err() {
+            return Err(PemFault::OutOfMemory);
+        }
+    }
+    Ok(values)
+}
+
+/// Prints what the blocks of a text of PEM hold, one after another.
+fn show_blocks(
+    rt: &(impl AllocGlobal + Print + Eprint),
+    file: &str,
+    octets: &[u8],
+) -> Result<(), Fault> {
+    let alloc = rt.alloc();
+    for block in &values_of(rt, file, blocks_of(alloc, octets))? {
+        let text = show(alloc, block, &[])?;
+        put(rt, &text)?;
+    }
+    Ok(())
+}
+
+/// Prints what a file holds; of PEM what each certificate and then each CRL is. A record lies in
+/// two files; where the second can't be read it is taken for an empty one.
 ///
 /// # Errors
 ///
-/// Those of the file; `Write`.
-pub fn show_file(rt: &(impl AllocGlobal + Files + Print + Eprint), file: &str) -> Result<(), Fault> {
+/// Those of the file; `Field` where a block of PEM is broken; `Write`.
+pub fn show_file(
+    rt: &(impl AllocGlobal + Files + Print + Eprint),
+    file: &str,
+) -> Result<(), Fault> {
     let alloc = rt.alloc();
     let octets = read_all(rt, alloc, file)?;
+    if is_pem(&octets) {
+        return show_blocks(rt, file, &octets);
+    }
     let other = match read_whole(rt, alloc, second(alloc, file)?.as_str()) {
         Ok(other) => other,
         Err(error) if error.kind() == ErrorKind::OutOfMemory => return Err(Fault::Memory),

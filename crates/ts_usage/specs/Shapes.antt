@@ -156,7 +156,8 @@ unfoldable pub purposes : Shape
 purposes = leaf (codes "purposes") (word (codes "anchor") ∷ words (codes "purposes") ∷ [])
 
 unfoldable pub commands : App
-commands = with_tasks (with_rule (choice (codes "command") [] []) (option (codes "id"))) (
+commands = with_tasks (with_rule (with_rule (choice (codes "command") [] []) (option (codes "id")))
+    (flag (codes "force"))) (
     reading (codes "add") ∷ naming (codes "withdraw") (codes "anchor") ∷ reading (codes "load")
     ∷ naming (codes "drop") (codes "list")
     ∷ purposes ∷ leaf (codes "noop") [] ∷ []

@@ -5,7 +5,7 @@ ghost use Rattle.clap.specs.Simple.{app_of};
 ghost use Rattle.ts_usage.specs.Shapes as shapes;
 ghost use Rattle.ts_usage.specs.Shapes.{IsLocal, IsShape};
 
-use crate::arguments::{among, choice, leaf, option, reading, with, with_own, word, words};
+use crate::arguments::{among, choice, flag, leaf, option, reading, with, with_own, word, words};
 use clap::Command;
 use std::alloc::{AllocError, Global};
 
@@ -43,18 +43,21 @@ pub fn commands<'a>(alloc: Global) -> Result<Command<'a>, AllocError>
     let help = "The id of the command, 32 lower-case hexadecimal digits; a drawn one if not given";
     let all = choice(alloc, "command", about, "trustd command");
     let all = with_own(all, option(alloc, "id", "HEX", help));
+    let help = "Write the command of a file too that the store will refuse";
+    let all = with_own(all, flag(alloc, "force", help));
     let what = "Adds a trust anchor, for any purpose";
     let all = among(
         all,
-        reading(alloc, "add", what, "CERT", "The certificate in DER"),
+        reading(alloc, "add", what, "CERT", "The certificate, in PEM or DER"),
     );
     let all = among(
         all,
         naming(alloc, "withdraw", "Removes a trust anchor", "anchor"),
     );
-    let what = "Adds a list of revoked certificates, complete or delta";
-    let all = among(all, reading(alloc, "load", what, "CRL", "The list in DER"));
-    let what = "Removes a list of revoked certificates";
+    let what = "Adds a CRL, complete or delta";
+    let help = "The CRL, in PEM or DER";
+    let all = among(all, reading(alloc, "load", what, "CRL", help));
+    let what = "Removes a CRL";
     let all = among(all, naming(alloc, "drop", what, "list"));
     let all = among(all, purposes(alloc));
     among(all, leaf(alloc, "noop", "Changes nothing"))

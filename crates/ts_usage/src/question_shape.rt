@@ -20,7 +20,7 @@ fn with_flags<'a>(
 {
     let help = "Refuse a certificate of unknown status";
     let all = with(own, flag(alloc, "hard", help));
-    let all = with(all, flag(alloc, "deltas", "Use delta lists"));
+    let all = with(all, flag(alloc, "deltas", "Use delta CRLs"));
     let all = with(all, flag(alloc, "explicit", "Want a valid policy"));
     let all = with(all, flag(alloc, "nomap", "Map no policies"));
     with(
@@ -58,7 +58,7 @@ fn chain<'a>(alloc: Global) -> Result<Command<'a>, AllocError>
     let command = leaf(alloc, "chain", "Is this chain valid under this anchor?");
     let help = "The id of the anchor, 64 lower-case hexadecimal digits";
     let command = with(command, needed(option(alloc, "anchor", "ID", help)));
-    let help = "The chain in DER from the anchor's side, 1 to 16";
+    let help = "The chain from the anchor's side, 1 to 16, in PEM or DER";
     let command = with(command, needed(words(alloc, "certificates", "CERT", help)));
     with_terms(alloc, command)
 }
@@ -71,9 +71,9 @@ fn search<'a>(alloc: Global) -> Result<Command<'a>, AllocError>
     let command = leaf(alloc, "search", "Is there a valid chain to this leaf?");
     let command = with(
         command,
-        word(alloc, "leaf", "LEAF", "The certificate in DER"),
+        word(alloc, "leaf", "LEAF", "The certificate, in PEM or DER"),
     );
-    let help = "Others in DER through which the chain may go, at most 32";
+    let help = "Others through which the chain may go, at most 32";
     let command = with(command, words(alloc, "pool", "POOL", help));
     with_terms(alloc, command)
 }

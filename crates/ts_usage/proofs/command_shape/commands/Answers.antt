@@ -5,7 +5,8 @@ pub returns : goal.returns
 unfolding commands
 returns c =
     let id = c.with_own-all.ensures _ _ c.option.ensures.rule c.choice-all.ensures in
-    let add = c.among-all.ensures _ _ id c.reading.ensures.shape in
+    let force = c.with_own-all-2.ensures _ _ c.flag.ensures.rule id in
+    let add = c.among-all.ensures _ _ force c.reading.ensures.shape in
     let withdraw = c.among-all-2.ensures _ _ add c.naming.ensures.shape in
     let load = c.among-all-3.ensures _ _ withdraw c.reading-2.ensures.shape in
     let drop_list = c.among-all-4.ensures _ _ load c.naming-2.ensures.shape in

@@ -1,0 +1,126 @@
+//! Certificates and CRLs in files, in PEM or DER.
+
+use crate::fault::Fault;
+use crate::files::read_file;
+use std::alloc::Global;
+use std::rt::Files;
+use ts_cert::Cert;
+use ts_crl::Crl;
+use ts_pem::{PemFault, read_certificates, read_crls};
+use ts_shape::CertFault;
+
+/// What a text of blocks holds, or the fault of the file, of which standard error says the line.
+pub(crate) fn values_of(
+    rt: &impl Eprint,
+    path: &str,
+    read: Result<Vec<Vec<u8>>, PemFault>,
+) -> Result<Vec<Vec<u8>>, Fault> {
+    match read {
+        Ok(values) => Ok(values),
+        Err(PemFault::OutOfMemory) => Err(Fault::Memory),
+        Err(fault) => {
+            let _ = eprintln!(rt; "trustd: {path}: {fault}");
+            Err(Fault::Field)
+        }
+    }
+}
+
+/// The certificates of a file: those of the blocks of PEM, else one, the file's octets, which are
+/// not looked at.
+///
+/// # Errors
+///
+/// Those of the file; `Field` where a block is broken.
+pub fn certificates_of<R: Files + Eprint>(
+    rt: &R,
+    alloc: Global,
+    path: &str,
+) -> Result<Vec<Vec<u8>>, Fault> {
+    let octets = read_file(rt, alloc, path)?;
+    values_of(rt, path, read_certificates(alloc, &octets))
+}
+
+/// The CRLs of a file, in the same way.
+///
+/// # Errors
+///
+/// Those of [`certificates_of`].
+pub fn crls_of<R: Files + Eprint>(
+    rt: &R,
+    alloc: Global,
+    path: &str,
+) -> Result<Vec<Vec<u8>>, Fault> {
+    let octets = read_file(rt, alloc, path)?;
+    values_of(rt, path, read_crls(alloc, &octets))
+}
+
+/// The one value of a file that is to have one.
+fn single(rt: &impl Eprint, path: &str, mut values: Vec<Vec<u8>>) -> Result<Vec<u8>, Fault> {
+    let count = values.len();
+    match values.pop() {
+        Some(value) if count == 1 => Ok(value),
+        _ => {
+            let _ = eprintln!(rt; "trustd: {path}: holds {count} of its kind, where one is wanted");
+            Err(Fault::Field)
+        }
+    }
+}
+
+/// Says why a file's octets are refused, with the rule and its offset.
+fn refuse(rt: &impl Eprint, path: &str, what: &str, fault: CertFault) -> Fault {
+    let (rule, at) = (fault.kind, fault.at);
+    let _ = eprintln!(rt; "trustd: {path}: no {what}: {rule} at {at} (--force writes it anyway)");
+    Fault::Field
+}
+
+/// The one certificate of a file. Unless it is forced, it is one by each rule.
+///
+/// # Errors
+///
+/// Those of [`certificates_of`]; `Field` where the file has another number of them, or a rule is
+/// broken.
+pub fn certificate_of<R: Files + Eprint>(
+    rt: &R,
+    alloc: Global,
+    path: &str,
+    force: bool,
+) -> Result<Vec<u8>, Fault> {
+    let octets = single(rt, path, certificates_of(rt, alloc, path)?)?;
+    if force {
+        return Ok(octets);
+    }
+    match Cert::read(&octets) {
+        Ok(_) => {}
+        Err(fault) => return Err(refuse(rt, path, "certificate", fault)),
+    }
+    Ok(octets)
+}
+
+/// Whether octets are a CRL; standard error says why not.
+fn is_crl(rt: &impl Eprint, path: &str, octets: &[u8]) -> bool {
+    match Crl::read(octets) {
+        Ok(_) => true,
+        Err(_) => {
+            let _ = eprintln!(rt; "trustd: {path}: no CRL that a store takes (--force writes it anyway)");
+            false
+        }
+    }
+}
+
+/// The one CRL of a file. Unless it is forced, it is one by each rule.
+///
+/// # Errors
+///
+/// Those of [`crls_of`]; `Field` where the file has another number of them, or a rule is broken.
+pub fn crl_of<R: Files + Eprint>(
+    rt: &R,
+    alloc: Global,
+    path: &str,
+    force: bool,
+) -> Result<Vec<u8>, Fault> {
+    let octets = single(rt, path, crls_of(rt, alloc, path)?)?;
+    if force || is_crl(rt, path, &octets) {
+        return Ok(octets);
+    }
+    Err(Fault::Field)
+}
