@@ -1,0 +1,2 @@
+pub mod Montgomery
+pub mod Stored
