@@ -1,1 +1,3 @@
 pub mod Four
+pub mod Points
+pub mod Jacobian
