@@ -1,3 +1,5 @@
 pub mod Four
+pub mod Six
 pub mod Points
 pub mod Jacobian
+pub mod Curves
