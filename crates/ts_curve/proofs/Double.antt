@@ -85,7 +85,7 @@ z_is : (p x y z s : ℕ) → IsField p
     → value p (x ∷ y ∷ z ∷ s ∷ []) Z3 ≡ mul p (mul p 2 y) (mul p (mul p z z) (mul p z z))
 z_is p x y z s f = ring_eq p (positive p f) (x ∷ y ∷ z ∷ s ∷ []) Z3 (times (times (num 2) (var 1)) (fourth (var 2))) refl refl refl
 
-minus_three : (p : ℕ) → IsField p → sub p 0 3 ≡ p - 3
+pub minus_three : (p : ℕ) → IsField p → sub p 0 3 ≡ p - 3
 minus_three p f =
     let h = f.above in
     let e : 3 % p ≡ 3 = mod-eq_of_lt h in

@@ -5,3 +5,5 @@ pub mod Double
 pub mod Add
 pub mod Multiple
 pub mod Bits
+pub mod Numbers
+pub mod Tests

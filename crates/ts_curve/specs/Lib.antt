@@ -3,3 +3,4 @@ pub mod Six
 pub mod Points
 pub mod Jacobian
 pub mod Curves
+pub mod Octets
