@@ -10,7 +10,7 @@ use crate::point::CurvePoint;
 use crate::residue::Residue;
 
 /// A curve whose a is -3.
-pub trait Curve {
+pub trait DomainParameters {
     type Limbs: Limbs;
     type Prime: Modulus<Limbs = Self::Limbs>;
     type Order: Modulus<Limbs = Self::Limbs>;
@@ -44,14 +44,14 @@ pub trait Curve {
 }
 
 /// The base point.
-pub fn base_point<C: Curve>() -> CurvePoint<C::Prime>
+pub fn base_point<C: DomainParameters>() -> CurvePoint<C::Prime>
     ensures { result ≡ base C.curve }
 {
     CurvePoint::new(&Residue::from_limbs(&C::base_x()), &Residue::from_limbs(&C::base_y()))
 }
 
 /// Whether these are the coordinates of a point of the curve (SEC 1 3.2.2.1).
-pub fn is_on_curve<C: Curve>(x: &Residue<C::Prime>, y: &Residue<C::Prime>) -> bool
+pub fn is_on_curve<C: DomainParameters>(x: &Residue<C::Prime>, y: &Residue<C::Prime>) -> bool
     ensures { IsTrue result ↔ IsOnCurve C.curve x.now y.now }
 {
     let first = x.copy();
@@ -69,7 +69,7 @@ pub fn is_on_curve<C: Curve>(x: &Residue<C::Prime>, y: &Residue<C::Prime>) -> bo
 }
 
 /// The first coordinate of a point, modulo the order of the base point.
-pub fn scalar_of<C: Curve>(x: &Residue<C::Prime>) -> Residue<C::Order>
+pub fn scalar_of<C: DomainParameters>(x: &Residue<C::Prime>) -> Residue<C::Order>
     ensures { result ≡ x.now % C.curve.order }
 {
     Residue::from_limbs(&x.to_limbs())

@@ -15,7 +15,7 @@ mod point;
 mod residue;
 mod six;
 
-pub use curve::{Curve, base_point, is_on_curve, scalar_of};
+pub use curve::{DomainParameters, base_point, is_on_curve, scalar_of};
 pub use four::Limbs4;
 pub use limbs::Limbs;
 pub use modulus::Modulus;

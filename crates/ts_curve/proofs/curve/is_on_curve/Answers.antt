@@ -7,8 +7,8 @@ use Rattle.ts_curve.proofs.curve.is_on_curve.Goals as goal
 
 pub returns : goal.returns
 returns g c =
-    let q = g.C.Curve.curve in
-    let e = g.met.C.Curve.prime_is in
+    let q = g.C.DomainParameters.curve in
+    let e = g.met.C.DomainParameters.prime_is in
     let field = g.met.C.Prime.Modulus.is_field in
     let p = g.C.Prime.Modulus.prime in
     let three : c.from_limbs-three.result ≡ 3 =
@@ -16,9 +16,9 @@ returns g c =
     let minus : c.difference-a.result ≡ p - 3 =
     rw (c.difference-a.ensures, c.zero.ensures, three) (minus_three p field) in
     let a : c.difference-a.result ≡ q.a =
-    minus ∙ ap (λ k. k - 3) e ∙ sym g.met.C.Curve.a_is in
+    minus ∙ ap (λ k. k - 3) e ∙ sym g.met.C.DomainParameters.a_is in
     let b : c.from_limbs-b.result ≡ q.b =
-    c.from_limbs-b.ensures ∙ (rw (c.b.ensures, e) (mod-eq_of_lt g.met.C.Curve.b_is_below)) in
+    c.from_limbs-b.ensures ∙ (rw (c.b.ensures, e) (mod-eq_of_lt g.met.C.DomainParameters.b_is_below)) in
     let left : c.product-left.result ≡ mul q.prime c.args.y.now c.args.y.now =
     rw (c.product-left.ensures, c.copy-second.ensures.same, e) refl in
     let right : c.sum-right.result ≡ right_side q c.args.x.now =
