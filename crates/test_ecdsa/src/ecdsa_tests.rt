@@ -1,0 +1,34 @@
+//! Signatures from outside.
+
+use crate::cavp::CAVP;
+use crate::openssl::OPENSSL;
+use crate::sample::Sample;
+use std::alloc::Global;
+use std::test::Fail;
+use ts_ecdsa::is_ecdsa_signature;
+
+/// What the check answers.
+fn answer(alloc: Global, sample: &Sample) -> Result<bool, Fail> {
+    let key = hex::decode(alloc, sample.key)?;
+    let message = hex::decode(alloc, sample.message)?;
+    let signature = hex::decode(alloc, sample.signature)?;
+    Ok(is_ecdsa_signature(
+        sample.curve, sample.hash, &key, &message, &signature,
+    ))
+}
+
+#[test]
+fn answers_as_openssl(rt: HostRuntime) -> Result<(), Fail> {
+    for sample in OPENSSL {
+        assert_eq!(rt; answer(rt.alloc(), sample)?, sample.is_good);
+    }
+    Ok(())
+}
+
+#[test]
+fn answers_as_the_validation_program(rt: HostRuntime) -> Result<(), Fail> {
+    for sample in CAVP {
+        assert_eq!(rt; answer(rt.alloc(), sample)?, sample.is_good);
+    }
+    Ok(())
+}

@@ -1,0 +1,9 @@
+pub mod Montgomery
+pub mod Stored
+pub mod Triples
+pub mod Double
+pub mod Add
+pub mod Multiple
+pub mod Bits
+pub mod Numbers
+pub mod Tests

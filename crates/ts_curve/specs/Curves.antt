@@ -1,0 +1,70 @@
+-- The curves P-256 and P-384 (SP 800-186 3.2.1), by their domain parameters (SEC 1 3.1.1).
+use Rattle.std.specs.Prelude.{◌≡◌, ℕ, ◌-◌, ◌<◌, Bool, ◌&&◌, nat_lt, nat_eq, Some}
+use Rattle.ts_ring.specs.Modular.{add, mul}
+use Rattle.ts_prime.specs.Primes.{p256, n256, p384, n384}
+use Rattle.ts_curve.specs.Points.{Point, sum, multiple}
+
+-- the curve y^2 = x^3 + a x + b over the numbers modulo a prime, its base point, the order of that
+-- point, and how many bits the order has
+pub record Curve : Type 0 where
+  pub prime : ℕ
+  pub a : ℕ
+  pub b : ℕ
+  pub base_x : ℕ
+  pub base_y : ℕ
+  pub order : ℕ
+  pub bits : ℕ
+
+-- P-256 (SP 800-186 3.2.1.3)
+abbrev pub curve_p256 : Curve
+curve_p256 = record {
+  prime = p256;
+  a = p256 - 3;
+  b = 0x5ac635d8aa3a93e7b3ebbd55769886bc651d06b0cc53b0f63bce3c3e27d2604b;
+  base_x = 0x6b17d1f2e12c4247f8bce6e563a440f277037d812deb33a0f4a13945d898c296;
+  base_y = 0x4fe342e2fe1a7f9b8ee7eb4a7c0f9e162bce33576b315ececbb6406837bf51f5;
+  order = n256;
+  bits = 256
+}
+
+-- P-384 (SP 800-186 3.2.1.4)
+abbrev pub curve_p384 : Curve
+curve_p384 = record {
+  prime = p384;
+  a = p384 - 3;
+  b =
+    0xb3312fa7e23ee7e4988e056be3f82d19181d9c6efe8141120314088f5013875ac656398d8a2ed19d2a85c8edd3ec2aef;
+  base_x =
+    0xaa87ca22be8b05378eb1c71ef320ad746e1d3b628ba79b9859f741e082542a385502f25dbf55296c3a545e3872760ab7;
+  base_y =
+    0x3617de4a96262c6f5d9e98bf9292dc29f8f41dbd289a147ce9da3113b5f0b8c00a60b1ce1d7e819d7a431d7c90ea0e5f;
+  order = n384;
+  bits = 384
+}
+
+-- the base point G
+abbrev pub base : Curve → Point
+base c = Some (c.base_x, c.base_y)
+
+-- the sum of two points
+abbrev pub point_sum : Curve → Point → Point → Point
+point_sum c = sum c.prime c.a
+
+-- k times a point, for k below 2 ^ bits
+abbrev pub times : Curve → ℕ → Point → Point
+times c k q = multiple c.prime c.a c.bits k q
+
+-- x^3 + a x + b
+abbrev pub right_side : Curve → ℕ → ℕ
+right_side c x = add c.prime (add c.prime (mul c.prime x (mul c.prime x x)) (mul c.prime c.a x)) c.b
+
+-- (x, y) is a point of the curve (SEC 1 3.2.2.1)
+pub record IsOnCurve (c : Curve) (x y : ℕ) : Type 0 where
+  pub first : x < c.prime
+  pub second : y < c.prime
+  pub equation : mul c.prime y y ≡ right_side c x
+
+-- the same as a test
+abbrev pub is_on_curve : Curve → ℕ → ℕ → Bool
+is_on_curve c x y =
+    nat_lt x c.prime && (nat_lt y c.prime && nat_eq (mul c.prime y y) (right_side c x))

@@ -1,0 +1,6 @@
+pub mod Four
+pub mod Six
+pub mod Points
+pub mod Jacobian
+pub mod Curves
+pub mod Octets

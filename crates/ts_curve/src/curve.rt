@@ -1,0 +1,76 @@
+//! Curves by their domain parameters (SEC 1 3.1.1).
+
+ghost use Rattle.std.specs.Prelude.{◌≡◌, ◌-◌, ◌<◌, ◌%◌, ◌↔◌, IsTrue, true};
+ghost use Rattle.ts_curve.specs.Curves.{Curve as Parameters, IsOnCurve, base};
+ghost use Rattle.ts_curve.specs.Curves.{is_on_curve as is_on_curve_test};
+
+use crate::limbs::Limbs;
+use crate::modulus::Modulus;
+use crate::point::CurvePoint;
+use crate::residue::Residue;
+
+/// A curve whose a is -3.
+pub trait DomainParameters {
+    type Limbs: Limbs;
+    type Prime: Modulus<Limbs = Self::Limbs>;
+    type Order: Modulus<Limbs = Self::Limbs>;
+
+    /// Its domain parameters.
+    ghost curve: { Parameters };
+
+    /// The coefficient b.
+    fn b() -> Self::Limbs
+        ensures { Self.Limbs.number result ≡ curve.b };
+
+    /// The first coordinate of the base point.
+    fn base_x() -> Self::Limbs
+        ensures { Self.Limbs.number result ≡ curve.base_x };
+
+    /// The second coordinate of the base point.
+    fn base_y() -> Self::Limbs
+        ensures { Self.Limbs.number result ≡ curve.base_y };
+
+    ghost prime_is: { Self.Prime.prime ≡ curve.prime };
+
+    ghost order_is: { Self.Order.prime ≡ curve.order };
+
+    ghost a_is: { curve.a ≡ curve.prime - 3 };
+
+    ghost bits_is: { Self.Limbs.BITS ≡ curve.bits };
+
+    ghost base_is_on: { is_on_curve_test curve curve.base_x curve.base_y ≡ true };
+
+    ghost b_is_below: { curve.b < curve.prime };
+}
+
+/// The base point.
+pub fn base_point<C: DomainParameters>() -> CurvePoint<C::Prime>
+    ensures { result ≡ base C.curve }
+{
+    CurvePoint::new(&Residue::from_limbs(&C::base_x()), &Residue::from_limbs(&C::base_y()))
+}
+
+/// Whether these are the coordinates of a point of the curve (SEC 1 3.2.2.1).
+pub fn is_on_curve<C: DomainParameters>(x: &Residue<C::Prime>, y: &Residue<C::Prime>) -> bool
+    ensures { IsTrue result ↔ IsOnCurve C.curve x.now y.now }
+{
+    let first = x.copy();
+    let second = y.copy();
+    let three = Residue::from_limbs(&C::Limbs::small(3));
+    let a = Residue::zero().difference(&three);
+    let b = Residue::from_limbs(&C::b());
+    let left = second.product(&second);
+    let square = first.product(&first);
+    let cube = first.product(&square);
+    let line = a.product(&first);
+    let sum = cube.sum(&line);
+    let right = sum.sum(&b);
+    left.is_equal(&right)
+}
+
+/// The first coordinate of a point, modulo the order of the base point.
+pub fn scalar_of<C: DomainParameters>(x: &Residue<C::Prime>) -> Residue<C::Order>
+    ensures { result ≡ x.now % C.curve.order }
+{
+    Residue::from_limbs(&x.to_limbs())
+}

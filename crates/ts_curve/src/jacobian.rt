@@ -1,0 +1,125 @@
+//! Jacobian coordinates of points of a curve whose a is -3: the double and the sum.
+
+ghost use Rattle.std.specs.Prelude.{◌≡◌, ◌<◌, true};
+ghost use Rattle.ts_ring.specs.Modular.{mul};
+ghost use Rattle.ts_curve.specs.Jacobian.{Triple, jacobian_double, chord_sum, jacobian_sum};
+
+use crate::modulus::Modulus;
+use crate::residue::Residue;
+
+/// The coordinates of a point's double.
+pub fn double<M: Modulus>(
+    x: &Residue<M>,
+    y: &Residue<M>,
+    z: &Residue<M>,
+) -> (Residue<M>, Residue<M>, Residue<M>)
+    ensures coordinates { (let t : Triple = (result.0, result.1, result.2) in t)
+        ≡ jacobian_double M.prime (x.now, y.now, z.now) }
+    ensures below { (result.0 < M.prime) × (result.1 < M.prime) × (result.2 < M.prime) }
+{
+    let delta = z.product(z);
+    let gamma = y.product(y);
+    let beta = x.product(&gamma);
+    let left = x.difference(&delta);
+    let right = x.sum(&delta);
+    let m = left.product(&right);
+    let mm = m.sum(&m);
+    let alpha = mm.sum(&m);
+    let beta2 = beta.sum(&beta);
+    let beta4 = beta2.sum(&beta2);
+    let beta8 = beta4.sum(&beta4);
+    let square = alpha.product(&alpha);
+    let x3 = square.difference(&beta8);
+    let yz = y.product(z);
+    let z3 = yz.sum(&yz);
+    let gg = gamma.product(&gamma);
+    let gg2 = gg.sum(&gg);
+    let gg4 = gg2.sum(&gg2);
+    let gg8 = gg4.sum(&gg4);
+    let down = beta4.difference(&x3);
+    let slope = alpha.product(&down);
+    let y3 = slope.difference(&gg8);
+    (x3, y3, z3)
+}
+
+/// The product with a factor that may be known to be 1.
+#[inline(always)]
+fn product_by<M: Modulus>(x: &Residue<M>, w: &Residue<M>, is_one: bool) -> Residue<M>
+    requires { is_one ≡ true → w.now ≡ 1 }
+    ensures { result ≡ mul M.prime x.now w.now }
+{
+    if is_one { x.copy() } else { x.product(w) }
+}
+
+/// The coordinates of the sum of two points that are not infinity and have different first
+/// coordinates.
+#[inline(always)]
+fn chord<M: Modulus>(
+    z: &Residue<M>,
+    w: &Residue<M>,
+    is_one: bool,
+    u1: &Residue<M>,
+    u2: &Residue<M>,
+    s1: &Residue<M>,
+    s2: &Residue<M>,
+) -> (Residue<M>, Residue<M>, Residue<M>)
+    requires { is_one ≡ true → w.now ≡ 1 }
+    ensures coordinates { (let t : Triple = (result.0, result.1, result.2) in t)
+        ≡ chord_sum M.prime z.now w.now u1.now u2.now s1.now s2.now }
+    ensures below { (result.0 < M.prime) × (result.1 < M.prime) × (result.2 < M.prime) }
+{
+    let h = u2.difference(u1);
+    let r = s2.difference(s1);
+    let hh = h.product(&h);
+    let hhh = h.product(&hh);
+    let v = u1.product(&hh);
+    let rr = r.product(&r);
+    let vv = v.sum(&v);
+    let left = rr.difference(&hhh);
+    let x3 = left.difference(&vv);
+    let down = v.difference(&x3);
+    let slope = r.product(&down);
+    let base = s1.product(&hhh);
+    let y3 = slope.difference(&base);
+    let zw = product_by(z, w, is_one);
+    let z3 = zw.product(&h);
+    (x3, y3, z3)
+}
+
+/// The coordinates of the sum of two points.
+pub fn sum<M: Modulus>(
+    x: &Residue<M>,
+    y: &Residue<M>,
+    z: &Residue<M>,
+    x2: &Residue<M>,
+    y2: &Residue<M>,
+    w: &Residue<M>,
+) -> (Residue<M>, Residue<M>, Residue<M>)
+    ensures coordinates { (let t : Triple = (result.0, result.1, result.2) in t)
+        ≡ jacobian_sum M.prime (x.now, y.now, z.now) (x2.now, y2.now, w.now) }
+    ensures below { (result.0 < M.prime) × (result.1 < M.prime) × (result.2 < M.prime) }
+{
+    let origin = Residue::zero();
+    if z.is_equal(&origin) {
+        return (x2.copy(), y2.copy(), w.copy());
+    }
+    if w.is_equal(&origin) {
+        return (x.copy(), y.copy(), z.copy());
+    }
+    let zz = z.product(z);
+    let is_one = w.is_equal(&Residue::one());
+    let ww = product_by(w, w, is_one);
+    let u1 = product_by(x, &ww, is_one);
+    let u2 = x2.product(&zz);
+    let www = product_by(w, &ww, is_one);
+    let s1 = product_by(y, &www, is_one);
+    let zzz = z.product(&zz);
+    let s2 = y2.product(&zzz);
+    if u1.is_equal(&u2) {
+        if s1.is_equal(&s2) {
+            return double(x, y, z);
+        }
+        return (Residue::zero(), Residue::zero(), Residue::zero());
+    }
+    chord(z, w, is_one, &u1, &u2, &s1, &s2)
+}
