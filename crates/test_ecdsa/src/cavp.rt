@@ -1,8 +1,8 @@
 //! Rows of the Cryptographic Algorithm Validation Program (NIST, 186-3 SigVer.rsp).
 
 use crate::sample::Sample;
+use ts_digest::Hash;
 use ts_ecdsa::Curve;
-use ts_rsa::Hash;
 
 /// Of each curve and hash a signature, and one that is spoiled.
 pub const CAVP: &[Sample] = &[

@@ -1,8 +1,8 @@
 //! Keys and signatures that openssl made, and what becomes bad by one change.
 
 use crate::sample::Sample;
+use ts_digest::Hash;
 use ts_ecdsa::Curve;
-use ts_rsa::Hash;
 
 /// Of each curve and hash a signature, and one that is spoiled.
 pub const OPENSSL: &[Sample] = &[

@@ -1,7 +1,7 @@
 //! A question with its answer.
 
+use ts_digest::Hash;
 use ts_ecdsa::Curve;
-use ts_rsa::Hash;
 
 /// A key, a message and a signature, each in hexadecimal digits, and whether the signature is good.
 pub struct Sample {

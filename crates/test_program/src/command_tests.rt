@@ -34,12 +34,25 @@ const LINES: &[(&str, &str)] = &[
     ("migrate o", "Wrong"),
     (
         "serve r --listen a:0",
-        "Serve { file: \"r\", listen: \"a:0\", table: None, connections: 1000000 }",
+        "Serve(ServeWords { file: \"r\", listen: \"a:0\", table: None, stand_in: false, idle: 30, request: 5, at_once: 512, connections: 1000000 })",
     ),
     (
-        "serve r --listen a:65535 --table t --connections 1",
-        "Serve { file: \"r\", listen: \"a:65535\", table: Some(\"t\"), connections: 1 }",
+        "serve r --listen a:65535 --table t --idle 3600 --request 1 --connections-at-once 4096 --connections 1",
+        "Serve(ServeWords { file: \"r\", listen: \"a:65535\", table: Some(\"t\"), stand_in: false, idle: 3600, request: 1, at_once: 4096, connections: 1 })",
     ),
+    ("serve r --listen a:1 --table t --stand-in", "Value(Check)"),
+    ("serve r --listen a:1 --idle 3601", "Value(Seconds)"),
+    (
+        "serve r --listen a:1 --connections-at-once 0",
+        "Value(AtOnce)",
+    ),
+    (
+        "verify --anchor a --anchor b --crl l --soft --host h --at now c d",
+        "Verify(VerifyWords { anchors: [\"a\", \"b\"], crls: [\"l\"], certificates: [\"c\", \"d\"], moment: None, host: Some(\"h\"), soft: true, deltas: false, explicit: false, nomap: false, noany: false, policies: Oids([]), purpose: None })",
+    ),
+    ("verify --anchor a", "Wrong"),
+    ("verify c", "Wrong"),
+    ("verify --anchor a --at then c", "Value(TimeOrNow)"),
     ("serve r --listen a:65536", "Value(Address)"),
     ("serve r --listen :1", "Value(Address)"),
     ("serve r --listen a", "Value(Address)"),
@@ -67,15 +80,19 @@ const LINES: &[(&str, &str)] = &[
     ("command", "Wrong"),
     (
         "command add f",
-        "Command(CommandWords { id: None, change: Add { file: \"f\" } })",
+        "Command(CommandWords { id: None, force: false, change: Add { file: \"f\" } })",
     ),
     (
         "command load f",
-        "Command(CommandWords { id: None, change: Load { file: \"f\" } })",
+        "Command(CommandWords { id: None, force: false, change: Load { file: \"f\" } })",
     ),
     (
         "command noop",
-        "Command(CommandWords { id: None, change: Noop })",
+        "Command(CommandWords { id: None, force: false, change: Noop })",
+    ),
+    (
+        "command --force noop",
+        "Command(CommandWords { id: None, force: true, change: Noop })",
     ),
     ("command --id 00 noop", "Value(CommandId)"),
     ("command withdraw 07", "Value(Digest)"),

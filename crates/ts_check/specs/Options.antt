@@ -1,5 +1,5 @@
 -- Tests of what there may be.
-use Rattle.std.specs.Prelude.{Bool, false, Option, Some, None}
+use Rattle.std.specs.Prelude.{Bool, false, true, Option, Some, None}
 
 -- one step after another, as far as there is something
 abbrev pub option_then : {A B : Type 0} → Option A → (A → Option B) → Option B
@@ -10,3 +10,8 @@ option_then (Some x) f = f x
 abbrev pub holds_of : {A : Type 0} → Option A → (A → Bool) → Bool
 holds_of None f = false
 holds_of (Some x) f = f x
+
+-- nothing is there, or the test holds of what is
+abbrev pub holds_if : {A : Type 0} → Option A → (A → Bool) → Bool
+holds_if None f = true
+holds_if (Some x) f = f x

@@ -10,7 +10,7 @@ use Rattle.ts_rsa.specs.Key.{bit_length, IsKey}
 use Rattle.ts_rsa.specs.Pkcs1.{IsPkcs1Signature}
 use Rattle.ts_rsa.specs.Pss.{IsPssSignature}
 use Rattle.ts_rsa.specs.Tests.{pkcs1_accepts, pss_accepts}
-use Rattle.ts_check.specs.Options.{holds_of}
+use Rattle.ts_check.specs.Options.{holds_of, holds_if}
 use Rattle.ts_check.specs.PublicKey.{Public, public_of, IsRsaKey}
 
 -- moduli of 2,048 to 8,192 bits, exponents from 3 to 2^33 - 1
@@ -30,10 +30,11 @@ rsa_encryption = 0x2a ∷ 0x86 ∷ 0x48 ∷ 0x86 ∷ 0xf7 ∷ 0x0d ∷ 1 ∷ 1 �
 abbrev pub rsassa_pss : List ℕ
 rsassa_pss = 0x2a ∷ 0x86 ∷ 0x48 ∷ 0x86 ∷ 0xf7 ∷ 0x0d ∷ 1 ∷ 1 ∷ 10 ∷ []
 
--- a key for every signature by RSA: rsaEncryption with parameters NULL (1.2)
+-- a key for every signature by RSA: rsaEncryption with parameters NULL (1.2), of which path
+-- validation makes none (RFC 5280 6.1.2 (h), 6.1.4 (e))
 unfoldable pub is_for_rsa : Key → Bool
 is_for_rsa key =
-    bytes_eq key.algorithm rsa_encryption && holds_of key.parameters (λ p. bytes_eq p (5 ∷ 0 ∷ []))
+    bytes_eq key.algorithm rsa_encryption && holds_if key.parameters (λ p. bytes_eq p (5 ∷ 0 ∷ []))
 
 -- a key for RSASSA-PSS alone, with every hash function: id-RSASSA-PSS without parameters (1.2)
 unfoldable pub is_for_pss : Key → Bool

@@ -10,6 +10,7 @@ ghost use Rattle.ts_check.specs.Native.{IsNativeSignature, native_accepts};
 /// each such signature is accepted.
 pub fn accepts_signatures()
     ensures { (identifier : List ℕ) (key : Key) (signed signature : List ℕ)
-        → AreOctets key.octets → IsTrue (native_accepts identifier key signed signature)
+        → AreOctets key.octets → AreOctets signature
+        → IsTrue (native_accepts identifier key signed signature)
         ↔ IsNativeSignature identifier key signed signature }
 {}

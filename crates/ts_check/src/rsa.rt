@@ -18,7 +18,8 @@ const RSASSA_PSS: [u8; 9] = [0x2a, 0x86, 0x48, 0x86, 0xf7, 0x0d, 1, 1, 10];
 /// The element NULL.
 const NULL: [u8; 2] = [5, 0];
 
-/// Whether a key is for every signature by RSA.
+/// Whether a key is for every signature by RSA. Path validation hands on no parameters where they
+/// are NULL (RFC 5280 6.1.4 (e)).
 #[tactic(auto, unfolding(crate::specs::Rsa::is_for_rsa))]
 fn is_for_rsa(key: &WorkingKey<'_>) -> bool
     ensures { result ≡ is_for_rsa (key_of key.now) }
@@ -28,7 +29,7 @@ fn is_for_rsa(key: &WorkingKey<'_>) -> bool
     }
     match key.parameters {
         Some(parameters) => parameters == NULL.as_slice(),
-        None => false,
+        None => true,
     }
 }
 

@@ -43,7 +43,6 @@ view_some p x y z a b f ha hb hz nz ex ey =
     let second_is : mul p y (mul p i (mul p i i)) ≡ b = ap (λ k. mul p k (mul p i (mul p i i))) ey ∙ forth_cube p b z i f hb e in
     rw (no, first_is, second_is) refl
 
-
 pub view_affine : (p x y : ℕ) → IsField p → x < p → y < p → jacobian p (x, y, 1) ≡ Some (x, y)
 view_affine p x y f hx hy =
     let h = f.above in

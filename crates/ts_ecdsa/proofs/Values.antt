@@ -189,8 +189,12 @@ first_fits first second f =
     record {
       octet = omega arith;
       low = omega arith;
-      short = omega (arith, h, length-append (encode 2 first) (encode 2 second),
-        length-append (length_octets (length first)) first);
+      short = omega (
+        arith,
+        h,
+        length-append (encode 2 first) (encode 2 second),
+        length-append (length_octets (length first)) first,
+      );
     }
 
 second_fits : (first second : List ℕ) → Fits 0x30 (encode 2 first ++ encode 2 second)
@@ -200,8 +204,12 @@ second_fits first second f =
     record {
       octet = omega arith;
       low = omega arith;
-      short = omega (arith, h, length-append (encode 2 first) (encode 2 second),
-        length-append (length_octets (length second)) second);
+      short = omega (
+        arith,
+        h,
+        length-append (encode 2 first) (encode 2 second),
+        length-append (length_octets (length second)) second,
+      );
     }
 
 -- what reading finds in the octets of a signature
@@ -234,11 +242,13 @@ value_only octets r s oct v =
       encoded = v.encoded;
       first_shortest = v.r_is.shortest;
       second_shortest = v.s_is.shortest;
-    } in
-    ((a, b), record {
-      read = parts_only octets a b parts;
-      first_sign = first.0;
-      second_sign = second.0;
-      first_is = first.1;
-      second_is = second.1;
-    })
+    } in (
+      (a, b),
+      record {
+        read = parts_only octets a b parts;
+        first_sign = first.0;
+        second_sign = second.0;
+        first_is = first.1;
+        second_is = second.1;
+      },
+    )

@@ -1,7 +1,7 @@
 -- ECDSA signatures (FIPS 186-5 6.4.2).
 use Rattle.std.specs.Prelude.{ℕ, List, take}
-use Rattle.ts_rsa.specs.declared.hash.Hash.{Hash}
-use Rattle.ts_rsa.specs.Hash.{hash_of}
+use Rattle.ts_digest.specs.declared.hash.Hash.{Hash}
+use Rattle.ts_digest.specs.Hash.{hash_of}
 use Rattle.ts_curve.specs.Octets.{number_of}
 use Rattle.ts_curve.specs.Curves.{Curve}
 use Rattle.ts_ecdsa.specs.Number.{IsNumberSignature}

@@ -1,6 +1,6 @@
 -- The same as tests that compute.
 use Rattle.std.specs.Prelude.{ℕ, ◌+◌, ◌*◌, ◌%◌, Bool, false, ◌&&◌, not, nat_eq, nat_lt, List, length, slice_index, Some, None, Result, Ok, Err}
-use Rattle.ts_rsa.specs.declared.hash.Hash.{Hash}
+use Rattle.ts_digest.specs.declared.hash.Hash.{Hash}
 use Rattle.ts_der.specs.declared.fault.Fault.{Fault}
 use Rattle.ts_der.specs.Integer.{is_negative}
 use Rattle.ts_curve.specs.Octets.{number_of}

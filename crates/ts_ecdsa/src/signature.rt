@@ -15,7 +15,7 @@ use crate::number::{is_number_signature, residue_from_integer};
 use crate::value::signature_parts;
 use ts_curve::{CurvePoint, DomainParameters, P256, P384, Residue};
 use ts_der::Integer;
-use ts_rsa::Hash;
+use ts_digest::Hash;
 
 /// Whether two INTEGERs are a signature of `e` under the key `q`.
 fn is_integer_signature<C: DomainParameters>(
@@ -27,7 +27,7 @@ fn is_integer_signature<C: DomainParameters>(
     ensures { IsTrue result ↔ ((is_negative r.entry.octets.now ≡ false)
         × (is_negative s.entry.octets.now ≡ false)
         × IsNumberSignature C.curve q.now e.now (number_of r.entry.octets.now)
-            (number_of s.entry.octets.now)) }
+        (number_of s.entry.octets.now)) }
 {
     match residue_from_integer(r) {
         None => false,

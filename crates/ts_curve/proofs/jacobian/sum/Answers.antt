@@ -47,9 +47,9 @@ returns-then-is_equal-4-clause-coordinates g c =
     let one : mul p t.0 (mul p u.2 u.2) ≡ c.product_by-u1.result = ap (mul p t.0) (sym ww) ∙ sym c.product_by-u1.ensures in
     let two : mul p u.0 (mul p t.2 t.2) ≡ c.product-u2.result = ap (mul p u.0) (sym zz) ∙ sym c.product-u2.ensures in
     let three : mul p t.1 (mul p u.2 (mul p u.2 u.2)) ≡ c.product_by-s1.result =
-      ap (λ k. mul p t.1 (mul p u.2 k)) (sym ww) ∙ ap (mul p t.1) (sym c.product_by-www.ensures) ∙ sym c.product_by-s1.ensures in
+    ap (λ k. mul p t.1 (mul p u.2 k)) (sym ww) ∙ ap (mul p t.1) (sym c.product_by-www.ensures) ∙ sym c.product_by-s1.ensures in
     let four : mul p u.1 (mul p t.2 (mul p t.2 t.2)) ≡ c.product-s2.result =
-      ap (λ k. mul p u.1 (mul p t.2 k)) (sym zz) ∙ ap (mul p u.1) (sym c.product-zzz.ensures) ∙ sym c.product-s2.ensures in
+    ap (λ k. mul p u.1 (mul p t.2 k)) (sym zz) ∙ ap (mul p u.1) (sym c.product-zzz.ensures) ∙ sym c.product-s2.ensures in
     c.double.ensures.coordinates ∙ sym (same_first p t u e g (one ∙ c.if-is_equal-3.ensures.0 refl ∙ sym two) (three ∙ c.if-is_equal-4.ensures.0 refl ∙ sym four))
 
 pub returns-then-is_equal-3-clause-coordinates : goal.returns-then-is_equal-3-clause-coordinates
@@ -64,9 +64,9 @@ returns-then-is_equal-3-clause-coordinates g c =
     let one : mul p t.0 (mul p u.2 u.2) ≡ c.product_by-u1.result = ap (mul p t.0) (sym ww) ∙ sym c.product_by-u1.ensures in
     let two : mul p u.0 (mul p t.2 t.2) ≡ c.product-u2.result = ap (mul p u.0) (sym zz) ∙ sym c.product-u2.ensures in
     let three : mul p t.1 (mul p u.2 (mul p u.2 u.2)) ≡ c.product_by-s1.result =
-      ap (λ k. mul p t.1 (mul p u.2 k)) (sym ww) ∙ ap (mul p t.1) (sym c.product_by-www.ensures) ∙ sym c.product_by-s1.ensures in
+    ap (λ k. mul p t.1 (mul p u.2 k)) (sym ww) ∙ ap (mul p t.1) (sym c.product_by-www.ensures) ∙ sym c.product_by-s1.ensures in
     let four : mul p u.1 (mul p t.2 (mul p t.2 t.2)) ≡ c.product-s2.result =
-      ap (λ k. mul p u.1 (mul p t.2 k)) (sym zz) ∙ ap (mul p u.1) (sym c.product-zzz.ensures) ∙ sym c.product-s2.ensures in
+    ap (λ k. mul p u.1 (mul p t.2 k)) (sym zz) ∙ ap (mul p u.1) (sym c.product-zzz.ensures) ∙ sym c.product-s2.ensures in
     rw (c.zero.ensures, c.zero-then-is_equal-3.ensures, c.zero-then-is_equal-3-2.ensures)
     (sym (opposite p t u e g (one ∙ c.if-is_equal-3.ensures.0 refl ∙ sym two) (λ k. false≢true (c.if-is_equal-4.ensures.1 (sym three ∙ k ∙ four)))))
 
@@ -83,9 +83,9 @@ returns-clause-coordinates g c =
     let one : mul p t.0 (mul p u.2 u.2) ≡ c.product_by-u1.result = ap (mul p t.0) (sym ww) ∙ sym c.product_by-u1.ensures in
     let two : mul p u.0 (mul p t.2 t.2) ≡ c.product-u2.result = ap (mul p u.0) (sym zz) ∙ sym c.product-u2.ensures in
     let three : mul p t.1 (mul p u.2 (mul p u.2 u.2)) ≡ c.product_by-s1.result =
-      ap (λ k. mul p t.1 (mul p u.2 k)) (sym ww) ∙ ap (mul p t.1) (sym c.product_by-www.ensures) ∙ sym c.product_by-s1.ensures in
+    ap (λ k. mul p t.1 (mul p u.2 k)) (sym ww) ∙ ap (mul p t.1) (sym c.product_by-www.ensures) ∙ sym c.product_by-s1.ensures in
     let four : mul p u.1 (mul p t.2 (mul p t.2 t.2)) ≡ c.product-s2.result =
-      ap (λ k. mul p u.1 (mul p t.2 k)) (sym zz) ∙ ap (mul p u.1) (sym c.product-zzz.ensures) ∙ sym c.product-s2.ensures in
+    ap (λ k. mul p u.1 (mul p t.2 k)) (sym zz) ∙ ap (mul p u.1) (sym c.product-zzz.ensures) ∙ sym c.product-s2.ensures in
     c.chord.ensures.coordinates
     ∙ ap (λ k. chord_sum p t.2 u.2 k c.product-u2.result c.product_by-s1.result c.product-s2.result) (sym one)
     ∙ ap (λ k. chord_sum p t.2 u.2 (mul p t.0 (mul p u.2 u.2)) k c.product_by-s1.result c.product-s2.result) (sym two)
