@@ -16,6 +16,10 @@ const THREE: &[u8] =
 const ANSWERS: &[u8] =
     b"\x00\x00\x00\x06\x02\x27\x00\x00\x00\x00\x00\x00\x00\x06\x02\x27\x00\x00\x00\x01\x00\x00\x00\x06\x02\x27\x00\x00\x00\x02";
 
+const PREFIX_0: &[u8] = b"\x00\x00\x00\x06\x02\x27\x00\x00\x00\x00";
+
+const PREFIX_1: &[u8] = b"\x00\x00\x00\x06\x02\x27\x00\x00\x00\x01";
+
 /// FrameFault Kind.
 const KIND: &[u8] = b"\x00\x00\x00\x03\x02\x26\x03";
 
@@ -63,8 +67,8 @@ fn interleaved(alloc: Global) -> Result<bool, AllocError> {
         feed(&mut table, &mut service, 0, &[*octet], 0);
         feed(&mut table, &mut service, 1, &[*octet], 0);
     }
-    let first = table.waiting(0) == b"\x00\x00\x00\x06\x02\x27\x00\x00\x00\x00";
-    let second = table.waiting(1) == b"\x00\x00\x00\x06\x02\x27\x00\x00\x00\x01";
+    let first = table.waiting(0) == PREFIX_0;
+    let second = table.waiting(1) == PREFIX_1;
     Ok(a == Some(0) && b == Some(1) && first && second)
 }
 
@@ -85,7 +89,7 @@ fn faulty(alloc: Global) -> Result<bool, AllocError> {
     let nothing = table.take(0, &mut service, 0) == Ok(Taken::Nothing);
     let said = table.waiting(0) == KIND && table.stage(0) == Stage::Refused;
     feed(&mut table, &mut service, 1, STATUS, 0);
-    let other = table.waiting(1) == b"\x00\x00\x00\x06\x02\x27\x00\x00\x00\x00";
+    let other = table.waiting(1) == PREFIX_0;
     Ok(refused && nothing && said && other && service.next == 1)
 }
 

@@ -47,9 +47,9 @@ abbrev pub announced : List ℕ → ℕ
 announced (a ∷ b ∷ c ∷ d ∷ rest) = ((a * 256 + b) * 256 + c) * 256 + d
 announced other = 0
 
--- what a frame may take to come whole: a second more for each mebibyte that it announces
-abbrev pub frame_time : Deadlines → List ℕ → ℕ
-frame_time deadlines held = deadlines.request_ms + 1000 * (announced held / 1048576)
+-- a frame has a second more to come whole for each mebibyte that it announces
+abbrev pub more_time : List ℕ → ℕ
+more_time held = 1000 * (announced held / 1048576)
 
 -- an answer waits too long
 abbrev pub is_unread : Deadlines → Link → ℕ → Bool
@@ -59,7 +59,7 @@ is_unread deadlines link now = nat_lt 0 (length link.waits)
 -- a frame takes too long to come whole; one that has to wait until answers leave is not late
 abbrev pub is_slow : Deadlines → Link → ℕ → Bool
 is_slow deadlines link now = nat_lt 0 (length link.held) && nat_lt (length link.waits) 65536
-    && nat_le (frame_time deadlines link.held) (now - link.times.asked)
+    && nat_le deadlines.request_ms (now - link.times.asked - more_time link.held)
 
 -- nothing is asked for too long
 abbrev pub is_silent : Deadlines → Link → ℕ → Bool

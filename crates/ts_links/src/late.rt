@@ -4,7 +4,7 @@ ghost use Rattle.std.specs.Prelude.{◌≡◌};
 ghost use Rattle.ts_links.specs.Times.{is_late, is_silent, is_slow, is_unread};
 
 use crate::link::{Link, MAX_WAITING, Stage};
-use crate::times::{Deadlines, frame_time};
+use crate::times::{Deadlines, more_time};
 
 impl Link {
     /// Whether an answer waits too long.
@@ -18,10 +18,10 @@ impl Link {
     fn is_slow(&self, deadlines: &Deadlines, now: u64) -> bool
         ensures { result ≡ is_slow deadlines.now self.now now }
     {
-        let time = frame_time(deadlines, self.held.octets());
+        let more = more_time(self.held.octets());
         self.held.len() > 0
             && self.waits.len() < MAX_WAITING
-            && time <= now.saturating_sub(self.times.asked)
+            && deadlines.request_ms <= now.saturating_sub(self.times.asked).saturating_sub(more)
     }
 
     /// Whether nothing was asked for too long.

@@ -1,7 +1,7 @@
 //! When a connection is late. Moments are milliseconds on one clock, and are arguments.
 
 ghost use Rattle.std.specs.Prelude.{◌≡◌, length};
-ghost use Rattle.ts_links.specs.Times.{announced, frame_time, times_came, times_left, times_opened};
+ghost use Rattle.ts_links.specs.Times.{announced, more_time, times_came, times_left, times_opened};
 ghost use Rattle.ts_links.specs.Times.{times_refused, times_took};
 
 /// How long connections may take, in milliseconds.
@@ -55,12 +55,11 @@ pub(crate) fn announced(octets: &[u8]) -> u32
     high * 65_536 + low
 }
 
-/// How many milliseconds a frame that begins so may take to come whole.
-pub(crate) fn frame_time(deadlines: &Deadlines, held: &[u8]) -> u64
-    ensures { result ≡ frame_time deadlines.now held.now }
+/// How many milliseconds more a frame that begins so may take to come whole.
+pub(crate) fn more_time(held: &[u8]) -> u64
+    ensures { result ≡ more_time held.now }
 {
-    let more = 1000 * u64::from(announced(held) / 1_048_576);
-    deadlines.request_ms.saturating_add(more)
+    1000 * u64::from(announced(held) / 1_048_576)
 }
 
 impl Times {

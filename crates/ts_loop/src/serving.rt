@@ -52,7 +52,7 @@ struct Edge {
 }
 
 /// The listener at an address, whose calls don't wait.
-fn listener_at<R: Net<Listener = net::TcpListener>>(
+fn listener_at<R: Net<Listener = net::TcpListener, Stream = net::TcpStream>>(
     rt: &R,
     address: &str,
 ) -> Result<TcpListener, LoopFault> {
@@ -69,14 +69,16 @@ fn listener_at<R: Net<Listener = net::TcpListener>>(
 fn places(alloc: Global, slots: usize) -> Result<Vec<Option<Door>>, LoopFault> {
     let mut doors: Vec<Option<Door>> = Vec::new(alloc);
     for _slot in 0..slots {
-        doors.push(None)?;
+        if doors.push(None).is_err() {
+            return Err(LoopFault::Memory);
+        }
     }
     Ok(doors)
 }
 
 impl Edge {
     /// The sockets at the start: the listener alone.
-    fn new<R: Net<Listener = net::TcpListener> + Clock>(
+    fn new<R: Net<Listener = net::TcpListener, Stream = net::TcpStream> + Clock>(
         rt: &R,
         alloc: Global,
         address: &str,
@@ -240,7 +242,7 @@ pub fn serve_all<R, D, M>(
     limits: &Limits,
 ) -> Result<Counts, LoopFault>
 where
-    R: Net<Listener = net::TcpListener> + Clock,
+    R: Net<Listener = net::TcpListener, Stream = net::TcpStream> + Clock,
     D: Disk,
     M: Machine<Command, Outcome = Outcome, Question = Question, Answer = Answer>,
     requires { IsSound D.state octets_of M.commands server.old.node }
