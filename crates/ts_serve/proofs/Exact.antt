@@ -32,18 +32,18 @@ one_front f tail (g ∷ gs) stream fault fits is s =
       splits = record { rest = s.rest; is = same_rest f g tail (flat_map encoding gs ++ s.rest) fits s.each.0 same; each = s.each.1; ends = s.ends };
     }
 
-all_front : (taken frames : List Frame) (rest stream : List ℕ) (fault : Option FrameFault) → AllByRecursion Fits taken → stream ≡ flat_map encoding taken ++ rest → Splits stream frames fault → Beside frames taken rest fault
+pub all_front : (taken frames : List Frame) (rest stream : List ℕ) (fault : Option FrameFault) → AllByRecursion Fits taken → stream ≡ flat_map encoding taken ++ rest → Splits stream frames fault → Beside frames taken rest fault
 all_front [] frames rest stream fault fit is s = record { more = frames; is = refl; splits = subst (λ l. Splits l frames fault) is s }
 all_front (f ∷ fs) frames rest stream fault fit is s =
     let one = one_front f (flat_map encoding fs ++ rest) frames stream fault fit.0 (is ∙ split f fs rest) s in
     let others = all_front fs one.more rest (flat_map encoding fs ++ rest) fault fit.1 refl one.splits in
     record { more = others.more; is = one.is ∙ ap (λ l. f ∷ l) others.is; splits = others.splits }
 
-requests-append : (taken more : List Frame) → AllByRecursion (λ f. is_request f ≡ true) taken → requests_of (taken ++ more) ≡ taken ++ requests_of more
+pub requests-append : (taken more : List Frame) → AllByRecursion (λ f. is_request f ≡ true) taken → requests_of (taken ++ more) ≡ taken ++ requests_of more
 requests-append [] more all = refl
 requests-append (f ∷ fs) more all = rw all.0 (ap (λ l. f ∷ l) (requests-append fs more all.1))
 
-fault-append : (taken more : List Frame) (fault : Option FrameFault) → AllByRecursion (λ f. is_request f ≡ true) taken → fault_of (taken ++ more) fault ≡ fault_of more fault
+pub fault-append : (taken more : List Frame) (fault : Option FrameFault) → AllByRecursion (λ f. is_request f ≡ true) taken → fault_of (taken ++ more) fault ≡ fault_of more fault
 fault-append [] more fault all = refl
 fault-append (f ∷ fs) more fault all = rw all.0 (fault-append fs more fault all.1)
 
@@ -60,7 +60,7 @@ ended more rest fault stop ends s =
 other_frame : (a : Frame) (more : List Frame) (fault : Option FrameFault) → is_request a ≡ false → IsStop (a ∷ more) fault (Some Kind)
 other_frame a more fault is = record { none = rw is refl; stops = rw is refl }
 
-stopped : (more : List Frame) (rest : List ℕ) (fault : Option FrameFault) (stop : FrameFault) → Stops stop rest → Splits rest more fault → IsStop more fault (Some stop)
+pub stopped : (more : List Frame) (rest : List ℕ) (fault : Option FrameFault) (stop : FrameFault) → Stops stop rest → Splits rest more fault → IsStop more fault (Some stop)
 stopped more rest fault stop (inl is) s = ended more rest fault (Some stop) is s
 stopped more rest fault stop (inr other) s =
     let b = one_front other.1.frame other.1.after more rest fault other.1.fits other.1.is s in

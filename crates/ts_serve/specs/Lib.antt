@@ -6,3 +6,4 @@ pub mod Text
 pub mod Stream
 pub mod Steps
 pub mod Carrying
+pub mod Answering

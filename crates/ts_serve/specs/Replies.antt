@@ -1,5 +1,5 @@
 -- The frame that says a node's reply.
-use Rattle.std.specs.Prelude.{◌≡◌, ◌≤◌, ◌<◌, true, List, [], Result, Ok, Err}
+use Rattle.std.specs.Prelude.{◌≡◌, ◌≤◌, ◌<◌, Bool, true, false, List, [], Result, Ok, Err}
 use Rattle.ts_synod.specs.declared.message.Message.{Message}
 use Rattle.ts_store.specs.declared.command.Command.{Command}
 use Rattle.ts_store.specs.declared.outcome.Outcome.{Outcome}
@@ -50,6 +50,12 @@ answer_to (Err fault) = frames.NodeFault (wire_fault fault)
 abbrev pub messages_of : Result (Output Command Outcome Answered) NodeFault → List (Message Command)
 messages_of (Ok output) = output.messages.items
 messages_of (Err fault) = []
+
+-- a device failed in a call, or in an earlier one
+abbrev pub is_failure : Result (Output Command Outcome Answered) NodeFault → Bool
+is_failure (Err node_faults.DiskFailed) = true
+is_failure (Err node_faults.Broken) = true
+is_failure other = false
 
 -- a question's own number of commands is in its range
 abbrev pub IsWithin : Input Command Asked → Type 0

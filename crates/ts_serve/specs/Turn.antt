@@ -1,5 +1,5 @@
 -- A server: a node, and an outbox of its messages. What it does with one request.
-use Rattle.std.specs.Prelude.{◌≡◌, ◌+◌, List, [], ◌∷◌, ◌++◌, map, take, length}
+use Rattle.std.specs.Prelude.{◌≡◌, ◌+◌, ◌||◌, List, [], ◌∷◌, ◌++◌, map, take, length}
 use Rattle.std.specs.Prelude.{Result}
 use Rattle.ts_disk.specs.Disk.{State}
 use Rattle.ts_synod.specs.Store.{Store}
@@ -16,26 +16,28 @@ use Rattle.ts_store.specs.Octets.{octets_of}
 use Rattle.ts_wire.specs.declared.frame.Frame.{Frame}
 use Rattle.ts_wire.specs.declared.frame.Frame.TheVariants as frames
 use Rattle.ts_serve.specs.declared.server.Server.{Server}
-use Rattle.ts_serve.specs.Replies.{answer_to, messages_of}
+use Rattle.ts_serve.specs.Replies.{answer_to, is_failure, messages_of}
 
 -- The disks of a node, the store of the world, and what its machine's answers rest on (`ts_node`).
 module _ {D M B : Type 0} (state : D → State)
     (store : Store Command Outcome (List Command) Asked (List Command)) (basis : M → B)
     (is_answer : B → List Command → Asked → Answered → Type 0) where
   -- The node takes the input. Its reply is the answer, and its messages go after those in the
-  -- outbox, of which the first 256 stay.
+  -- outbox, of which the first 256 stay. Whether a device failed is remembered.
   pub record Handled (old : Server D M) (input : Input Command Asked) (replies : List Frame)
       (new : Server D M) : Type 0 where
     pub result : Result (Output Command Outcome Answered) NodeFault
     pub call : IsCall state octets_of store basis is_answer old.node input result new.node
     pub said : replies ≡ answer_to result ∷ []
     pub outbox : new.outbox ≡ take 256 (old.outbox ++ messages_of result)
+    pub failed : new.failed ≡ (old.failed || is_failure result)
 
   -- the outbox's messages are given, and their count; the outbox is empty
   pub record Given (old : Server D M) (replies : List Frame) (new : Server D M) : Type 0 where
     pub said : replies ≡ map frames.Peer old.outbox ++ frames.Done (length old.outbox) ∷ []
     pub outbox : new.outbox ≡ []
     pub node : new.node ≡ old.node
+    pub failed : new.failed ≡ old.failed
 
   -- What a server answers to each request, and the server then. Other frames are no requests.
   abbrev pub Turn : Server D M → Frame → List Frame → Server D M → Type 0

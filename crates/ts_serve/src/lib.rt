@@ -18,6 +18,10 @@
 //! FrameFault, and ends the stream.
 //!
 //! - [`Server::new`], [`Server::close`]: the node, given back too where memory is refused.
+//! - [`Server::answer_frame`]: one frame: the text of the answers of its turn, or why there is none;
+//!   [`refusal`]: the text for a fault in a frame's place. `ts_links` serves many connections by
+//!   these two.
+//! - [`Server::has_failed`]: whether a device of the node failed in a turn; each turn says so.
 //! - [`serve`]: `served`: where the reader tells its octets, what is written is the text of the
 //!   answers to the requests at the front of the stream, each a turn of the server (`specs/Turn`,
 //!   in the words of `Node::handle`), and nothing else; Ok where that is all of the stream, `Cut`
@@ -47,6 +51,7 @@
 //! tested: what a socket gives or takes.
 #![tactic(auto)]
 
+mod answering;
 mod carrying;
 mod connection;
 mod fault;
@@ -58,6 +63,7 @@ mod sending;
 mod server;
 mod serving;
 
+pub use answering::{AnswerFault, is_request, refusal};
 pub use carrying::carry;
 pub use connection::LONGEST_WAIT;
 pub use fault::ServeFault;

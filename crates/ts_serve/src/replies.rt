@@ -1,10 +1,11 @@
 //! A node's replies and faults as frames.
 
-ghost use Rattle.std.specs.Prelude.{◌≡◌, ◌≤◌, ◌<◌, IfOk};
+ghost use Rattle.std.specs.Prelude.{◌≡◌, ◌≤◌, ◌<◌, ◌||◌, IfOk};
 ghost use Rattle.ts_question.specs.Reply.{answered};
 ghost use Rattle.ts_question.specs.declared.reply.Reply.TheVariants.{NotYet};
 ghost use Rattle.ts_wire.specs.declared.frame.Frame.TheVariants.{Answer as AnswerFrame};
-ghost use Rattle.ts_serve.specs.Replies.{HasFrame, answer_to, messages_of, reply_frame, wire_fault};
+ghost use Rattle.ts_serve.specs.Replies.{HasFrame, answer_to, is_failure, messages_of, reply_frame};
+ghost use Rattle.ts_serve.specs.Replies.{wire_fault};
 
 use std::alloc::Global;
 use ts_node::{NodeFault, Output, Reply};
@@ -55,6 +56,19 @@ fn frame_of(reply: Reply<Outcome, Answer>) -> Frame
         Reply::Prefix(prefix) => Frame::Prefix { prefix },
         Reply::Compacted(Progress::Working) => Frame::Done { count: 0 },
         Reply::Compacted(Progress::Switched) => Frame::Done { count: 1 },
+    }
+}
+
+/// Whether a device has failed, in this call or in an earlier one.
+pub(crate) fn failed_then(
+    failed: bool,
+    called: &Result<Output<Command, Outcome, Answer>, NodeFault>,
+) -> bool
+    ensures { result ≡ (failed || is_failure called.now) }
+{
+    match called {
+        Err(NodeFault::DiskFailed | NodeFault::Broken) => true,
+        _ => failed,
     }
 }
 

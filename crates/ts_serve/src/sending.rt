@@ -13,7 +13,7 @@ use std::io::{ErrorKind, Write};
 use ts_wire::{Frame, FrameFault, NodeFault, WriteError, write_frame};
 
 /// The octets of an answer.
-fn octets_of(alloc: Global, frame: &Frame) -> Result<Vec<u8>, ServeFault>
+pub(crate) fn octets_of(alloc: Global, frame: &Frame) -> Result<Vec<u8>, ServeFault>
     ensures octets { IfOk result (λ octets. octets.items ≡ written frame.now) }
     ensures fault { IfErr result (λ fault. fault ≡ ServeFault.Memory) }
 {

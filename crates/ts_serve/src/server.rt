@@ -1,6 +1,6 @@
 //! A node that is served.
 
-ghost use Rattle.std.specs.Prelude.{◌≡◌, ◌∷◌, ◌++◌, [], map, OnOk, OnErr, MatchResult};
+ghost use Rattle.std.specs.Prelude.{◌≡◌, ◌∷◌, ◌++◌, [], false, map, OnOk, OnErr, MatchResult};
 ghost use Rattle.std.specs.Io.KnownBytes.{Appends};
 ghost use Rattle.ts_question.specs.Question.{Asked};
 ghost use Rattle.ts_node.specs.Machine.{store_of};
@@ -15,7 +15,7 @@ ghost use Rattle.ts_serve.specs.Steps.{Answers, Refuses, Says};
 
 use crate::fault::ServeFault;
 use crate::outbox::Outbox;
-use crate::replies::answer_of;
+use crate::replies::{answer_of, failed_then};
 use crate::sending::{refuse, send, send_all};
 use std::alloc::Global;
 use std::io::Write;
@@ -31,6 +31,8 @@ pub struct Server<D: Disk, M> {
     alloc: Global,
     node: Node<D, Command, M>,
     outbox: Outbox,
+    /// Whether the node's disks failed.
+    failed: bool,
 }
 
 /// A question, as an input of a node: over as many commands as it names.
@@ -56,7 +58,8 @@ impl<D: Disk, M: Machine<Command, Outcome = Outcome, Question = Question, Answer
         alloc: Global,
         node: Node<D, Command, M>,
     ) -> Result<Server<D, M>, Node<D, Command, M>>
-        ensures { MatchResult result (λ server. (server.node ≡ node) × (server.outbox ≡ []))
+        ensures { MatchResult result (λ server. (server.node ≡ node) × (server.outbox ≡ [])
+            × (server.failed ≡ false))
             (λ refused. refused ≡ node) }
     {
         match Outbox::new(alloc) {
@@ -64,6 +67,7 @@ impl<D: Disk, M: Machine<Command, Outcome = Outcome, Question = Question, Answer
                 alloc,
                 node,
                 outbox,
+                failed: false,
             }),
             Err(_) => Err(node),
         }
@@ -77,8 +81,17 @@ impl<D: Disk, M: Machine<Command, Outcome = Outcome, Question = Question, Answer
             alloc: _alloc,
             node,
             outbox: _outbox,
+            failed: _failed,
         } = self;
         node
+    }
+
+    /// Whether a device of the node failed in a turn. The node is broken then, and answers nothing
+    /// more until it is opened again.
+    pub fn has_failed(&self) -> bool
+        ensures { result ≡ self.now.failed }
+    {
+        self.failed
     }
 
     /// What the server allocates with.
@@ -112,6 +125,7 @@ impl<D: Disk, M: Machine<Command, Outcome = Outcome, Question = Question, Answer
         ensures alloc { self.new.alloc ≡ self.old.alloc }
     {
         let called = self.node.handle(input);
+        self.failed = failed_then(self.failed, &called);
         let (frame, messages) = answer_of(self.alloc, called);
         self.outbox.put(messages);
         frame

@@ -19,4 +19,5 @@ returns-clause-handled g c = record {
   call = c.handle-called.ensures.call;
   said = ap (λ (f : Frame). f ∷ []) c.answer_of-frame.ensures.frame;
   outbox = c.put.ensures ∙ ap (λ (l : List (Message Command)). take 256 (c.args.self.now.outbox ++ l)) c.answer_of-frame.ensures.messages;
+  failed = c.failed_then-self.ensures;
 }

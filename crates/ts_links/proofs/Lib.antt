@@ -1,0 +1,5 @@
+pub mod Front
+pub mod Slots
+pub mod Fairness
+pub mod Splitting
+pub mod Reached

@@ -1,0 +1,109 @@
+-- Moves after moves, on all connections.
+use Rattle.std.proofs.Common.{◌≡◌, ◌⊎◌, ◌∙◌, ℕ, Bool, true, false, List, [], ◌∷◌, ◌++◌, map, Option, Some, None, Result, Ok, Err, refl, sym, ap, subst, inl, inr}
+use Rattle.std.specs.List.{flat_map}
+use Rattle.std.specs.declared.alloc.AllocError.{AllocError}
+use Rattle.std.proofs.lemmas.Grind.{flat_map-append}
+use Rattle.std.proofs.lemmas.List.{append-nil, map-append}
+use Rattle.ts_wire.specs.declared.frame.Frame.{Frame}
+use Rattle.ts_serve.specs.Stream.{Run}
+use Rattle.ts_serve.proofs.Runs.{run_join, run_one}
+use Rattle.ts_links.specs.declared.connections.ArriveFault.{ArriveFault}
+use Rattle.ts_links.specs.declared.connections.ArriveFault.TheVariants as faults
+use Rattle.ts_links.specs.declared.link.Link.{Link}
+use Rattle.ts_links.specs.declared.link.Taken.{Taken}
+use Rattle.ts_links.specs.declared.link.Taken.TheVariants as takes
+use Rattle.ts_links.specs.Events.{Answered, Change, Changes, Event, Quiet, answers_given, event, requests_taken, taken, taken_in}
+use Rattle.ts_links.specs.Moves.{Closed, Move}
+use Rattle.ts_links.specs.Table.{ArriveGives, LeaveGives, OpenGives}
+use Rattle.ts_links.specs.Turns.{Gives, Reached, Refused1, Took1}
+
+changes_join : (events more : List Event) (links between others : List Link) → Changes links events between → Changes between more others → Changes links (events ++ more) others
+changes_join [] more links between others a b = subst (λ (l : List Link). Changes l more others) a b
+changes_join (event ∷ events) more links between others a b = (a.0, a.1, changes_join events more a.0 between others a.2 b)
+
+taken-append : (events more : List Event) → taken (events ++ more) ≡ taken events ++ taken more
+taken-append events more = flat_map-append (λ (e : Event). taken_in e.move) events more
+
+-- ---- moves that take no request
+
+pub quiet_none : (links others : List Link) → others ≡ links → Quiet links others
+quiet_none links others same = record { events = []; none = refl; changes = same }
+
+pub quiet_one : (links others : List Link) (e : Event) → taken_in e.move ≡ [] → Change links e others → Quiet links others
+quiet_one links others e none change = record { events = e ∷ []; none = append-nil (taken_in e.move) ∙ none; changes = (others, change, refl) }
+
+pub quiet_then : (a b c : List Link) → Quiet a b → Quiet b c → Quiet a c
+quiet_then a b c p q = record {
+  events = p.events ++ q.events;
+  none = taken-append p.events q.events ∙ ap (λ l. l ++ taken q.events) p.none ∙ q.none;
+  changes = changes_join p.events q.events a b c p.changes q.changes;
+}
+
+pub quiet_open : (links others : List Link) (now : ℕ) (slot : Option ℕ) → OpenGives links now slot others → Quiet links others
+quiet_open links others now (Some slot) h = quiet_one links others (event slot now _) refl h
+quiet_open links others now None h = quiet_none links others h.0
+
+pub quiet_arrive : (links others : List Link) (slot now : ℕ) (piece : List ℕ) (r : Result (Unit {0}) ArriveFault) → ArriveGives links slot piece now r others → Quiet links others
+quiet_arrive links others slot now piece (Ok done) h = quiet_one links others (event slot now _) refl h
+quiet_arrive links others slot now piece (Err faults.NotOpen) h = quiet_none links others h.0
+quiet_arrive links others slot now piece (Err faults.Full) h = quiet_none links others h.0
+quiet_arrive links others slot now piece (Err faults.Memory) h = quiet_none links others h
+
+pub quiet_leave : (links others : List Link) (slot count now : ℕ) (r : Bool) → LeaveGives links slot count now r others → Quiet links others
+quiet_leave links others slot count now true h = quiet_one links others (event slot now _) refl h.2
+quiet_leave links others slot count now false h = quiet_none links others h.0
+
+pub quiet_close : (links others : List Link) (slot : ℕ) (did : Bool) → (did ≡ true → (now : ℕ) → Change links (event slot now Closed) others) → (did ≡ false → others ≡ links) → Quiet links others
+quiet_close links others slot true did same = quiet_one links others (event slot 0 Closed) refl (did refl 0)
+quiet_close links others slot false did same = quiet_none links others (same refl)
+
+-- ---- and moves that do
+
+module _ {S : Type 0} (turn : S → Frame → List Frame → S → Type 0) where
+  -- what was taken is answered by turns
+  abbrev Answers : S → List Answered → S → Type 0
+  Answers s pairs t = Run turn s (map (λ pair. pair.0) pairs) (flat_map (λ pair. pair.1) pairs) t
+
+  answers_join : (s t u : S) (pairs more : List Answered) → Answers s pairs t → Answers t more u → Answers s (pairs ++ more) u
+  answers_join s t u pairs more p q =
+      let run = run_join turn s t u (map (λ (pair : Answered). pair.0) pairs) (map (λ (pair : Answered). pair.0) more) (flat_map (λ (pair : Answered). pair.1) pairs) (flat_map (λ (pair : Answered). pair.1) more) p q in
+      let other = subst (λ l. Run turn s l (flat_map (λ (pair : Answered). pair.1) pairs ++ flat_map (λ (pair : Answered). pair.1) more) u) (sym (map-append (λ (pair : Answered). pair.0) pairs more)) run in
+      subst (λ l. Run turn s (map (λ (pair : Answered). pair.0) (pairs ++ more)) l u) (sym (flat_map-append (λ (pair : Answered). pair.1) pairs more)) other
+
+  pub reached_then : (s t u : S) (a b c : List Link) → Reached turn s a t b → Reached turn t b u c → Reached turn s a u c
+  reached_then s t u a b c p q = record {
+    events = p.events ++ q.events;
+    changes = changes_join p.events q.events a b c p.changes q.changes;
+    run = subst (λ (l : List Answered). Answers s l u) (sym (taken-append p.events q.events)) (answers_join s t u (taken p.events) (taken q.events) p.run q.run);
+  }
+
+  -- nothing was taken
+  pub reached_quiet : (s : S) (a b : List Link) → Quiet a b → Reached turn s a s b
+  reached_quiet s a b q = record { events = q.events; changes = q.changes; run = subst (λ (l : List Answered). Answers s l s) (sym q.none) (refl, refl) }
+
+  pub reached_none : (s : S) (a : List Link) → Reached turn s a s a
+  reached_none s a = reached_quiet s a a (quiet_none a a refl)
+
+  pub then_quiet : (s t : S) (a b c : List Link) → Reached turn s a t b → Quiet b c → Reached turn s a t c
+  then_quiet s t a b c p q = reached_then s t t a b c p (reached_quiet t b c q)
+
+  reached_took : (s t : S) (a b : List Link) (slot now : ℕ) → Took1 turn s a slot now t b → Reached turn s a t b
+  reached_took s t a b slot now took = record {
+    events = event slot now _ ∷ [];
+    changes = (b, took.change, refl);
+    run = subst (λ l. Run turn s (took.request ∷ []) l t) (sym (append-nil took.answers)) (run_one turn s t took.request took.answers took.turned);
+  }
+
+  reached_refused : (s t : S) (a b : List Link) (slot now : ℕ) → Refused1 turn s a slot now t b → Reached turn s a t b
+  reached_refused s t a b slot now one = subst (λ (x : S). Reached turn s a x b) (sym one.same) (reached_quiet s a b (quiet_one a b (event slot now _) refl one.change))
+
+  reached_same : (s t : S) (a b : List Link) → t ≡ s → b ≡ a → Reached turn s a t b
+  reached_same s t a b same alike = subst (λ (x : S). Reached turn s a x b) (sym same) (reached_quiet s a b (quiet_none a b alike))
+
+  pub reached_gives : (s t : S) (a b : List Link) (slot now : ℕ) (r : Result Taken AllocError) → Gives turn s a slot now r t b → Reached turn s a t b
+  reached_gives s t a b slot now (Ok takes.Request) h = reached_took s t a b slot now h.0
+  reached_gives s t a b slot now (Ok takes.Fault) h = reached_refused s t a b slot now h.0
+  reached_gives s t a b slot now (Ok takes.Nothing) h = reached_same s t a b h.0 h.1
+  reached_gives s t a b slot now (Err e) (inl h) = reached_same s t a b h.0 h.1
+  reached_gives s t a b slot now (Err e) (inr (inl h)) = reached_took s t a b slot now h
+  reached_gives s t a b slot now (Err e) (inr (inr h)) = reached_refused s t a b slot now h

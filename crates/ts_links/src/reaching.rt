@@ -1,0 +1,58 @@
+//! The calls on all connections, by what a loop over them keeps.
+
+ghost use Rattle.ts_links.specs.Calls.{HasReached, IsQuiet};
+
+use crate::connections::Connections;
+use crate::link::Taken;
+use crate::service::Service;
+
+/// `Connections::open`.
+pub fn open(table: &mut Connections, now: u64) -> Option<usize>
+    ensures { IsQuiet table.old table.new }
+{
+    table.open(now)
+}
+
+/// `Connections::arrive`. Whether the octets were taken.
+pub fn arrive(table: &mut Connections, slot: usize, piece: &[u8], now: u64) -> bool
+    ensures { IsQuiet table.old table.new }
+{
+    table.arrive(slot, piece, now).is_ok()
+}
+
+/// `Connections::leave`.
+pub fn leave(table: &mut Connections, slot: usize, count: usize, now: u64) -> bool
+    ensures { IsQuiet table.old table.new }
+{
+    table.leave(slot, count, now)
+}
+
+/// `Connections::close`.
+pub fn close(table: &mut Connections, slot: usize) -> bool
+    ensures { IsQuiet table.old table.new }
+{
+    table.close(slot)
+}
+
+/// `Connections::take`, at most so many times. How many requests and faults were taken, and whether
+/// memory was there for their answers.
+pub fn take_some<S: Service>(
+    table: &mut Connections,
+    slot: usize,
+    service: &mut S,
+    most: u32,
+    now: u64,
+) -> (u32, bool)
+    requires { S.is_ready service.old }
+    ensures reached { HasReached S.turn service.old table.old service.new table.new }
+    ensures ready { S.is_ready service.new }
+{
+    for taken in 0..most {
+        match table.take(slot, service, now) {
+            Ok(Taken::Nothing) => return (taken, true),
+            Ok(_) => {}
+            Err(_) => return (taken, false),
+        }
+    }
+    (most, true)
+}

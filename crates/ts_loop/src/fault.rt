@@ -1,0 +1,24 @@
+//! Why a loop ended.
+
+use std::alloc::AllocError;
+
+/// Why a loop ended.
+#[derive(Clone, Copy, Debug, PartialEq, Eq)]
+pub enum LoopFault {
+    /// The address can't be listened at.
+    Listen,
+    /// The system gives no events.
+    Poll,
+    /// The system gives no time.
+    Clock,
+    /// Memory was refused for the slots.
+    Memory,
+    /// A device of the node failed. What it had answered was written first, where clients read it.
+    NodeFailed,
+}
+
+impl From<AllocError> for LoopFault {
+    fn from(_: AllocError) -> LoopFault {
+        LoopFault::Memory
+    }
+}

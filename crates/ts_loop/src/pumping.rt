@@ -1,0 +1,83 @@
+//! What one round does at one slot.
+
+ghost use Rattle.ts_links.specs.Calls.{HasReached};
+
+use crate::door::{Door, PIECE, read_once, shut_if_done, write_once};
+use ts_links::reaching::take_some;
+use ts_links::{Connections, Service, Stage};
+
+/// The most requests of one connection that are taken before the others have their turn.
+const TURNS: u32 = 64;
+
+/// What became of a connection in a round.
+#[derive(Clone, Copy, Debug, PartialEq, Eq)]
+pub(crate) enum Pumped {
+    /// It waits for its socket.
+    Waits,
+    /// It could do more.
+    More,
+    /// Its client has closed it, and all was answered.
+    Ended,
+    /// It failed.
+    Failed,
+}
+
+/// What is left to do on an open connection of which so many requests were taken.
+fn left_open(table: &Connections, door: &Door, slot: usize, taken: u32) -> Pumped {
+    let waits = !table.waiting(slot).is_empty();
+    let reads = door.readable && !door.ended && table.reads(slot);
+    if taken == TURNS || reads || (waits && door.writable) {
+        return Pumped::More;
+    }
+    if door.ended && !waits {
+        return Pumped::Ended;
+    }
+    Pumped::Waits
+}
+
+/// What is left to do on a connection that was refused.
+fn left_refused(door: &Door) -> Pumped {
+    if door.shut && door.ended {
+        return Pumped::Ended;
+    }
+    if (door.readable && !door.ended) || (!door.shut && door.writable) {
+        return Pumped::More;
+    }
+    Pumped::Waits
+}
+
+/// What is left to do on a connection.
+fn what_is_left(table: &Connections, door: &Door, slot: usize, taken: u32) -> Pumped {
+    match table.stage(slot) {
+        Stage::Open => left_open(table, door, slot, taken),
+        Stage::Refused => left_refused(door),
+        Stage::Closed => Pumped::Failed,
+    }
+}
+
+/// One read, some turns and one write of a connection. How many requests were taken.
+pub(crate) fn pump<S: Service>(
+    table: &mut Connections,
+    service: &mut S,
+    door: &mut Door,
+    slot: usize,
+    buffer: &mut [u8; PIECE],
+    now: u64,
+) -> (u32, Pumped)
+    requires { S.is_ready service.old }
+    ensures reached { HasReached S.turn service.old table.old service.new table.new }
+    ensures ready { S.is_ready service.new }
+{
+    if !read_once(table, door, slot, buffer, now) {
+        return (0, Pumped::Failed);
+    }
+    let (taken, good) = take_some(table, slot, service, TURNS, now);
+    if !good {
+        return (taken, Pumped::Failed);
+    }
+    if !write_once(table, door, slot, now) {
+        return (taken, Pumped::Failed);
+    }
+    shut_if_done(table, door, slot);
+    (taken, what_is_left(table, door, slot, taken))
+}

@@ -1,0 +1,201 @@
+//! What one round does at all slots.
+
+ghost use Rattle.ts_links.specs.Calls.{HasReached, IsQuiet};
+
+use crate::counts::{Counts, Why};
+use crate::door::{Door, PIECE, write_once};
+use crate::pumping::{Pumped, pump};
+use mio::Events;
+use mio::Token;
+use ts_links::reaching::close;
+use ts_links::{Connections, Deadlines, Service};
+
+/// The token of the listener. The door of a slot has the slot's number.
+pub(crate) const LISTENER: Token = Token(usize::MAX);
+
+/// How many milliseconds pass until late connections are looked for again.
+const SWEEP: u64 = 100;
+
+/// Marks the doors that have something to do. Whether the listener has.
+pub(crate) fn mark(doors: &mut [Option<Door>], events: &Events) -> bool {
+    let mut accepts = false;
+    for event in events.iter() {
+        if event.token() == LISTENER {
+            accepts = true;
+        } else if let Some(Some(door)) = doors.get_mut(event.token().0) {
+            door.hot = true;
+            if event.is_readable() || event.is_read_closed() || event.is_error() {
+                door.readable = true;
+            }
+            if event.is_writable() || event.is_write_closed() || event.is_error() {
+                door.writable = true;
+            }
+        }
+    }
+    accepts
+}
+
+/// Closes the connection of a slot.
+fn close_slot(
+    table: &mut Connections,
+    place: &mut Option<Door>,
+    slot: usize,
+    why: Why,
+    counts: &mut Counts,
+)
+    ensures { IsQuiet table.old table.new }
+{
+    *place = None;
+    counts.closed(why);
+    let _closed = close(table, slot);
+}
+
+/// What is known of a slot after a round: whether it could do more.
+fn settle(
+    table: &mut Connections,
+    place: &mut Option<Door>,
+    slot: usize,
+    pumped: Pumped,
+    counts: &mut Counts,
+) -> bool
+    ensures { IsQuiet table.old table.new }
+{
+    if pumped == Pumped::More {
+        return true;
+    }
+    if pumped == Pumped::Waits {
+        if let Some(door) = place {
+            door.hot = false;
+        }
+        return false;
+    }
+    let why = if pumped == Pumped::Ended { Why::Ended } else { Why::Failed };
+    close_slot(table, place, slot, why, counts);
+    false
+}
+
+/// One round of a slot. Whether it could do more.
+fn pump_slot<S: Service>(
+    table: &mut Connections,
+    service: &mut S,
+    place: &mut Option<Door>,
+    slot: usize,
+    buffer: &mut [u8; PIECE],
+    now: u64,
+    counts: &mut Counts,
+) -> bool
+    requires { S.is_ready service.old }
+    ensures reached { HasReached S.turn service.old table.old service.new table.new }
+    ensures ready { S.is_ready service.new }
+{
+    let Some(door) = place else {
+        return false;
+    };
+    if !door.hot {
+        return false;
+    }
+    let (taken, pumped) = pump(table, service, door, slot, buffer, now);
+    counts.taken = counts.taken.saturating_add(u64::from(taken));
+    settle(table, place, slot, pumped, counts)
+}
+
+/// One round of all doors that are to be looked at, from a slot on. Whether one could do more.
+pub(crate) fn pump_all<S: Service>(
+    table: &mut Connections,
+    service: &mut S,
+    doors: &mut [Option<Door>],
+    first: usize,
+    buffer: &mut [u8; PIECE],
+    now: u64,
+    counts: &mut Counts,
+) -> bool
+    requires { S.is_ready service.old }
+    ensures reached { HasReached S.turn service.old table.old service.new table.new }
+    ensures ready { S.is_ready service.new }
+{
+    let slots = doors.len();
+    let mut more = false;
+    for step in 0..slots {
+        let slot = first.wrapping_add(step) % slots;
+        if pump_slot(table, service, &mut doors[slot], slot, buffer, now, counts) {
+            more = true;
+        }
+    }
+    more
+}
+
+/// Closes the connection of a slot if its time is over.
+fn sweep_slot(
+    table: &mut Connections,
+    place: &mut Option<Door>,
+    slot: usize,
+    deadlines: &Deadlines,
+    now: u64,
+    counts: &mut Counts,
+)
+    ensures { IsQuiet table.old table.new }
+{
+    if !table.is_late(slot, deadlines, now) {
+        return;
+    }
+    close_slot(table, place, slot, Why::Late, counts);
+}
+
+/// Closes the connections whose time is over, if a tenth of a second has gone since that was done.
+/// When it was done last.
+pub(crate) fn sweep(
+    table: &mut Connections,
+    doors: &mut [Option<Door>],
+    deadlines: &Deadlines,
+    swept: u64,
+    now: u64,
+    counts: &mut Counts,
+) -> u64
+    ensures { IsQuiet table.old table.new }
+{
+    if now.saturating_sub(swept) < SWEEP {
+        return swept;
+    }
+    for slot in 0..doors.len() {
+        sweep_slot(table, &mut doors[slot], slot, deadlines, now, counts);
+    }
+    now
+}
+
+/// Writes once what waits on a slot. Whether more waits that may be taken later.
+fn write_slot(
+    table: &mut Connections,
+    place: &mut Option<Door>,
+    slot: usize,
+    now: u64,
+    counts: &mut Counts,
+) -> bool
+    ensures { IsQuiet table.old table.new }
+{
+    let Some(door) = place else {
+        return false;
+    };
+    if write_once(table, door, slot, now) {
+        return !table.waiting(slot).is_empty();
+    }
+    close_slot(table, place, slot, Why::Failed, counts);
+    false
+}
+
+/// Writes once what waits on each slot. Whether more waits that may be taken later.
+pub(crate) fn write_all(
+    table: &mut Connections,
+    doors: &mut [Option<Door>],
+    now: u64,
+    counts: &mut Counts,
+) -> bool
+    ensures { IsQuiet table.old table.new }
+{
+    let mut more = false;
+    for slot in 0..doors.len() {
+        if write_slot(table, &mut doors[slot], slot, now, counts) {
+            more = true;
+        }
+    }
+    more
+}

@@ -1,0 +1,259 @@
+//! The loop.
+
+ghost use Rattle.std.specs.Prelude.{◌≡◌};
+ghost use Rattle.ts_question.specs.Question.{Asked};
+ghost use Rattle.ts_node.specs.Machine.{store_of};
+ghost use Rattle.ts_node.specs.Node.{IsSound};
+ghost use Rattle.ts_store.specs.Octets.{octets_of};
+ghost use Rattle.ts_serve.specs.Turn.{Turn};
+ghost use Rattle.ts_links.specs.Calls.{HasReached, IsQuiet};
+ghost use Rattle.ts_links.specs.Turns.{Served};
+
+use crate::accepting::{Accepts, accept_some};
+use crate::counts::Counts;
+use crate::door::{Door, PIECE};
+use crate::fault::LoopFault;
+use crate::limits::Limits;
+use crate::rounds::{LISTENER, mark, pump_all, sweep, write_all};
+use mio::net::TcpListener;
+use mio::{Events, Interest, Poll};
+use std::alloc::Global;
+use std::net;
+use std::net::Net;
+use std::rt::Clock;
+use std::time::{Duration, Instant};
+use ts_disk::Disk;
+use ts_links::{Connections, Service};
+use ts_node::Machine;
+use ts_question::{Answer, Question};
+use ts_serve::Server;
+use ts_store::{Command, Outcome};
+
+/// How many milliseconds a round waits at most.
+const ROUND: u64 = 50;
+
+/// How many events a round takes.
+const EVENTS: usize = 1024;
+
+/// The sockets, and what is known of them.
+#[derive(Drop)]
+struct Edge {
+    poll: Poll,
+    events: Events,
+    listener: TcpListener,
+    doors: Vec<Option<Door>>,
+    accepts: Accepts,
+    counts: Counts,
+    start: Instant,
+    swept: u64,
+    first: usize,
+    /// A connection could do more.
+    more: bool,
+}
+
+/// The listener at an address, whose calls don't wait.
+fn listener_at<R: Net<Listener = net::TcpListener, Stream = net::TcpStream>>(
+    rt: &R,
+    address: &str,
+) -> Result<TcpListener, LoopFault> {
+    let Ok(listener) = net::TcpListener::bind(rt, address) else {
+        return Err(LoopFault::Listen);
+    };
+    if listener.set_nonblocking(true).is_err() {
+        return Err(LoopFault::Listen);
+    }
+    Ok(TcpListener::from_std(listener))
+}
+
+/// So many places for doors.
+fn places(alloc: Global, slots: usize) -> Result<Vec<Option<Door>>, LoopFault> {
+    let mut doors: Vec<Option<Door>> = Vec::new(alloc);
+    for _slot in 0..slots {
+        if doors.push(None).is_err() {
+            return Err(LoopFault::Memory);
+        }
+    }
+    Ok(doors)
+}
+
+impl Edge {
+    /// The sockets at the start: the listener alone.
+    fn new<R: Net<Listener = net::TcpListener, Stream = net::TcpStream> + Clock>(
+        rt: &R,
+        alloc: Global,
+        address: &str,
+        slots: usize,
+    ) -> Result<Edge, LoopFault> {
+        let mut listener = listener_at(rt, address)?;
+        let Ok(poll) = Poll::new(rt) else {
+            return Err(LoopFault::Poll);
+        };
+        let events = Events::with_capacity(alloc, EVENTS)?;
+        if poll
+            .registry()
+            .register(&mut listener, LISTENER, Interest::READABLE)
+            .is_err()
+        {
+            return Err(LoopFault::Poll);
+        }
+        let Ok(start) = Instant::now(rt) else {
+            return Err(LoopFault::Clock);
+        };
+        Ok(Edge {
+            poll,
+            events,
+            listener,
+            doors: places(alloc, slots)?,
+            accepts: Accepts::AtEvent,
+            counts: Counts::new(),
+            start,
+            swept: 0,
+            first: 0,
+            more: false,
+        })
+    }
+
+    /// Waits for events, and marks the doors that have one. Whether the listener has, and the
+    /// milliseconds since the start.
+    fn wait<R: Clock>(&mut self, rt: &R, wait: u64) -> Result<(bool, u64), LoopFault> {
+        let longest = Some(Duration::from_millis(wait));
+        if self.poll.poll(&mut self.events, longest).is_err() {
+            return Err(LoopFault::Poll);
+        }
+        let Ok(elapsed) = self.start.elapsed(rt) else {
+            return Err(LoopFault::Clock);
+        };
+        let now = u64::try_from(elapsed.as_millis()).unwrap_or(u64::MAX);
+        Ok((mark(&mut self.doors, &self.events), now))
+    }
+
+    /// Accepts connections, if it is time.
+    fn accept(&mut self, table: &mut Connections, event: bool, now: u64)
+        ensures { IsQuiet table.old table.new }
+    {
+        if !self.accepts.is_due(event, now) {
+            return;
+        }
+        self.accepts = accept_some(
+            table,
+            &mut self.doors,
+            &self.listener,
+            self.poll.registry(),
+            now,
+            &mut self.counts,
+        );
+    }
+
+    /// One round. The milliseconds since the start.
+    fn round<S: Service, R: Clock>(
+        &mut self,
+        rt: &R,
+        table: &mut Connections,
+        service: &mut S,
+        buffer: &mut [u8; PIECE],
+        limits: &Limits,
+    ) -> Result<u64, LoopFault>
+        requires { S.is_ready service.old }
+        ensures reached { HasReached S.turn service.old table.old service.new table.new }
+        ensures ready { S.is_ready service.new }
+    {
+        let goes_on = self.more || self.accepts == Accepts::Now;
+        let (event, now) = self.wait(rt, if goes_on { 0 } else { ROUND })?;
+        self.accept(table, event, now);
+        self.more = pump_all(
+            table,
+            service,
+            &mut self.doors,
+            self.first,
+            buffer,
+            now,
+            &mut self.counts,
+        );
+        self.first = self.first.wrapping_add(1);
+        self.swept = sweep(
+            table,
+            &mut self.doors,
+            &limits.deadlines(),
+            self.swept,
+            now,
+            &mut self.counts,
+        );
+        Ok(now)
+    }
+
+    /// Writes what waits, until it has left or a moment has come.
+    fn write_rest<R: Clock>(
+        &mut self,
+        rt: &R,
+        table: &mut Connections,
+        until: u64,
+    ) -> Result<(), LoopFault>
+        ensures { IsQuiet table.old table.new }
+    {
+        for _round in 0..u64::MAX {
+            let (_, now) = self.wait(rt, ROUND)?;
+            if !write_all(table, &mut self.doors, now, &mut self.counts) || now >= until {
+                return Ok(());
+            }
+        }
+        Ok(())
+    }
+
+    /// Rounds, until so many connections are over or the service has failed.
+    fn serve<S: Service, R: Clock>(
+        &mut self,
+        rt: &R,
+        table: &mut Connections,
+        service: &mut S,
+        limits: &Limits,
+    ) -> Result<(), LoopFault>
+        requires { S.is_ready service.old }
+        ensures reached { HasReached S.turn service.old table.old service.new table.new }
+        ensures ready { S.is_ready service.new }
+    {
+        let mut buffer = [0u8; PIECE];
+        for _round in 0..u64::MAX {
+            let now = self.round(rt, table, service, &mut buffer, limits)?;
+            if service.has_failed() {
+                self.write_rest(rt, table, now.saturating_add(limits.request_ms))?;
+                return Err(LoopFault::NodeFailed);
+            }
+            if self.counts.over() >= limits.connections {
+                return Ok(());
+            }
+        }
+        Ok(())
+    }
+}
+
+/// Serves an address to many connections at once, by one thread: each request is taken in its turn,
+/// and a connection that is slow, silent or reads nothing keeps no other from being answered. A
+/// connection's own fault ends it alone.
+///
+/// # Errors
+///
+/// `Listen`, `Poll`, `Clock` and `Memory` where the system gives no listener, events, time or
+/// memory; `NodeFailed` once a device of the node has failed, after what was answered.
+pub fn serve_all<R, D, M>(
+    rt: &R,
+    alloc: Global,
+    server: &mut Server<D, M>,
+    address: &str,
+    limits: &Limits,
+) -> Result<Counts, LoopFault>
+where
+    R: Net<Listener = net::TcpListener, Stream = net::TcpStream> + Clock,
+    D: Disk,
+    M: Machine<Command, Outcome = Outcome, Question = Question, Answer = Answer>,
+    requires { IsSound D.state octets_of M.commands server.old.node }
+    // Whatever comes, in whatever pieces and whatever order: only moves on the connections were
+    // made, and the server has answered the requests that these take, one after another.
+    ensures served { Served (Turn D.state
+        (store_of Asked M.client_id M.outcome) M.basis M.is_answer) server.old server.new }
+    ensures sound { IsSound D.state octets_of M.commands server.new.node }
+{
+    let mut table = Connections::new(alloc, limits.connections_at_once)?;
+    let mut edge = Edge::new(rt, alloc, address, limits.connections_at_once)?;
+    edge.serve(rt, &mut table, server, limits)?;
+    Ok(edge.counts)
+}

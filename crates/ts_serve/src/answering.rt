@@ -1,0 +1,90 @@
+//! One frame is answered, in octets that are handed on later.
+
+ghost use Rattle.std.specs.Prelude.{◌≡◌, Some, IfOk};
+ghost use Rattle.ts_question.specs.Question.{Asked};
+ghost use Rattle.ts_node.specs.Machine.{store_of};
+ghost use Rattle.ts_node.specs.Node.{IsSound};
+ghost use Rattle.ts_store.specs.Octets.{octets_of as command_octets};
+ghost use Rattle.ts_wire.specs.Frames.{Fits};
+ghost use Rattle.ts_serve.specs.Requests.{is_request};
+ghost use Rattle.ts_serve.specs.Text.{fault_frames, text};
+ghost use Rattle.ts_serve.specs.Turn.{Turn};
+ghost use Rattle.ts_serve.specs.Answering.{AnswersFrame};
+
+use crate::sending::octets_of;
+use crate::server::Server;
+use std::alloc::{AllocError, Global};
+use ts_disk::Disk;
+use ts_node::Machine;
+use ts_question::{Answer, Question};
+use ts_store::{Command, Outcome};
+use ts_wire::{Frame, FrameFault};
+
+/// Why a frame has no answer that can be handed on.
+#[derive(Clone, Copy, Debug, PartialEq, Eq)]
+pub enum AnswerFault {
+    /// The frame is no request, and nothing was done.
+    NoRequest,
+    /// The request was taken, and its answers found no memory.
+    Memory,
+}
+
+/// Whether a frame is a request: one of kind 01 to 07 or 10 to 16.
+pub fn is_request(frame: &Frame) -> bool
+    ensures { result ≡ is_request frame.now }
+{
+    match frame {
+        Frame::Done { .. }
+        | Frame::Started { .. }
+        | Frame::Settled { .. }
+        | Frame::Answer { .. }
+        | Frame::Unknown
+        | Frame::NodeFault { .. }
+        | Frame::FrameFault { .. }
+        | Frame::Prefix { .. } => false,
+        _ => true,
+    }
+}
+
+/// What is written for a fault in a frame's place.
+///
+/// # Errors
+///
+/// Memory that is refused.
+pub fn refusal(alloc: Global, fault: FrameFault) -> Result<Vec<u8>, AllocError>
+    ensures { IfOk result (λ octets. octets.items ≡ text (fault_frames (Some fault))) }
+{
+    let frame = Frame::FrameFault { fault };
+    match octets_of(alloc, &frame) {
+        Ok(octets) => Ok(octets),
+        Err(_) => Err(AllocError),
+    }
+}
+
+impl<D: Disk, M: Machine<Command, Outcome = Outcome, Question = Question, Answer = Answer>> Server<
+    D,
+    M,
+> {
+    /// Answers one frame, as `serve` does, and gives the text of the answers.
+    ///
+    /// # Errors
+    ///
+    /// `NoRequest` where the frame is no request; `Memory` where the answers are lost.
+    pub fn answer_frame(&mut self, frame: Frame) -> Result<Vec<u8>, AnswerFault>
+        requires sound { IsSound D.state command_octets M.commands self.old.node }
+        requires fits { Fits frame }
+        ensures answers { AnswersFrame (Turn D.state
+            (store_of Asked M.client_id M.outcome) M.basis M.is_answer) self.old frame
+            result self.new }
+        ensures sound { IsSound D.state command_octets M.commands self.new.node }
+    {
+        if !is_request(&frame) {
+            return Err(AnswerFault::NoRequest);
+        }
+        let mut octets = Vec::new(self.allocator());
+        match self.answer(frame, &mut octets) {
+            Ok(()) => Ok(octets),
+            Err(_) => Err(AnswerFault::Memory),
+        }
+    }
+}
