@@ -20,15 +20,16 @@ same_test false false P f g = refl
 
 pub on_curve_test : (c : Curve) (x y : ℕ) → IsTrue (is_on_curve c x y) ↔ IsOnCurve c x y
 on_curve_test c x y =
-    let equal = eqb (mul c.prime y y) (right_side c x) in
-    (λ h.
-      let a = both (ltb x c.prime) (ltb y c.prime && equal) h in
-      let b = both (ltb y c.prime) equal a.1 in
-      record {
-        first = ltb-true x c.prime a.0;
-        second = ltb-true y c.prime b.0;
-        equation = eqb-true _ _ b.1
-      },
-     λ p.
-      joined (ltb x c.prime) (ltb y c.prime && equal) (lt-ltb x c.prime p.first)
-      (joined (ltb y c.prime) equal (lt-ltb y c.prime p.second) (eq-eqb _ _ p.equation)))
+    let equal = eqb (mul c.prime y y) (right_side c x) in (
+      λ h.
+          let a = both (ltb x c.prime) (ltb y c.prime && equal) h in
+          let b = both (ltb y c.prime) equal a.1 in
+          record {
+            first = ltb-true x c.prime a.0;
+            second = ltb-true y c.prime b.0;
+            equation = eqb-true _ _ b.1;
+          },
+      λ p.
+          joined (ltb x c.prime) (ltb y c.prime && equal) (lt-ltb x c.prime p.first)
+          (joined (ltb y c.prime) equal (lt-ltb y c.prime p.second) (eq-eqb _ _ p.equation)),
+    )

@@ -12,7 +12,9 @@ use crate::residue::Residue;
 /// A curve whose a is -3.
 pub trait DomainParameters {
     type Limbs: Limbs;
+
     type Prime: Modulus<Limbs = Self::Limbs>;
+
     type Order: Modulus<Limbs = Self::Limbs>;
 
     /// Its domain parameters.
@@ -47,7 +49,10 @@ pub trait DomainParameters {
 pub fn base_point<C: DomainParameters>() -> CurvePoint<C::Prime>
     ensures { result ≡ base C.curve }
 {
-    CurvePoint::new(&Residue::from_limbs(&C::base_x()), &Residue::from_limbs(&C::base_y()))
+    CurvePoint::new(
+        &Residue::from_limbs(&C::base_x()),
+        &Residue::from_limbs(&C::base_y()),
+    )
 }
 
 /// Whether these are the coordinates of a point of the curve (SEC 1 3.2.2.1).

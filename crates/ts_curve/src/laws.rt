@@ -27,5 +27,5 @@ pub fn jacobian_coordinates()
         → jacobian p (jacobian_double p (x, y, z)) ≡ double p (p - 3) (jacobian p (x, y, z)) }
     ensures sum { (p x y z u v w : ℕ) → IsField p → x < p → y < p → z < p → u < p → v < p → w < p
         → jacobian p (jacobian_sum p (x, y, z) (u, v, w))
-            ≡ sum p (p - 3) (jacobian p (x, y, z)) (jacobian p (u, v, w)) }
+        ≡ sum p (p - 3) (jacobian p (x, y, z)) (jacobian p (u, v, w)) }
 {}

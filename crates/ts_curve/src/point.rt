@@ -34,14 +34,22 @@ impl<M: Modulus> CurvePoint<M> {
     pub fn infinity() -> Self
         ensures { result ≡ None }
     {
-        CurvePoint { x: Residue::zero(), y: Residue::zero(), z: Residue::zero() }
+        CurvePoint {
+            x: Residue::zero(),
+            y: Residue::zero(),
+            z: Residue::zero(),
+        }
     }
 
     /// The point with these coordinates.
     pub fn new(x: &Residue<M>, y: &Residue<M>) -> Self
         ensures { result ≡ Some (x.now, y.now) }
     {
-        CurvePoint { x: x.copy(), y: y.copy(), z: Residue::one() }
+        CurvePoint {
+            x: x.copy(),
+            y: y.copy(),
+            z: Residue::one(),
+        }
     }
 
     /// The double.
@@ -56,8 +64,7 @@ impl<M: Modulus> CurvePoint<M> {
     pub fn sum(&self, other: &Self) -> Self
         ensures { result ≡ sum M.prime (M.prime - 3) self.now other.now }
     {
-        let (x, y, z) =
-            jacobian::sum(&self.x, &self.y, &self.z, &other.x, &other.y, &other.z);
+        let (x, y, z) = jacobian::sum(&self.x, &self.y, &self.z, &other.x, &other.y, &other.z);
         CurvePoint { x, y, z }
     }
 

@@ -18,15 +18,26 @@ returns g c =
     let a : c.difference-a.result ≡ q.a =
     minus ∙ ap (λ k. k - 3) e ∙ sym g.met.C.DomainParameters.a_is in
     let b : c.from_limbs-b.result ≡ q.b =
-    c.from_limbs-b.ensures ∙ (rw (c.b.ensures, e) (mod-eq_of_lt g.met.C.DomainParameters.b_is_below)) in
+    c.from_limbs-b.ensures ∙ (rw (c.b.ensures, e)
+    (mod-eq_of_lt g.met.C.DomainParameters.b_is_below)) in
     let left : c.product-left.result ≡ mul q.prime c.args.y.now c.args.y.now =
     rw (c.product-left.ensures, c.copy-second.ensures.same, e) refl in
     let right : c.sum-right.result ≡ right_side q c.args.x.now =
-    rw (c.sum-right.ensures, c.sum-sum.ensures, c.product-line.ensures, c.product-cube.ensures,
-        c.product-square.ensures, c.copy-first.ensures.same, a, b, e) refl in
-    (λ h. record {
-      first = rw e at c.copy-first.ensures.below;
-      second = rw e at c.copy-second.ensures.below;
-      equation = sym left ∙ c.is_equal.ensures.0 h ∙ right
-    },
-     λ o. c.is_equal.ensures.1 (left ∙ o.equation ∙ sym right))
+    rw (
+      c.sum-right.ensures,
+      c.sum-sum.ensures,
+      c.product-line.ensures,
+      c.product-cube.ensures,
+      c.product-square.ensures,
+      c.copy-first.ensures.same,
+      a,
+      b,
+      e,
+    ) refl in (
+      λ h. record {
+        first = rw e at c.copy-first.ensures.below;
+        second = rw e at c.copy-second.ensures.below;
+        equation = sym left ∙ c.is_equal.ensures.0 h ∙ right;
+      },
+      λ o. c.is_equal.ensures.1 (left ∙ o.equation ∙ sym right),
+    )

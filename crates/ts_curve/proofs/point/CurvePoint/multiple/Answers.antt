@@ -10,8 +10,11 @@ loop-i-init g c =
     let p = g.M.Modulus.prime in
     record {
       rest = λ h. absurd (omega (arith, h));
-      multiple = (0, omega arith,
-        c.infinity-total.ensures ∙ sym (multiple_none p (p - 3) 0 c.args.self.now))
+      multiple = (
+        0,
+        omega arith,
+        c.infinity-total.ensures ∙ sym (multiple_none p (p - 3) 0 c.args.self.now),
+      );
     }
 
 pub loop-i-preserved : goal.loop-i-preserved
@@ -27,18 +30,22 @@ loop-i-preserved g c =
     (l.number c.doubled-next.result.0) inv.1 c.doubled-next.ensures.sum in
     record {
       rest = λ _. c.doubled-next.ensures.below;
-      multiple = (2 * h + bit, e,
+      multiple = (
+        2 * h + bit,
+        e,
         elim (cases_eq bit 1) [
-        | inl one ↦
-          c.step-total.ensures.odd (eq-eqb bit 1 one)
-          ∙ ap (λ k. sum p (p - 3) (double p (p - 3) k) q) inv.2
-          ∙ sym (multiple_odd p (p - 3) i h (2 * h + bit) q (ap (λ v. 2 * h + v) one))
-        | inr other ↦
-          c.step-total.ensures.even (ne_eqb bit 1 other)
-          ∙ ap (λ k. double p (p - 3) k) inv.2
-          ∙ sym (multiple_even p (p - 3) i h (2 * h + bit) q
-          (let zero : bit ≡ 0 = omega (arith, c.doubled-next.ensures.bit, other) in omega (arith, zero)))
-        ])
+          | inl one ↦
+              c.step-total.ensures.odd (eq-eqb bit 1 one)
+              ∙ ap (λ k. sum p (p - 3) (double p (p - 3) k) q) inv.2
+              ∙ sym (multiple_odd p (p - 3) i h (2 * h + bit) q (ap (λ v. 2 * h + v) one))
+          | inr other ↦
+              c.step-total.ensures.even (ne_eqb bit 1 other)
+              ∙ ap (λ k. double p (p - 3) k) inv.2
+              ∙ sym (multiple_even p (p - 3) i h (2 * h + bit) q
+              (let zero : bit ≡ 0 = omega (arith, c.doubled-next.ensures.bit, other) in
+              omega (arith, zero)))
+        ],
+      );
     }
 
 pub returns : goal.returns

@@ -17,7 +17,8 @@ returns-clause-found g c =
     let p = g.M.Modulus.prime in
     let t = c.self.inside in
     let i = inverse p t.z in
-    let n : t.z ≢ 0 = λ k. false≢true (c.if-is_equal.ensures.1 (k ∙ sym c.zero.ensures)) in
-    (mul p t.y (mul p i (mul p i i)),
-     rw (c.product-2.ensures, c.product.ensures, c.inverse-inverse.ensures)
-     (sym c.self.view_is ∙ view_is p t.x t.y t.z n))
+    let n : t.z ≢ 0 = λ k. false≢true (c.if-is_equal.ensures.1 (k ∙ sym c.zero.ensures)) in (
+      mul p t.y (mul p i (mul p i i)),
+      rw (c.product-2.ensures, c.product.ensures, c.inverse-inverse.ensures)
+          (sym c.self.view_is ∙ view_is p t.x t.y t.z n),
+    )
