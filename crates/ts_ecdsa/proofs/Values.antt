@@ -1,5 +1,5 @@
 -- What reading finds in the octets of a signature, and that it finds each signature.
-use Rattle.std.proofs.Common.{◌≡◌, ℕ, ◌+◌, ◌*◌, ◌-◌, ◌^◌, ◌<◌, cond, Bool, true, false, List, [], ◌∷◌, ◌++◌, length, fold, Result, Ok, Err, ℤ, pos, ◌-ℤ◌, refl, sym, ap, subst, ◌∙◌, length-append, arith}
+use Rattle.std.proofs.Common.{◌≡◌, ℕ, ◌+◌, ◌*◌, ◌^◌, ◌<◌, cond, Bool, true, false, List, [], ◌∷◌, ◌++◌, length, fold, Result, Ok, pos, ◌-ℤ◌, refl, sym, ap, subst, ◌∙◌, length-append, arith}
 use Rattle.std.proofs.lemmas.List.{append-nil}
 use Rattle.std.proofs.lemmas.Int.{ints}
 use Rattle.std.specs.Int.Digits.{number_from_digits_after}
@@ -68,8 +68,8 @@ integer-found here r after oct read =
       fits = subst (Fits 2) content (subst (λ t. Fits t x.0.content) found.1 found.0.fits);
       shortest = ap is_shortest (sym content) ∙ short.0;
       whole = found.0.whole ∙ ap (λ w. w ++ x.1.rest) (found.0.encoded
-      ∙ ap (λ t. encode t x.0.content) found.1 ∙ ap (encode 2) content)
-      ∙ ap (λ (p : Place). encode 2 r ++ p.rest) next;
+          ∙ ap (λ t. encode t x.0.content) found.1 ∙ ap (encode 2) content)
+          ∙ ap (λ (p : Place). encode 2 r ++ p.rest) next;
     }
 
 integer-only : (here : Place) (r more : List ℕ) → Fits 2 r → is_shortest r ≡ true
@@ -205,8 +205,12 @@ first_fits first second f =
     record {
       octet = omega arith;
       low = omega arith;
-      short = omega (arith, h, length-append (encode 2 first) (encode 2 second),
-        length-append (length_octets (length first)) first);
+      short = omega (
+        arith,
+        h,
+        length-append (encode 2 first) (encode 2 second),
+        length-append (length_octets (length first)) first,
+      );
     }
 
 second_fits : (first second : List ℕ) → Fits 0x30 (encode 2 first ++ encode 2 second)
@@ -216,8 +220,12 @@ second_fits first second f =
     record {
       octet = omega arith;
       low = omega arith;
-      short = omega (arith, h, length-append (encode 2 first) (encode 2 second),
-        length-append (length_octets (length second)) second);
+      short = omega (
+        arith,
+        h,
+        length-append (encode 2 first) (encode 2 second),
+        length-append (length_octets (length second)) second,
+      );
     }
 
 -- what reading finds in the octets of a signature
@@ -250,11 +258,13 @@ value_only octets r s oct v =
       encoded = v.encoded;
       first_shortest = v.r_is.shortest;
       second_shortest = v.s_is.shortest;
-    } in
-    ((a, b), record {
-      read = parts_only octets a b parts;
-      first_sign = first.0;
-      second_sign = second.0;
-      first_is = first.1;
-      second_is = second.1;
-    })
+    } in (
+      (a, b),
+      record {
+        read = parts_only octets a b parts;
+        first_sign = first.0;
+        second_sign = second.0;
+        first_is = first.1;
+        second_is = second.1;
+      },
+    )

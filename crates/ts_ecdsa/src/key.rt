@@ -20,5 +20,9 @@ pub fn point_from_octets<C: DomainParameters>(octets: &[u8]) -> Option<CurvePoin
     }
     let x = residue_from_octets(&octets[1..size + 1])?;
     let y = residue_from_octets(&octets[size + 1..2 * size + 1])?;
-    if is_on_curve::<C>(&x, &y) { Some(CurvePoint::new(&x, &y)) } else { None }
+    if is_on_curve::<C>(&x, &y) {
+        Some(CurvePoint::new(&x, &y))
+    } else {
+        None
+    }
 }

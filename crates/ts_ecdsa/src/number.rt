@@ -5,8 +5,9 @@ ghost use Rattle.ts_der.specs.Integer.{is_negative};
 ghost use Rattle.ts_curve.specs.Octets.{number_of};
 ghost use Rattle.ts_ecdsa.specs.Number.{IsNumberSignature};
 
-use ts_curve::{CurvePoint, DomainParameters, Modulus, Residue};
-use ts_curve::{base_point, residue_from_octets, scalar_of};
+use ts_curve::{
+    CurvePoint, DomainParameters, Modulus, Residue, base_point, residue_from_octets, scalar_of,
+};
 use ts_der::Integer;
 
 /// Whether `(r, s)` is a signature of `e` under the key `q` (FIPS 186-5 6.4.2).
@@ -43,5 +44,9 @@ pub fn residue_from_integer<M: Modulus>(integer: Integer<'_>) -> Option<Residue<
     ensures none { IfNone result (is_negative integer.entry.octets.now ≡ false
         → M.prime ≤ number_of integer.entry.octets.now) }
 {
-    if integer.is_negative() { None } else { residue_from_octets(integer.octets) }
+    if integer.is_negative() {
+        None
+    } else {
+        residue_from_octets(integer.octets)
+    }
 }

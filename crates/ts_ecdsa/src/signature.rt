@@ -27,7 +27,7 @@ fn is_integer_signature<C: DomainParameters>(
     ensures { IsTrue result ↔ ((is_negative r.entry.octets.now ≡ false)
         × (is_negative s.entry.octets.now ≡ false)
         × IsNumberSignature C.curve q.now e.now (number_of r.entry.octets.now)
-            (number_of s.entry.octets.now)) }
+        (number_of s.entry.octets.now)) }
 {
     match residue_from_integer(r) {
         None => false,
