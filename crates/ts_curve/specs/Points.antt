@@ -37,8 +37,8 @@ sum p a (Some t) (Some u) =
     then (if nat_eq t.1 u.1 then double p a (Some t) else None)
     else Some (third p (chord p t.0 t.1 u.0 u.1) t.0 t.1 u.0)
 
--- k times a point, for k below 2 ^ bits: the highest bit of k first, at each bit the double, and the
--- point added where the bit is 1
+-- k times a point, for k below 2 ^ bits: the highest bit of k first, at each bit the double, and
+-- the point added where the bit is 1
 unfoldable pub multiple : ℕ → ℕ → ℕ → ℕ → Point → Point
 multiple p a zero k q = None
 multiple p a (suc bits) k q =

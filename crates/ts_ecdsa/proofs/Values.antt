@@ -1,5 +1,5 @@
 -- What reading finds in the octets of a signature, and that it finds each signature.
-use Rattle.std.proofs.Common.{◌≡◌, ℕ, ◌+◌, ◌*◌, ◌-◌, ◌^◌, ◌<◌, cond, Bool, true, false, List, [], ◌∷◌, ◌++◌, length, fold, Result, Ok, Err, ℤ, pos, ◌-ℤ◌, refl, sym, ap, subst, ◌∙◌, length-append, arith}
+use Rattle.std.proofs.Common.{◌≡◌, ℕ, ◌+◌, ◌*◌, ◌^◌, ◌<◌, cond, Bool, true, false, List, [], ◌∷◌, ◌++◌, length, fold, Result, Ok, pos, ◌-ℤ◌, refl, sym, ap, subst, ◌∙◌, length-append, arith}
 use Rattle.std.proofs.lemmas.List.{append-nil}
 use Rattle.std.proofs.lemmas.Int.{ints}
 use Rattle.std.specs.Int.Digits.{number_from_digits_after}
@@ -25,7 +25,8 @@ pub record IsParts (octets r s : List ℕ) : Type 0 where
   pub first_shortest : is_shortest r ≡ true
   pub second_shortest : is_shortest s ≡ true
 
-ends : (rest : List ℕ) (at : ℕ) (u : Unit {0}) → end_at (record { rest = rest; at = at }) ≡ Ok u → rest ≡ []
+ends : (rest : List ℕ) (at : ℕ) (u : Unit {0}) → end_at (record { rest = rest; at = at }) ≡ Ok u
+    → rest ≡ []
 unfolding end_at
 ends [] at u h = refl
 ends (x ∷ xs) at u h = absurd cc
@@ -35,11 +36,13 @@ unfolding end_at
 ended [] at e = refl
 ended (x ∷ xs) at e = absurd cc
 
-shortest_to : (e : Tlv) (b : Bool) → is_shortest e.content ≡ b → (c : List ℕ) → value_at integer_rules (λ content. content) e ≡ Ok c → (b ≡ true) × (e.content ≡ c)
+shortest_to : (e : Tlv) (b : Bool) → is_shortest e.content ≡ b → (c : List ℕ)
+    → value_at integer_rules (λ content. content) e ≡ Ok c → (b ≡ true) × (e.content ≡ c)
 shortest_to e true h c k = (refl, ok_is {E = Fault} e.content c (rw h at k))
 shortest_to e false h c k = absurd (err_not_ok (rw h at k))
 
-shortest_from : (e : Tlv) → is_shortest e.content ≡ true → value_at integer_rules (λ content. content) e ≡ Ok e.content
+shortest_from : (e : Tlv) → is_shortest e.content ≡ true
+    → value_at integer_rules (λ content. content) e ≡ Ok e.content
 shortest_from e h = rw h refl
 
 pub record Found (here : Place) (r : List ℕ) (after : Place) : Type 0 where
@@ -47,12 +50,15 @@ pub record Found (here : Place) (r : List ℕ) (after : Place) : Type 0 where
   pub shortest : is_shortest r ≡ true
   pub whole : here.rest ≡ encode 2 r ++ after.rest
 
-integer-found : (here : Place) (r : List ℕ) (after : Place) → AreOctets here.rest → integer_at here ≡ Ok (r, after) → Found here r after
+integer-found : (here : Place) (r : List ℕ) (after : Place) → AreOctets here.rest
+    → integer_at here ≡ Ok (r, after) → Found here r after
 unfolding integer_at
 integer-found here r after oct read =
-    let b = bind_ok (element_at 2 here) (λ x. value_at integer_rules (λ content. content) x.0 >>= λ content. Ok (content, x.1)) (r, after) read in
+    let b = bind_ok (element_at 2 here) (λ x. value_at integer_rules
+    (λ content. content) x.0 >>= λ content. Ok (content, x.1)) (r, after) read in
     let x = b.0 in
-    let d = bind_ok (value_at integer_rules (λ content. content) x.0) (λ content. Ok (content, x.1)) (r, after) b.2 in
+    let d = bind_ok (value_at integer_rules (λ content. content) x.0) (λ content. Ok (content, x.1))
+    (r, after) b.2 in
     let same : (d.0, x.1) ≡ (r, after) = ok_is {E = Fault} (d.0, x.1) (r, after) d.2 in
     let found = element-found 2 here x.0 x.1 oct b.1 in
     let short = shortest_to x.0 (is_shortest x.0.content) refl d.0 d.1 in
@@ -61,10 +67,13 @@ integer-found here r after oct read =
     record {
       fits = subst (Fits 2) content (subst (λ t. Fits t x.0.content) found.1 found.0.fits);
       shortest = ap is_shortest (sym content) ∙ short.0;
-      whole = found.0.whole ∙ ap (λ w. w ++ x.1.rest) (found.0.encoded ∙ ap (λ t. encode t x.0.content) found.1 ∙ ap (encode 2) content) ∙ ap (λ (p : Place). encode 2 r ++ p.rest) next;
+      whole = found.0.whole ∙ ap (λ w. w ++ x.1.rest) (found.0.encoded
+          ∙ ap (λ t. encode t x.0.content) found.1 ∙ ap (encode 2) content)
+          ∙ ap (λ (p : Place). encode 2 r ++ p.rest) next;
     }
 
-integer-only : (here : Place) (r more : List ℕ) → Fits 2 r → is_shortest r ≡ true → here.rest ≡ encode 2 r ++ more
+integer-only : (here : Place) (r more : List ℕ) → Fits 2 r → is_shortest r ≡ true
+    → here.rest ≡ encode 2 r ++ more
     → integer_at here ≡ Ok (r, record { rest = more; at = here.at + length (encode 2 r) })
 unfolding integer_at
 integer-only here r more fits short e =
@@ -86,7 +95,8 @@ step₃ x = integer_at (record { rest = x.0; at = 0 }) >>= λ r. step₄ r
 abbrev step₂ : List ℕ × Place → Out
 step₂ x = end_at x.1 >>= λ _. step₃ x
 
-pub parts_found : (octets r s : List ℕ) → AreOctets octets → parts_of octets ≡ Ok (r, s) → IsParts octets r s
+pub parts_found : (octets r s : List ℕ) → AreOctets octets → parts_of octets ≡ Ok (r, s)
+    → IsParts octets r s
 unfolding parts_of
 parts_found octets r s oct read =
     let start : Place = record { rest = octets; at = 0 } in
@@ -95,7 +105,8 @@ parts_found octets r s oct read =
     let inner : Place = record { rest = a.0.0; at = 0 } in
     let c = bind_ok (integer_at inner) step₄ (r, s) b.2 in
     let d = bind_ok (integer_at c.0.1) (step₅ c.0) (r, s) c.2 in
-    let e = bind_ok (end_at d.0.1) (λ (u : Unit {0}). (let o : Out = Ok (c.0.0, d.0.0) in o)) (r, s) d.2 in
+    let e = bind_ok (end_at d.0.1) (λ (u : Unit {0}). (let o : Out = Ok (c.0.0, d.0.0) in
+    o)) (r, s) d.2 in
     let same : (c.0.0, d.0.0) ≡ (r, s) = ok_is {E = Fault} (c.0.0, d.0.0) (r, s) e.2 in
     let f = content-found 0x30 start a.0.0 a.0.1 oct a.1 in
     let t = f.0 in
@@ -106,10 +117,12 @@ parts_found octets r s oct read =
     ∙ ap (λ v. encode 0x30 a.0.0 ++ v) none ∙ append-nil (encode 0x30 a.0.0) in
     let octA : AreOctets a.0.0 = AreOctets-part 0x30 a.0.0 [] (subst AreOctets (whole ∙ sym (append-nil (encode 0x30 a.0.0))) oct) in
     let i = integer-found inner c.0.0 c.0.1 octA c.1 in
-    let octC : AreOctets c.0.1.rest = AreOctets-back (encode 2 c.0.0) c.0.1.rest (subst AreOctets i.whole octA) in
+    let octC : AreOctets c.0.1.rest = AreOctets-back (encode 2 c.0.0) c.0.1.rest
+    (subst AreOctets i.whole octA) in
     let j = integer-found c.0.1 d.0.0 d.0.1 octC d.1 in
     let both : a.0.0 ≡ encode 2 c.0.0 ++ encode 2 d.0.0 =
-    i.whole ∙ ap (λ v. encode 2 c.0.0 ++ v) (j.whole ∙ ap (λ v. encode 2 d.0.0 ++ v) last ∙ append-nil (encode 2 d.0.0)) in
+    i.whole ∙ ap (λ v. encode 2 c.0.0 ++ v) (j.whole ∙ ap (λ v. encode 2 d.0.0 ++ v) last
+    ∙ append-nil (encode 2 d.0.0)) in
     let value : IsParts octets c.0.0 d.0.0 = record {
       first_fits = i.fits;
       second_fits = j.fits;
@@ -130,10 +143,12 @@ parts_only octets r s v =
     let a = content-only start 0x30 content [] v.fits (v.encoded ∙ sym (append-nil (encode 0x30 content))) in
     let b = ended [] (0 + length (encode 0x30 content)) refl in
     let c = integer-only inner r (encode 2 s) v.first_fits v.first_shortest refl in
-    let d = integer-only next s [] v.second_fits v.second_shortest (sym (append-nil (encode 2 s))) in
+    let d = integer-only next s [] v.second_fits v.second_shortest (sym (append-nil
+    (encode 2 s))) in
     let e = ended [] (next.at + length (encode 2 s)) refl in
     ap (λ k. k >>= step₂) a ∙ ap (λ k. k >>= λ (u : Unit {0}). step₃ (content, record { rest = []; at = 0 + length (encode 0x30 content) })) b
-    ∙ ap (λ k. k >>= step₄) c ∙ ap (λ k. k >>= step₅ (r, next)) d ∙ ap (λ k. k >>= λ (u : Unit {0}). (let o : Out = Ok (r, s) in o)) e
+    ∙ ap (λ k. k >>= step₄) c ∙ ap (λ k. k >>= step₅ (r, next)) d
+    ∙ ap (λ k. k >>= λ (u : Unit {0}). (let o : Out = Ok (r, s) in o)) e
 
 -- ---- the numbers of the integers
 same-number-after : (n : ℕ) (octets : List ℕ)
@@ -166,7 +181,8 @@ integer-to content n fits e = by_sign (is_negative content) e
         → (b ≡ false) × (number_of content ≡ n)
     by_sign false e = (refl, sym (same-number content) ∙ cc)
     by_sign true e =
-        absurd (not_negative (number content) (256 ^ length content) n (number-bound content fits) e)
+        absurd (not_negative (number content) (256 ^ length content) n
+        (number-bound content fits) e)
 
 pub value_found : (octets a b : List ℕ) → AreOctets octets → parts_of octets ≡ Ok (a, b)
     → is_negative a ≡ false → is_negative b ≡ false

@@ -18,7 +18,8 @@ returns g c =
     let a : c.difference-a.result ≡ q.a =
     minus ∙ ap (λ k. k - 3) e ∙ sym g.met.C.DomainParameters.a_is in
     let b : c.from_limbs-b.result ≡ q.b =
-    c.from_limbs-b.ensures ∙ (rw (c.b.ensures, e) (mod-eq_of_lt g.met.C.DomainParameters.b_is_below)) in
+    c.from_limbs-b.ensures ∙ (rw (c.b.ensures, e)
+    (mod-eq_of_lt g.met.C.DomainParameters.b_is_below)) in
     let left : c.product-left.result ≡ mul q.prime c.args.y.now c.args.y.now =
     rw (c.product-left.ensures, c.copy-second.ensures.same, e) refl in
     let right : c.sum-right.result ≡ right_side q c.args.x.now =

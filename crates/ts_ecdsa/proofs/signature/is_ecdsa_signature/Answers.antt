@@ -1,8 +1,7 @@
-use Rattle.std.proofs.Common.{◌≡◌, IsTrue, ◌↔◌, sym, subst, arith}
+use Rattle.std.proofs.Common.{arith}
 use Rattle.ts_curve.specs.Curves.{curve_p256, curve_p384}
 use Rattle.ts_curve.proofs.Tests.{same_test}
 use Rattle.ts_der.specs.Octets.{AreOctets}
-use Rattle.ts_ecdsa.specs.Curve.{curve_of}
 use Rattle.ts_ecdsa.specs.Signature.{IsEcdsaSignature}
 use Rattle.ts_ecdsa.specs.Tests.{is_ecdsa_signature_of}
 use Rattle.ts_ecdsa.proofs.Exact.{signature_test}

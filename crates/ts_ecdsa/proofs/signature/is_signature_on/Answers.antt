@@ -1,7 +1,6 @@
-use Rattle.std.proofs.Common.{◌≡◌, ◌%◌, sym, ap, ◌∙◌, arith}
+use Rattle.std.proofs.Common.{arith}
 use Rattle.std.proofs.lemmas.Bool.{false≢true}
 use Rattle.ts_der.specs.Octets.{AreOctets}
-use Rattle.ts_ecdsa.specs.Signature.{hash_number}
 use Rattle.ts_ecdsa.proofs.Exact.{signature_by_parts, no_signature}
 use Rattle.ts_ecdsa.proofs.signature.is_signature_on.Goals as goal
 

@@ -42,7 +42,8 @@ loop-i-preserved g c =
               c.step-total.ensures.even (ne_eqb bit 1 other)
               ∙ ap (λ k. double p (p - 3) k) inv.2
               ∙ sym (multiple_even p (p - 3) i h (2 * h + bit) q
-              (let zero : bit ≡ 0 = omega (arith, c.doubled-next.ensures.bit, other) in omega (arith, zero)))
+              (let zero : bit ≡ 0 = omega (arith, c.doubled-next.ensures.bit, other) in
+              omega (arith, zero)))
         ],
       );
     }
