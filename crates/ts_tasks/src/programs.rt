@@ -9,14 +9,16 @@ use std::alloc::Global;
 use std::fs::File;
 use std::io::Print;
 use std::net::{Net, TcpListener, TcpStream};
-use std::rt::Files;
+use std::rt::{Clock, Files};
 use ts_answer::Answers;
 use ts_check::ChosenCheck;
 use ts_cli::ServeWords;
 use ts_disk::Disk;
 use ts_node::Node;
-use ts_serve::{Server, listen};
+use ts_loop::{Limits, LoopFault, serve_all};
+use ts_serve::Server;
 use ts_sig::TableCheck;
+use ts_wire::NodeFault;
 
 /// Makes the record of a node, and says so.
 ///
@@ -69,8 +71,43 @@ fn check_of<R: Files + Eprint>(rt: &R, alloc: Global, words: &ServeWords) -> Res
     Ok(ChosenCheck::NativeOrTable(TableCheck::read(alloc, &text)?))
 }
 
-/// Serves the node on two disks, whose signatures this check decides.
-fn serve_node<D: Disk + Drop, R: Net<Listener = TcpListener, Stream = TcpStream>>(
+/// How many connections stand for no end.
+const ENDLESS: u32 = 1_000_000;
+
+/// The limits that the words give.
+fn limits_of(words: &ServeWords) -> Limits {
+    let connections = match words.connections {
+        ENDLESS => u64::MAX,
+        connections => connections as u64,
+    };
+    Limits {
+        idle_ms: words.idle as u64 * 1000,
+        request_ms: words.request as u64 * 1000,
+        connections_at_once: words.at_once as usize,
+        connections,
+    }
+}
+
+/// Why a loop ended, as the program's fault; standard error says what the system did not give.
+fn fault_of_loop(rt: &impl Eprint, words: &ServeWords, fault: LoopFault) -> Fault {
+    match fault {
+        LoopFault::Listen => {
+            let address = words.listen.as_str();
+            let _ = eprintln!(rt; "trustd: {address}: can't be listened at; is it in use?");
+            Fault::Read
+        }
+        LoopFault::Poll => Fault::Read,
+        LoopFault::Clock => Fault::Clock,
+        LoopFault::Memory => Fault::Memory,
+        LoopFault::NodeFailed => Fault::Node(NodeFault::DiskFailed),
+    }
+}
+
+/// Serves the node on two disks, whose signatures this check decides, to many clients at once.
+fn serve_node<
+    D: Disk + Drop,
+    R: Net<Listener = TcpListener, Stream = TcpStream> + Clock + Eprint,
+>(
     rt: &R,
     alloc: Global,
     disks: (D, D),
@@ -85,11 +122,10 @@ fn serve_node<D: Disk + Drop, R: Net<Listener = TcpListener, Stream = TcpStream>
     let Ok(mut server) = Server::new(alloc, node) else {
         return Err(Fault::Memory);
     };
-    let Ok(listener) = TcpListener::bind(rt, words.listen.as_str()) else {
-        return Err(Fault::Read);
-    };
-    listen(&mut server, &listener, words.connections)?;
-    Ok(())
+    match serve_all(rt, alloc, &mut server, words.listen.as_str(), &limits_of(words)) {
+        Ok(_) => Ok(()),
+        Err(fault) => Err(fault_of_loop(rt, words, fault)),
+    }
 }
 
 /// Serves the node whose record lies in a file and the one beside it, as the words say. Signatures
@@ -99,9 +135,13 @@ fn serve_node<D: Disk + Drop, R: Net<Listener = TcpListener, Stream = TcpStream>
 /// # Errors
 ///
 /// `Busy` where another process serves the record; those of files, table, record and address, in
-/// this order.
+/// this order; `DiskFailed` where a device of the node failed meanwhile.
 pub fn serve_record<
-    R: AllocGlobal + Files<File = File> + Net<Listener = TcpListener, Stream = TcpStream> + Eprint,
+    R: AllocGlobal
+        + Files<File = File>
+        + Net<Listener = TcpListener, Stream = TcpStream>
+        + Clock
+        + Eprint,
 >(
     rt: &R,
     words: &ServeWords,

@@ -10,7 +10,7 @@ use crate::upkeep::{Upkeep, tend_server};
 use std::fs::File;
 use std::io::Print;
 use std::net::{Net, TcpListener, TcpStream};
-use std::rt::Files;
+use std::rt::{Clock, Files};
 use ts_cli::Task;
 
 /// Runs a task, but the lab and a verdict without a node, which end with statuses of their own.
@@ -22,6 +22,7 @@ pub fn run<
     R: AllocGlobal
         + Files<File = File>
         + Net<Listener = TcpListener, Stream = TcpStream>
+        + Clock
         + Print
         + Eprint,
 >(rt: &R, task: &Task) -> Result<(), Fault>
