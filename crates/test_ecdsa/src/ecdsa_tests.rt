@@ -12,9 +12,7 @@ fn answer(alloc: Global, sample: &Sample) -> Result<bool, Fail> {
     let key = hex::decode(alloc, sample.key)?;
     let message = hex::decode(alloc, sample.message)?;
     let signature = hex::decode(alloc, sample.signature)?;
-    Ok(is_ecdsa_signature(
-        sample.curve, sample.hash, &key, &message, &signature,
-    ))
+    Ok(is_ecdsa_signature(sample.curve, sample.hash, &key, &message, &signature))
 }
 
 #[test]
