@@ -4,7 +4,7 @@ use Rattle.std.proofs.Math.Nat.{zero-mod}
 use Rattle.std.proofs.lemmas.Bool.{ne_eqb, eq-eqb}
 use Rattle.std.proofs.lemmas.Bool.Decides.{eqb_tells}
 use Rattle.ts_ring.specs.Expression.{Expression, var, plus, minus, times, value, square, cube}
-use Rattle.ts_ring.specs.Modular.{add, sub, mul, inverse, IsField}
+use Rattle.ts_ring.specs.Modular.{sub, mul, inverse, IsField}
 use Rattle.ts_ring.proofs.Fields.{ring_eq, positive, quotient-times, product-nonzero, below, nonzero, cancel, difference-nonzero, mul-turned}
 use Rattle.ts_curve.specs.Points.{Point, third, sum, chord}
 use Rattle.ts_curve.specs.Jacobian.{Triple, jacobian, jacobian_double, chord_sum, jacobian_chord, jacobian_sum}

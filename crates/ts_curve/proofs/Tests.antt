@@ -1,5 +1,5 @@
 -- Tests say what the relations say.
-use Rattle.std.proofs.Common.{◌≡◌, ℕ, ◌<◌, Bool, true, false, ◌&&◌, ltb, eqb, IsTrue, ◌↔◌, refl, sym}
+use Rattle.std.proofs.Common.{◌≡◌, ℕ, Bool, true, false, ◌&&◌, ltb, eqb, IsTrue, ◌↔◌, refl, sym}
 use Rattle.std.proofs.lemmas.Bool.{eqb-true, eq-eqb, ltb-true, lt-ltb, false≢true}
 use Rattle.ts_ring.specs.Modular.{mul}
 use Rattle.ts_curve.specs.Curves.{Curve, right_side, IsOnCurve, is_on_curve}

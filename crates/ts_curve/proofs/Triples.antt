@@ -1,5 +1,5 @@
 -- Triples of Jacobian coordinates, and the points that they are.
-use Rattle.std.proofs.Common.{◌≡◌, ◌≢◌, ℕ, ◌<◌, Bool, false, eqb, [], ◌∷◌, Some, None, refl, sym, ap, ◌∙◌, arith}
+use Rattle.std.proofs.Common.{◌≡◌, ◌≢◌, ℕ, ◌<◌, false, eqb, [], ◌∷◌, Some, None, refl, sym, ap, ◌∙◌, arith}
 use Rattle.std.proofs.lemmas.Bool.{ne_eqb}
 use Rattle.ts_ring.specs.Expression.{var, times, square, cube}
 use Rattle.ts_ring.specs.Modular.{mul, inverse, IsField}

@@ -11,10 +11,13 @@ use crate::residue::Residue;
 
 /// A curve whose a is -3.
 pub trait DomainParameters {
+    /// The limbs of both primes.
     type Limbs: Limbs;
 
+    /// The prime of the field.
     type Prime: Modulus<Limbs = Self::Limbs>;
 
+    /// The order of the base point.
     type Order: Modulus<Limbs = Self::Limbs>;
 
     /// Its domain parameters.

@@ -1,4 +1,4 @@
-use Rattle.std.proofs.Common.{◌≡◌, refl}
+use Rattle.std.proofs.Common.{refl}
 use Rattle.ts_curve.specs.Jacobian.{chord_sum}
 use Rattle.ts_curve.proofs.jacobian.chord.Goals as goal
 

@@ -1,4 +1,4 @@
-use Rattle.std.proofs.Common.{◌≡◌, refl}
+use Rattle.std.proofs.Common.{refl}
 use Rattle.ts_curve.specs.Jacobian.{jacobian_double}
 use Rattle.ts_curve.proofs.jacobian.double.Goals as goal
 

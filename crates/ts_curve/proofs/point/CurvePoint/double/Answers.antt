@@ -1,4 +1,4 @@
-use Rattle.std.proofs.Common.{◌≡◌, ◌-◌, ap, ◌∙◌}
+use Rattle.std.proofs.Common.{◌-◌, ap, ◌∙◌}
 use Rattle.ts_curve.specs.Points.{double}
 use Rattle.ts_curve.specs.Jacobian.{jacobian}
 use Rattle.ts_curve.proofs.Double.{double_right}

@@ -1,4 +1,3 @@
-use Rattle.std.proofs.Common.{◌≡◌}
 use Rattle.ts_curve.proofs.Triples.{view_none}
 use Rattle.ts_curve.proofs.point.CurvePoint.infinity.Goals as goal
 

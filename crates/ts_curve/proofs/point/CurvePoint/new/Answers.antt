@@ -1,5 +1,3 @@
-use Rattle.std.proofs.Common.{◌≡◌, ◌<◌, sym, arith}
-use Rattle.ts_ring.proofs.Fields.{mul-one, mul-one-one}
 use Rattle.ts_curve.proofs.Triples.{view_affine}
 use Rattle.ts_curve.proofs.point.CurvePoint.new.Goals as goal
 

@@ -1,7 +1,6 @@
-use Rattle.std.proofs.Common.{◌≡◌, ◌≢◌, refl, sym, ap, ◌∙◌}
+use Rattle.std.proofs.Common.{◌≢◌, refl, sym, ◌∙◌}
 use Rattle.std.proofs.lemmas.Bool.{false≢true}
 use Rattle.ts_ring.specs.Modular.{mul, inverse}
-use Rattle.ts_curve.specs.Points.{Point}
 use Rattle.ts_curve.proofs.Triples.{view_none}
 use Rattle.ts_curve.proofs.Double.{view_is}
 use Rattle.ts_curve.proofs.point.CurvePoint.x.Goals as goal
