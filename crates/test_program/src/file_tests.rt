@@ -7,7 +7,7 @@ use std::test::Fail;
 use ts_record::Record;
 use ts_store::Command;
 use ts_synod::Fact;
-use ts_tasks::{Fault, format_files, migrate_files, open_disks, read_file};
+use ts_tasks::{Fault, RecordLock, format_files, migrate_files, open_disks, read_file};
 
 const FOLDER: &str = "ts_tasks_test";
 
@@ -77,5 +77,23 @@ fn a_record_of_version_1_is_migrated(rt: HostRuntime) -> Result<(), Fail> {
     let old = read_file(&rt, alloc, "ts_tasks_old/old")?;
     assert_eq!(rt; (kept, old.as_slice()), (Some((2, true)), OLD.as_slice()));
     fs::remove_dir_all(&rt, "ts_tasks_old")?;
+    Ok(())
+}
+
+#[test]
+fn one_process_has_a_record(rt: HostRuntime) -> Result<(), Fail> {
+    let alloc = rt.alloc();
+    let path = "ts_tasks_locked";
+    let other = "ts_tasks_locked.b";
+    format_files(&rt, alloc, path, 1, 1)?;
+    let held = RecordLock::of_record(&rt, alloc, path)?;
+    let second = RecordLock::of_record(&rt, alloc, path);
+    let made = format_files(&rt, alloc, path, 1, 1);
+    assert!(rt; matches!(second, Err(Fault::Busy)));
+    assert_eq!(rt; made, Err(Fault::Busy));
+    drop(held);
+    assert!(rt; RecordLock::of_record(&rt, alloc, path).is_ok());
+    fs::remove_file(&rt, path)?;
+    fs::remove_file(&rt, other)?;
     Ok(())
 }

@@ -14,3 +14,5 @@ mod file_tests;
 mod request_tests;
 #[cfg(test)]
 mod show_tests;
+#[cfg(test)]
+mod verify_tests;
