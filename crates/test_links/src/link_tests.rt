@@ -34,9 +34,11 @@ fn cut(alloc: Global, one: usize, two: usize) -> Result<bool, AllocError> {
     let mut table = Connections::new(alloc, 1)?;
     let mut service = Numbers::new(alloc);
     let _slot = table.open(0);
-    let (Some(first), Some(second), Some(third)) =
-        (THREE.get(..one), THREE.get(one..two), THREE.get(two..))
-    else {
+    let (Some(first), Some(second), Some(third)) = (
+        THREE.get(..one),
+        THREE.get(one..two),
+        THREE.get(two..),
+    ) else {
         return Ok(true);
     };
     feed(&mut table, &mut service, 0, first, 0);

@@ -39,9 +39,9 @@ more_lost said left waits lost octets next is none same = simp (is, none, same, 
 left_some : (said left waits lost octets next : List ℕ) → said ≡ left ++ (waits ++ lost) → waits ≡ octets ++ next → said ≡ (left ++ octets) ++ (next ++ lost)
 left_some said left waits lost octets next is front = simp (is, front, append_assoc)
 
-all_one : {P : Frame → Type 0} (requests : List Frame) (request : Frame) → AllByRecursion P requests → P request → AllByRecursion P (requests ++ request ∷ [])
-all_one [] request all one = (one, tt)
-all_one (r ∷ rs) request all one = (all.0, all_one rs request all.1 one)
+all_one : (P : Frame → Type 0) (requests : List Frame) (request : Frame) → AllByRecursion P requests → P request → AllByRecursion P (requests ++ request ∷ [])
+all_one P [] request all one = (one, tt)
+all_one P (r ∷ rs) request all one = (all.0, all_one P rs request all.1 one)
 
 -- the text that an account has answered so far
 abbrev said : Account → List ℕ
@@ -94,8 +94,8 @@ fair_took A a b request answers now h f =
       cut = [];
       lost = lost_of a b stages.Open (text answers) h.puts;
       asked = took_one A.came A.requests request a.held f.cut b.held f.asked none.0 h.held;
-      each = all_one A.requests request f.each h.fits;
-      asks = all_one A.requests request f.asks h.asks;
+      each = all_one Fits A.requests request f.each h.fits;
+      asks = all_one (λ f. is_request f ≡ true) A.requests request f.asks h.asks;
       stops = subst (λ (x : Option FrameFault). StopsIf x (b.held ++ [])) (sym no_fault) tt;
       answered = said_more A.answers answers A.fault no_fault ∙ put_text a b stages.Open (text answers) (said A) A.left f.lost h.puts f.answered none.1;
       goes_on = λ still. no_fault;

@@ -1,4 +1,4 @@
-pub mod Front
+pub mod Sizes
 pub mod Slots
 pub mod Fairness
 pub mod Splitting

@@ -1,5 +1,5 @@
 -- Moves after moves, on all connections.
-use Rattle.std.proofs.Common.{◌≡◌, ◌⊎◌, ◌∙◌, ℕ, Bool, true, false, List, [], ◌∷◌, ◌++◌, map, Option, Some, None, Result, Ok, Err, refl, sym, ap, subst, inl, inr}
+use Rattle.std.proofs.Common.{◌≡◌, ◌⊎◌, ◌∙◌, ℕ, Bool, true, false, List, [], ◌∷◌, ◌++◌, map, Option, Some, None, Result, Ok, Err, slice_get, slice_set, refl, sym, ap, subst, inl, inr}
 use Rattle.std.specs.List.{flat_map}
 use Rattle.std.specs.declared.alloc.AllocError.{AllocError}
 use Rattle.std.proofs.lemmas.Grind.{flat_map-append}
@@ -13,9 +13,10 @@ use Rattle.ts_links.specs.declared.link.Link.{Link}
 use Rattle.ts_links.specs.declared.link.Taken.{Taken}
 use Rattle.ts_links.specs.declared.link.Taken.TheVariants as takes
 use Rattle.ts_links.specs.Events.{Answered, Change, Changes, Event, Quiet, answers_given, event, requests_taken, taken, taken_in}
-use Rattle.ts_links.specs.Moves.{Closed, Move}
+use Rattle.ts_links.specs.Moves.{Closed, IsWaiting, Move}
 use Rattle.ts_links.specs.Table.{ArriveGives, LeaveGives, OpenGives}
-use Rattle.ts_links.specs.Turns.{Gives, Reached, Refused1, Took1}
+use Rattle.ts_links.specs.Turns.{Gives, Reached, Refused1, Took1, TurnGives}
+use Rattle.ts_links.proofs.Slots.{same_link, set_same}
 
 changes_join : (events more : List Event) (links between others : List Link) → Changes links events between → Changes between more others → Changes links (events ++ more) others
 changes_join [] more links between others a b = subst (λ (l : List Link). Changes l more others) a b
@@ -107,3 +108,15 @@ module _ {S : Type 0} (turn : S → Frame → List Frame → S → Type 0) where
   reached_gives s t a b slot now (Err e) (inl h) = reached_same s t a b h.0 h.1
   reached_gives s t a b slot now (Err e) (inr (inl h)) = reached_took s t a b slot now h
   reached_gives s t a b slot now (Err e) (inr (inr h)) = reached_refused s t a b slot now h
+
+  -- what a turn of a slot comes to, from what it does at its connection
+  pub gives_of : (links : List Link) (slot now : ℕ) (a b : Link) (s t : S) (r : Result Taken AllocError) → slice_get links slot ≡ Some a → TurnGives turn s a now r t b → Gives turn s links slot now r t (slice_set links slot b)
+  gives_of links slot now a b s t (Ok takes.Request) was h =
+      (record { request = h.0.request; answers = h.0.answers; turned = h.0.turned; change = record { before = a; after = b; was = was; is = refl; makes = h.0.moved } }, h.1)
+  gives_of links slot now a b s t (Ok takes.Fault) was h = (record { fault = h.0.fault; same = h.0.same; change = record { before = a; after = b; was = was; is = refl; makes = h.0.moved } }, h.1)
+  gives_of links slot now a b s t (Ok takes.Nothing) was h =
+      (h.0, ap (λ (l : Link). slice_set links slot l) h.1 ∙ set_same links slot a was, λ link is. subst IsWaiting (same_link links slot a link was is) h.2)
+  gives_of links slot now a b s t (Err e) was (inl h) = inl (h.0, ap (λ (l : Link). slice_set links slot l) h.1 ∙ set_same links slot a was)
+  gives_of links slot now a b s t (Err e) was (inr (inl h)) =
+      inr (inl (record { request = h.request; answers = h.answers; turned = h.turned; change = record { before = a; after = b; was = was; is = refl; makes = h.moved } }))
+  gives_of links slot now a b s t (Err e) was (inr (inr h)) = inr (inr (record { fault = h.fault; same = h.same; change = record { before = a; after = b; was = was; is = refl; makes = h.moved } }))

@@ -29,9 +29,9 @@ abbrev pub noted : Account → Move → Account
 noted account Opened = nothing
 noted account (Came piece) = record account { came = account.came ++ piece }
 noted account (Took request answers) = record account {
-    requests = account.requests ++ request ∷ [];
-    answers = account.answers ++ answers
-  }
+  requests = account.requests ++ request ∷ [];
+  answers = account.answers ++ answers;
+}
 noted account (Refused fault) = record account { fault = Some fault }
 noted account (Left octets) = record account { left = account.left ++ octets }
 noted account Closed = account

@@ -14,33 +14,36 @@ times_opened now = record { idle = now; asked = now; unread = now; gone = 0 }
 -- Octets came: the first of a frame begin its time. Those that follow give it no more.
 abbrev pub times_came : List ℕ → Times → ℕ → Times
 times_came held times now = record times {
-    asked = if nat_eq (length held) 0 then now else times.asked
-  }
+  asked = if nat_eq (length held) 0 then now else times.asked;
+}
 
 -- A request was taken: the time of the next begins, and that of its answer, if no other waits.
 abbrev pub times_took : List ℕ → Times → ℕ → Times
 times_took waits times now = record {
-    idle = times.idle;
-    asked = now;
-    unread = if nat_eq (length waits) 0 then now else times.unread;
-    gone = if nat_eq (length waits) 0 then 0 else times.gone
-  }
+  idle = times.idle;
+  asked = now;
+  unread = if nat_eq (length waits) 0 then now else times.unread;
+  gone = if nat_eq (length waits) 0 then 0 else times.gone;
+}
 
 -- A fault's answer is put: from now on it is time to read what waits.
 abbrev pub times_refused : Times → ℕ → Times
 times_refused times now = record {
-    idle = times.idle; asked = times.asked; unread = now; gone = 0
-  }
+  idle = times.idle;
+  asked = times.asked;
+  unread = now;
+  gone = 0;
+}
 
 -- Octets left: those that wait get more time after each 65,536, and so does a frame that was held
 -- back by them.
 abbrev pub times_left : List ℕ → ℕ → Times → ℕ → Times
 times_left waits count times now = record {
-    idle = now;
-    asked = if nat_le 65536 (length waits) then now else times.asked;
-    unread = if nat_le 65536 (times.gone + count) then now else times.unread;
-    gone = if nat_le 65536 (times.gone + count) then 0 else times.gone + count
-  }
+  idle = now;
+  asked = if nat_le 65536 (length waits) then now else times.asked;
+  unread = if nat_le 65536 (times.gone + count) then now else times.unread;
+  gone = if nat_le 65536 (times.gone + count) then 0 else times.gone + count;
+}
 
 -- the length that four octets announce, and 0 where they are not there
 abbrev pub announced : List ℕ → ℕ

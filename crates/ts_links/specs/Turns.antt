@@ -15,15 +15,15 @@ use Rattle.ts_links.specs.Events.{Event, event, Change, Changes, requests_taken,
 -- a request of so many octets was let go, and octets were put
 abbrev pub KeepGives : Link → ℕ → List ℕ → ℕ → Result Taken AllocError → Link → Type 0
 KeepGives a size octets now (Ok what) b = (what ≡ takes.Request) × (b ≡ record a {
-    held = drop size a.held;
-    waits = a.waits ++ octets;
-    times = times_took a.waits a.times now
-  })
+  held = drop size a.held;
+  waits = a.waits ++ octets;
+  times = times_took a.waits a.times now;
+})
 KeepGives a size octets now (Err refused) b = b ≡ record a {
-    held = drop size a.held;
-    times = times_took a.waits a.times now;
-    stage = stages.Closed
-  }
+  held = drop size a.held;
+  times = times_took a.waits a.times now;
+  stage = stages.Closed;
+}
 
 -- a fault was answered; or nothing was done, or its answer is lost
 abbrev pub RefuseGives : Link → FrameFault → ℕ → Result Taken AllocError → Link → Type 0

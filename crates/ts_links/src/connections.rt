@@ -6,7 +6,7 @@ ghost use Rattle.ts_links.specs.Moves.{Closed, IsUnused};
 ghost use Rattle.ts_links.specs.Table.{ArriveGives, FirstClosed, LeaveGives, OpenGives};
 ghost use Rattle.ts_links.specs.Turns.{Gives};
 
-use crate::link::{Link, Stage, Taken};
+use crate::link::{Link, Taken};
 use crate::service::Service;
 use std::alloc::{AllocError, Global};
 
@@ -74,7 +74,7 @@ impl Connections {
             return Err(ArriveFault::NotOpen);
         }
         let link = &mut self.links[slot];
-        if link.stage != Stage::Open {
+        if !link.is_open() {
             return Err(ArriveFault::NotOpen);
         }
         if !link.has_room() {
@@ -145,7 +145,7 @@ fn first_closed(links: &[Link]) -> Option<usize>
     ensures { FirstClosed links.now (length links.now) result }
 {
     for slot in 0..links.len() {
-        if links[slot].stage == Stage::Closed {
+        if links[slot].is_closed() {
             return Some(slot);
         }
     }

@@ -2,6 +2,7 @@
 
 ghost use Rattle.std.specs.Prelude.{◌≡◌, ◌≤◌, ◌++◌, true, false, length, take, OnOk, OnErr};
 ghost use Rattle.ts_links.specs.Moves.{HasCome, HasLeft, HasRoom, IsClosed, IsOpened, IsUnused};
+ghost use Rattle.ts_links.specs.Moves.{is_open};
 
 use crate::front::size_of;
 use crate::times::Times;
@@ -78,6 +79,25 @@ impl Link {
         self.held.clear();
         self.waits.clear();
         self.stage = Stage::Closed;
+    }
+
+    /// Whether it is open, and no fault was answered.
+    pub(crate) fn is_open(&self) -> bool
+        ensures open { result ≡ true → self.now.stage ≡ Stage.Open }
+        ensures other { result ≡ false → self.now.stage ≡ Stage.Open → ⊥ }
+    {
+        self.stage == Stage::Open
+    }
+
+    /// Whether there is no connection.
+    pub(crate) fn is_closed(&self) -> bool
+        ensures closed { result ≡ true → self.now.stage ≡ Stage.Closed }
+        ensures open { result ≡ false → is_open self.now.stage ≡ true }
+    {
+        match self.stage {
+            Stage::Closed => true,
+            Stage::Open | Stage::Refused => false,
+        }
     }
 
     /// Whether more may be read.

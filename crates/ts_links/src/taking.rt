@@ -20,8 +20,9 @@ impl Link {
     fn pass(&mut self, size: usize, now: u64)
         requires { size ≤ length self.old.held }
         ensures { self.new ≡ record self.old {
-            held = drop size self.old.held;
-            times = times_took self.old.waits self.old.times now } }
+          held = drop size self.old.held;
+          times = times_took self.old.waits self.old.times now;
+        } }
     {
         self.times = self.times.took(self.waits.octets(), now);
         self.held.skip(size);

@@ -114,7 +114,11 @@ impl Times {
     pub(crate) fn left(self, waits: &[u8], count: usize, now: u64) -> Times
         ensures { result ≡ times_left waits.now count self now }
     {
-        let asked = if waits.len() >= 65_536 { now } else { self.asked };
+        let asked = if waits.len() >= 65_536 {
+            now
+        } else {
+            self.asked
+        };
         if STEP.saturating_sub(self.gone) <= count as u64 {
             return Times {
                 idle: now,

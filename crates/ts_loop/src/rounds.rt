@@ -5,8 +5,7 @@ ghost use Rattle.ts_links.specs.Calls.{HasReached, IsQuiet};
 use crate::counts::{Counts, Why};
 use crate::door::{Door, PIECE, write_once};
 use crate::pumping::{Pumped, pump};
-use mio::Events;
-use mio::Token;
+use mio::{Events, Token};
 use ts_links::reaching::close;
 use ts_links::{Connections, Deadlines, Service};
 
@@ -69,7 +68,11 @@ fn settle(
         }
         return false;
     }
-    let why = if pumped == Pumped::Ended { Why::Ended } else { Why::Failed };
+    let why = if pumped == Pumped::Ended {
+        Why::Ended
+    } else {
+        Why::Failed
+    };
     close_slot(table, place, slot, why, counts);
     false
 }

@@ -190,13 +190,57 @@ impl Edge {
     ) -> Result<(), LoopFault>
         ensures { IsQuiet table.old table.new }
     {
+        let mut more = true;
         for _round in 0..u64::MAX {
-            let (_, now) = self.wait(rt, ROUND)?;
-            if !write_all(table, &mut self.doors, now, &mut self.counts) || now >= until {
+            if !more {
                 return Ok(());
             }
+            let (_, now) = self.wait(rt, ROUND)?;
+            let left = write_all(table, &mut self.doors, now, &mut self.counts);
+            more = left && now < until;
         }
         Ok(())
+    }
+
+    /// How the loop ends after a round, if it does: once a device has failed, after what waits was
+    /// written; and once so many connections are over.
+    fn end_after<R: Clock>(
+        &mut self,
+        rt: &R,
+        table: &mut Connections,
+        failed: bool,
+        now: u64,
+        limits: &Limits,
+    ) -> Option<Result<(), LoopFault>>
+        ensures { IsQuiet table.old table.new }
+    {
+        if failed {
+            let _written = self.write_rest(rt, table, now.saturating_add(limits.request_ms));
+            return Some(Err(LoopFault::NodeFailed));
+        }
+        if self.counts.over() >= limits.connections {
+            return Some(Ok(()));
+        }
+        None
+    }
+
+    /// One round, and how the loop ends after it, if it does.
+    fn step<S: Service, R: Clock>(
+        &mut self,
+        rt: &R,
+        table: &mut Connections,
+        service: &mut S,
+        buffer: &mut [u8; PIECE],
+        limits: &Limits,
+    ) -> Option<Result<(), LoopFault>>
+        requires { S.is_ready service.old }
+        ensures reached { HasReached S.turn service.old table.old service.new table.new }
+        ensures ready { S.is_ready service.new }
+    {
+        match self.round(rt, table, service, buffer, limits) {
+            Ok(now) => self.end_after(rt, table, service.has_failed(), now, limits),
+            Err(fault) => Some(Err(fault)),
+        }
     }
 
     /// Rounds, until so many connections are over or the service has failed.
@@ -212,15 +256,12 @@ impl Edge {
         ensures ready { S.is_ready service.new }
     {
         let mut buffer = [0u8; PIECE];
+        let mut end: Option<Result<(), LoopFault>> = None;
         for _round in 0..u64::MAX {
-            let now = self.round(rt, table, service, &mut buffer, limits)?;
-            if service.has_failed() {
-                self.write_rest(rt, table, now.saturating_add(limits.request_ms))?;
-                return Err(LoopFault::NodeFailed);
+            if let Some(result) = end {
+                return result;
             }
-            if self.counts.over() >= limits.connections {
-                return Ok(());
-            }
+            end = self.step(rt, table, service, &mut buffer, limits);
         }
         Ok(())
     }

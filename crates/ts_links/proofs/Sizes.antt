@@ -1,5 +1,5 @@
 -- The frame at the front of octets that are as many as their length says.
-use Rattle.std.proofs.Common.{◌≡◌, ◌∙◌, refl, sym, ap, subst, ℕ, suc, ◌+◌, ◌<◌, ◌≤◌, ◌^◌, List, [], ◌∷◌, ◌++◌, length, take, drop, inl, inr, arith, length-append, take-append-drop}
+use Rattle.std.proofs.Common.{◌≡◌, ◌∙◌, refl, sym, ap, subst, ℕ, suc, ◌+◌, ◌<◌, ◌≤◌, ◌^◌, ◌⊎◌, List, [], ◌∷◌, ◌++◌, length, take, drop, inl, inr, arith, length-append, take-append-drop}
 use Rattle.std.proofs.lemmas.List.{append-nil, length-take-le}
 use Rattle.std.proofs.lemmas.Nat.{from_be_bytes-to_be_bytes_4}
 use Rattle.std.specs.Int.{to_be_bytes, from_be_bytes, w32}
@@ -69,7 +69,7 @@ pub frame_first : (octets rest : List ℕ) (n : ℕ) (frame : Frame) → Sized o
 frame_first octets rest n frame s fits is =
     let w = sized_whole octets n s in
     let m : n ≡ 2 + length (fields frame) = same_length (take (4 + n) octets) (drop 4 (take (4 + n) octets)) ((2 ∷ kind_of frame ∷ fields frame) ++ rest) n (2 + length (fields frame))
-        (omega (arith, s.length_is.1)) (omega (arith, fits.short)) w.is is in
+    (omega (arith, s.length_is.1)) (omega (arith, fits.short)) w.is is in
     let long : length (take (4 + n) octets) ≡ 4 + n = length-take-le (4 + n) octets s.enough in
     let all : length (take (4 + n) octets) ≡ 4 + length ((2 ∷ kind_of frame ∷ fields frame) ++ rest) = length_is (take (4 + n) octets) ((2 ∷ kind_of frame ∷ fields frame) ++ rest) (2 + length (fields frame)) is in
     let none : rest ≡ [] = none_left rest (omega (arith, m, long, all, length-append (fields frame) rest)) in

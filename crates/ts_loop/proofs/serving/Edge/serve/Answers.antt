@@ -1,0 +1,9 @@
+-- The rounds so far, and one more.
+use Rattle.ts_links.proofs.Reached.{reached_then}
+use Rattle.ts_loop.proofs.serving.Edge.serve.Goals as goal
+
+pub loop-round-preserved : goal.loop-round-preserved
+loop-round-preserved g c = record {
+  reached = reached_then g.S.Service.turn _ _ _ _ _ _ c.loop-round.invariant.reached c.step-end.ensures.reached;
+  ready = c.step-end.ensures.ready;
+}
