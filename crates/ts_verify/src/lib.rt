@@ -5,10 +5,7 @@ mod judging;
 mod leaf;
 mod line;
 mod report;
-mod text;
-mod verify;
-mod words;
+mod verifying;
 
 pub use report::{Finding, Report};
-pub use text::text;
-pub use verify::verify;
+pub use verifying::verify;

@@ -44,7 +44,7 @@ fn with_above<'a>(
     above: Cert<'a>,
     chain: &[Cert<'a>],
 ) -> Result<Vec<Cert<'a>>, AllocError>
-    ensures { IfOk result (λ longer. longer.items ≡ above ∷ chain.now) }
+    ensures { IfOk result (λ longer. longer.items ≡ above.entry ∷ chain.now) }
 {
     let mut longer = Vec::new(alloc);
     longer.push(above)?;
