@@ -80,8 +80,7 @@ pub(crate) fn judge<'a, S: SignatureCheck>(
             chain: certificates_at(alloc, certificates, &chain)?,
             verdict: Verdict::Valid(policies),
         }),
-        Answer::NoPath | Answer::SearchLimit => {
-            explain(alloc, certificates, anchors, inputs, crls, check)
-        }
+        Answer::NoPath => explain(alloc, certificates, anchors, inputs, crls, check),
+        Answer::SearchLimit => explain(alloc, certificates, anchors, inputs, crls, check),
     }
 }
