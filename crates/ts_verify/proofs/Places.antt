@@ -1,5 +1,6 @@
 -- Places in lists.
 use Rattle.std.proofs.Common.{◌≡◌, ℕ, zero, suc, ◌+◌, ◌-◌, ◌<◌, ◌≤◌, List, [], ◌∷◌, ◌++◌, map, length, get_or, take, drop, Option, Some, None, slice_get, refl, sym, ap, ◌∙◌, arith, add-one}
+use Rattle.std.proofs.lemmas.List.{take_all}
 use Rattle.std.specs.Prelude.{IfSome, unwrap_or}
 
 pub length_map : {X Y : Type 0} (f : X → Y) (xs : List X) → length (map f xs) ≡ length xs
@@ -36,3 +37,11 @@ at_middle (z ∷ xs) ys x = at_middle xs ys x
 pub or_first : (o : Option ℕ) (n : ℕ) → 1 ≤ n → IfSome o (λ place. place < n) → unwrap_or o 0 < n
 or_first None n some within = omega arith
 or_first (Some place) n some within = within
+
+-- a list is its first and what is behind it
+pub front_is : {A : Type 0} (xs : List A) (x : A) → 1 ≤ length xs → x ≡ get_or xs 0 x → x ∷ take (length xs - 1) (drop 1 xs) ≡ xs
+front_is [] x some is = absurd (omega (arith, some))
+front_is (y ∷ ys) x some is =
+    let n : length (y ∷ ys) - 1 ≡ length ys = omega arith in
+    let e = ap (λ k. take k ys) n ∙ take_all (length ys) ys (omega arith) in
+    λ i. is i ∷ e i
