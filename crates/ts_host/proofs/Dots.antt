@@ -1,7 +1,7 @@
 -- The first dot of a name.
-use Rattle.std.proofs.Common.{◌≡◌, ℕ, zero, suc, ◌+◌, ◌-◌, ◌<◌, ◌≤◌, Bool, true, false, not, cond, nat_lt, List, [], ◌∷◌, ◌++◌, length, get_or, take, drop, refl, ap, arith, sym, ◌∙◌, length-drop, add-one}
-use Rattle.std.specs.Prelude.{Some, None, ◌==◌, ◌&&◌}
-use Rattle.std.specs.List.{position, position_or_len, prefix_len, list_all}
+use Rattle.std.proofs.Common.{◌≡◌, ℕ, zero, suc, ◌+◌, ◌-◌, ◌<◌, ◌≤◌, true, false, not, cond, nat_lt, List, [], ◌∷◌, ◌++◌, length, get_or, take, drop, refl, ap, arith, sym, ◌∙◌, length-drop, add-one}
+use Rattle.std.specs.Prelude.{Some, None, ◌&&◌}
+use Rattle.std.specs.List.{position, position_or_len, prefix_len}
 use Rattle.std.proofs.lemmas.List.{take_all}
 use Rattle.std.proofs.lemmas.Bool.Decides.{nat_tests}
 use Rattle.std.proofs.lemmas.List.Quantifiers.{position-Some}
@@ -19,8 +19,8 @@ dotless_whole [] few = refl
 dotless_whole (x ∷ xs) few =
     (elim (not (is_dot x)) as (λ b. suc (length xs) ≤ cond b (1 + prefix_len (λ y. not (is_dot y)) xs) 0
     → b && is_dotless xs ≡ true) [
-      true ↦ λ h. dotless_whole xs (omega arith)
-    | false ↦ λ h. absurd (omega arith)
+      | true ↦ λ h. dotless_whole xs (omega arith)
+      | false ↦ λ h. absurd (omega arith)
     ]) few
 
 pub no_dot : (xs : List ℕ) → position is_dot xs ≡ None → is_dotless xs ≡ true
@@ -51,7 +51,7 @@ pub first_dot : (xs : List ℕ) (i : ℕ) → position is_dot xs ≡ Some i
 first_dot xs i found =
     let h = position-Some is_dot xs i 0 found in
     let whole : take (length xs - (i + 1)) (drop (i + 1) xs) ≡ drop (i + 1) xs =
-      take_all (length xs - (i + 1)) (drop (i + 1) xs) (omega (arith, length-drop (i + 1) xs)) in
+    take_all (length xs - (i + 1)) (drop (i + 1) xs) (omega (arith, length-drop (i + 1) xs)) in
     let after : drop (suc i) xs ≡ take (length xs - (i + 1)) (drop (i + 1) xs) =
-      ap (λ (n : ℕ). drop n xs) (sym (add-one i)) ∙ sym whole in
+    ap (λ (n : ℕ). drop n xs) (sym (add-one i)) ∙ sym whole in
     (parted xs i h.0 h.1 ∙ ap (λ (ys : List ℕ). take i xs ++ dot ∷ ys) after, dotless_front xs i h.0 h.2)

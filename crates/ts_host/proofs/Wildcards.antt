@@ -1,5 +1,5 @@
 -- What a wildcard stands for.
-use Rattle.std.proofs.Common.{◌≡◌, ℕ, ◌≤◌, Bool, true, false, not, List, [], ◌∷◌, ◌++◌, length, refl, ap, arith, sym, ◌∙◌, subst}
+use Rattle.std.proofs.Common.{◌≡◌, ℕ, ◌≤◌, true, false, not, List, [], ◌∷◌, ◌++◌, length, refl, ap, arith, sym, ◌∙◌, subst}
 use Rattle.std.specs.Prelude.{◌==◌, ◌&&◌}
 use Rattle.std.proofs.lemmas.Bool.{false≢true, eqb-true}
 use Rattle.ts_name.specs.Holds.{dot, lower}
@@ -12,8 +12,8 @@ no_label c b is less = false≢true (subst (λ (n : ℕ). is_dotless (n ∷ b) �
 dotless_tail : (c : ℕ) (b : List ℕ) → is_dotless (c ∷ b) ≡ true → is_dotless b ≡ true
 dotless_tail c b less =
     (elim (not (c == dot)) as (λ t. t && is_dotless b ≡ true → is_dotless b ≡ true) [
-      true ↦ λ h. h
-    | false ↦ λ h. absurd (false≢true h)
+      | true ↦ λ h. h
+      | false ↦ λ h. absurd (false≢true h)
     ]) less
 
 -- a name has one first label
@@ -47,7 +47,7 @@ pub asks : (pattern host rest label others : List ℕ) → pattern ≡ 42 ∷ do
     → (1 ≤ length label) × (lower others ≡ lower rest)
 asks pattern host rest label others cut parted less under =
     let both = unique label others under.label under.others less under.one_label.1
-      (sym parted ∙ under.host_is) in
+    (sym parted ∙ under.host_is) in
     let cuts : 42 ∷ dot ∷ rest ≡ 42 ∷ dot ∷ under.rest = sym cut ∙ under.pattern_is in
     let rests : rest ≡ under.rest = cc in (
       subst (λ (l : List ℕ). 1 ≤ length l) (sym both.0) under.one_label.0,

@@ -7,9 +7,8 @@ use Rattle.std.specs.Net.Addr.{ipv4_octets, ipv6_octets}
 use Rattle.std.specs.Net.Grammar.{IsIpText}
 use Rattle.std.specs.declared.net.ip_addr.IpAddr.{IpAddr}
 use Rattle.std.specs.declared.net.ip_addr.IpAddr.TheVariants.{V4, V6}
-use Rattle.ts_name.specs.General.{GeneralName, otherName, rfc822Name, dNSName, x400Address}
-use Rattle.ts_name.specs.General.{directoryName, ediPartyName, uniformResourceIdentifier, iPAddress}
-use Rattle.ts_name.specs.General.{registeredID}
+use Rattle.ts_name.specs.General.{GeneralName, dNSName}
+use Rattle.ts_name.specs.General.{iPAddress}
 use Rattle.ts_name.specs.Holds.{dot}
 use Rattle.ts_host.specs.declared.host.Host.{Host}
 use Rattle.ts_host.specs.declared.host.Host.TheVariants.{Name, Address}

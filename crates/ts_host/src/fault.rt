@@ -1,7 +1,6 @@
 //! Why a text is no host.
 
-use std::error;
-use std::fmt;
+use std::{error, fmt};
 
 /// The first rule of host names that a text breaks, which is no address either (RFC 1123 2.1, RFC
 /// 1035 2.3.4).

@@ -55,14 +55,16 @@ fn is_numeric_octet(octet: u8) -> bool
 fn has_empty_label(name: &[u8]) -> bool
     ensures { result ≡ list_any (λ label. length label == 0) (labels name.now) }
 {
-    name.split(|octet| is_dot(*octet)).any(|label| label.is_empty())
+    name.split(|octet| is_dot(*octet))
+        .any(|label| label.is_empty())
 }
 
 /// Whether a label has more than 63 octets.
 fn has_long_label(name: &[u8]) -> bool
     ensures { result ≡ list_any (λ label. nat_lt 63 (length label)) (labels name.now) }
 {
-    name.split(|octet| is_dot(*octet)).any(|label| label.len() > 63)
+    name.split(|octet| is_dot(*octet))
+        .any(|label| label.len() > 63)
 }
 
 fn has_name_octets(name: &[u8]) -> bool

@@ -1,3 +1,4 @@
 pub mod Pem
 pub mod Lines
 pub mod Files
+pub mod Blocks

@@ -1,9 +1,11 @@
 //! The blocks of a text, line by line.
 
-ghost use Rattle.std.specs.Prelude.{◌≡◌, Ok, Err, IfOk, IfErr, map, option_map};
+ghost use Rattle.std.specs.Prelude.{◌≡◌, List, IfOk, MatchResult, map, option_map};
+ghost use Rattle.ts_pem.specs.declared.fault.PemFault.TheVariants.{OutOfMemory};
+ghost use Rattle.ts_pem.specs.Blocks.{AreBlocks};
 ghost use Rattle.ts_pem.specs.Files.{Gives, block_in};
 ghost use Rattle.ts_pem.specs.Pem.{at_end, at_start, blocks_of, decoded, ended, inside, outside};
-ghost use Rattle.ts_pem.specs.Pem.{step};
+ghost use Rattle.ts_pem.specs.Pem.{PemBlock, lines, step};
 
 use crate::block::{Block, Label};
 use crate::fault::PemFault;
@@ -203,7 +205,9 @@ fn read_lines(alloc: Global, text: &[u8]) -> Result<Vec<Block>, PemFault>
 ///
 /// The first fault with the number of its line; or that memory was refused.
 pub fn read_blocks(alloc: Global, text: &[u8]) -> Result<Vec<Block>, PemFault>
-    ensures found { IfOk result (λ v. blocks_of text.now ≡ Ok (map block_in v.items)) }
+    ensures found { IfOk result (λ v. AreBlocks (lines text.now) (map block_in v.items)) }
+    ensures only { (blocks : List PemBlock) → AreBlocks (lines text.now) blocks
+        → MatchResult result (λ v. map block_in v.items ≡ blocks) (λ fault. fault ≡ OutOfMemory) }
     ensures exact { Gives (λ v. map block_in v.items) result (blocks_of text.now) }
 {
     let blocks = read_lines(alloc, text);

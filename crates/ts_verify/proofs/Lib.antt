@@ -1,1 +1,4 @@
-
+pub mod Places
+pub mod Leaves
+pub mod Named
+pub mod Judgements

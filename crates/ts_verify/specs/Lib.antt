@@ -3,4 +3,3 @@ pub mod Lines
 pub mod Judged
 pub mod Judging
 pub mod Report
-pub mod Text

@@ -2,6 +2,7 @@
 
 ghost use Rattle.std.specs.Prelude.{◌≤◌, length, map, IfOk};
 ghost use Rattle.ts_cert.specs.CertView.{cert_in};
+ghost use Rattle.ts_search.specs.Search.{IsAnswer};
 ghost use Rattle.ts_search.specs.View.{search_among};
 ghost use Rattle.ts_verify.specs.Judged.{IsJudged};
 ghost use Rattle.ts_verify.specs.Judging.{IsExplained};
@@ -50,6 +51,27 @@ fn explain<'a, S: SignatureCheck>(
     })
 }
 
+/// What the search finds among certificates of which the leaf is the first.
+fn found_among<'a, S: SignatureCheck>(
+    alloc: Global,
+    certificates: &[Cert<'a>],
+    anchors: &[Anchor<'a>],
+    inputs: &Inputs<'a>,
+    crls: &Crls<'_>,
+    check: &S,
+) -> Result<Answer<'a>, AllocError>
+    requires some { 1 ≤ length certificates.now }
+    requires few { length certificates.now ≤ 33 }
+    ensures { IfOk result (IsAnswer
+        (search_among certificates.now anchors.now inputs.now crls.now (S.accepts check.now))) }
+{
+    let [leaf, pool @ ..] = certificates else {
+        unreachable!()
+    };
+    let answer = search(alloc, leaf, pool, anchors, inputs, crls, check)?;
+    Ok(answer)
+}
+
 /// The verdict on certificates of which the leaf is the first: on the chain that the search finds,
 /// and where it finds none, on the chain by names.
 pub(crate) fn judge<'a, S: SignatureCheck>(
@@ -67,21 +89,21 @@ pub(crate) fn judge<'a, S: SignatureCheck>(
         (search_among certificates.now anchors.now inputs.now crls.now (S.accepts check.now))
         j.place (map cert_in j.chain.items) j.verdict) }
 {
-    let [leaf, pool @ ..] = certificates else {
-        unreachable!()
-    };
-    match search(alloc, leaf, pool, anchors, inputs, crls, check)? {
+    let answer = found_among(alloc, certificates, anchors, inputs, crls, check)?;
+    match answer {
         Answer::Found {
             anchor,
             chain,
             policies,
-        } => Ok(Judged {
-            place: anchor,
-            chain: certificates_at(alloc, certificates, &chain)?,
-            verdict: Verdict::Valid(policies),
-        }),
-        Answer::NoPath | Answer::SearchLimit => {
-            explain(alloc, certificates, anchors, inputs, crls, check)
+        } => {
+            let found = certificates_at(alloc, certificates, &chain)?;
+            Ok(Judged {
+                place: anchor,
+                chain: found,
+                verdict: Verdict::Valid(policies),
+            })
         }
+        Answer::NoPath => explain(alloc, certificates, anchors, inputs, crls, check),
+        Answer::SearchLimit => explain(alloc, certificates, anchors, inputs, crls, check),
     }
 }

@@ -44,7 +44,7 @@ fn with_above<'a>(
     above: Cert<'a>,
     chain: &[Cert<'a>],
 ) -> Result<Vec<Cert<'a>>, AllocError>
-    ensures { IfOk result (λ longer. longer.items ≡ above ∷ chain.now) }
+    ensures { IfOk result (λ longer. longer.items ≡ above.entry ∷ chain.now) }
 {
     let mut longer = Vec::new(alloc);
     longer.push(above)?;
@@ -69,7 +69,7 @@ pub(crate) fn line_of<'a>(
     let mut used = Vec::new(alloc);
     used.push(0)?;
     let mut chain = with_above(alloc, top, &[])?;
-    for _length in 1..MAX_CHAIN {
+    while chain.len() < MAX_CHAIN {
         if anchor_above(anchors, &top).is_some() {
             return Ok(chain);
         }
@@ -77,7 +77,8 @@ pub(crate) fn line_of<'a>(
             return Ok(chain);
         };
         used.push(place)?;
-        chain = with_above(alloc, above, &chain)?;
+        let longer = with_above(alloc, above, &chain)?;
+        chain = longer;
         top = above;
     }
     Ok(chain)

@@ -1,6 +1,6 @@
 -- The labels are the parts between dots.
-use Rattle.std.proofs.Common.{rules, ◌≡◌, ℕ, List, length}
-use Rattle.std.specs.Prelude.{◌==◌, nat_lt}
+use Rattle.std.proofs.Common.{rules, ℕ, List, length}
+use Rattle.std.specs.Prelude.{nat_lt}
 use Rattle.std.proofs.lemmas.Iterator.Search.{any_from_yields_List}
 use Rattle.std.proofs.lemmas.Iterator.Splits.{YieldsList-from_slice_split}
 use Rattle.ts_host.specs.Hosts.{is_dot}

@@ -1,7 +1,6 @@
-use Rattle.std.proofs.Common.{◌≡◌, List}
 use Rattle.std.specs.Prelude.{◌↔◌}
 use Rattle.ts_shape.specs.Items.{items_at}
-use Rattle.ts_name.specs.General.{GeneralName, general_of}
+use Rattle.ts_name.specs.General.{general_of}
 use Rattle.ts_ext.specs.NameViews.{alternatives_in}
 use Rattle.ts_host.specs.Hosts.{SomeOf, IsNamed}
 use Rattle.ts_host.proofs.presented.has_name.Given as goal

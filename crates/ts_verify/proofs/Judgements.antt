@@ -1,0 +1,57 @@
+-- The verdict on the chain that is judged.
+use Rattle.std.proofs.Common.{◌≡◌, ℕ, List, ◌∷◌, ◌++◌, map, length, Some, slice_get, refl, sym, ap, ◌∙◌, subst}
+use Rattle.std.specs.Prelude.{Vec}
+use Rattle.std.specs.Borrow.{Bor}
+use Rattle.std.specs.declared.alloc.Global.{Global}
+use Rattle.ts_cert.specs.Certificate.{Certificate}
+use Rattle.ts_path.specs.Asked.{TrustAnchor}
+use Rattle.ts_path.specs.Verdict.{IsVerdict}
+use Rattle.ts_path.specs.declared.verdict.Verdict.{Verdict}
+use Rattle.ts_path.specs.declared.verdict.Verdict.TheVariants.{Valid}
+use Rattle.ts_search.specs.Search.{Search, IsAnswer, certificates_at, question}
+use Rattle.ts_search.specs.declared.answer.Answer.{Answer}
+use Rattle.ts_search.specs.declared.answer.Answer.TheVariants.{Found, NoPath, SearchLimit}
+use Rattle.ts_verify.specs.Judged.{IsJudged}
+use Rattle.ts_verify.specs.Judging.{IsExplained}
+use Rattle.ts_verify.proofs.Places.{at_middle}
+
+pub found_is : (s : Search) (number : ℕ) (places : Vec ℕ Global) (policies : Vec (Bor (List ℕ)) Global)
+    (chain : List Certificate) → IsAnswer s (Found number places policies)
+    → chain ≡ certificates_at s.certificates places.items
+    → IsJudged s number chain (Valid policies)
+found_is s number places policies chain h e =
+    let u = h.answers.under in
+    record {
+      answer = Found number places policies;
+      is_answer = h;
+      chosen = (refl, e);
+      anchor = u.anchor;
+      anchor_is = ap (λ (anchors : List TrustAnchor). slice_get anchors number) u.anchors_are
+          ∙ ap (λ (n : ℕ). slice_get (u.earlier ++ u.anchor ∷ u.later) n) u.number_is
+          ∙ at_middle u.earlier u.later u.anchor;
+      verdict_is = subst
+          (λ (cs : List Certificate). IsVerdict (question s.asked cs u.anchor) (Valid policies))
+          (sym e) (u.valid, u.accepted);
+    }
+
+pub none_is : (s : Search) (place : ℕ) (chain : List Certificate) (verdict : Verdict)
+    → IsAnswer s NoPath → IsExplained s place chain verdict → IsJudged s place chain verdict
+none_is s place chain verdict h e = record {
+  answer = NoPath;
+  is_answer = h;
+  chosen = e.line;
+  anchor = e.anchor;
+  anchor_is = e.anchor_is;
+  verdict_is = e.verdict_is;
+}
+
+pub limit_is : (s : Search) (place : ℕ) (chain : List Certificate) (verdict : Verdict)
+    → IsAnswer s SearchLimit → IsExplained s place chain verdict → IsJudged s place chain verdict
+limit_is s place chain verdict h e = record {
+  answer = SearchLimit;
+  is_answer = h;
+  chosen = e.line;
+  anchor = e.anchor;
+  anchor_is = e.anchor_is;
+  verdict_is = e.verdict_is;
+}

@@ -1,0 +1,34 @@
+-- The leaf comes first.
+use Rattle.std.proofs.Common.{◌≡◌, ℕ, suc, ◌+◌, ◌-◌, ◌<◌, ◌≤◌, List, [], ◌∷◌, ◌++◌, map, length, get_or, take, drop, refl, sym, ap, ◌∙◌, arith, subst, add-one, length-drop}
+use Rattle.std.proofs.lemmas.List.{take_all}
+use Rattle.ts_cert.specs.declared.certificate.Cert.{Cert}
+use Rattle.ts_cert.specs.CertView.{cert_in}
+use Rattle.ts_cert.specs.Certificate.{Certificate}
+use Rattle.ts_verify.specs.Leaf.{IsLeafFirst, IsLeafPlace}
+use Rattle.ts_verify.proofs.Places.{length_map, map_append, parted, length_front}
+
+-- the rest of a slice is what is behind a place
+behind_is : (certs : List Cert) (i : ℕ)
+    → take (length certs - (i + 1)) (drop (i + 1) certs) ≡ drop (suc i) certs
+behind_is certs i =
+    take_all (length certs - (i + 1)) (drop (i + 1) certs) (omega (arith, length-drop (i + 1) certs))
+    ∙ ap (λ (n : ℕ). drop n certs) (add-one i)
+
+pub moved : (certs : List Cert) (i : ℕ) (leaf : Cert) (ordered : List Cert) → i < length certs
+    → leaf ≡ get_or certs i leaf → IsLeafPlace (map cert_in certs) i
+    → ordered ≡ leaf ∷ (take i certs ++ take (length certs - (i + 1)) (drop (i + 1) certs))
+    → IsLeafFirst (map cert_in certs) (map cert_in ordered)
+moved certs i leaf ordered few is place e = record {
+  before = map cert_in (take i certs);
+  leaf = cert_in leaf;
+  behind = map cert_in (drop (suc i) certs);
+  certificates_are = ap (map cert_in) (parted certs i leaf few is)
+      ∙ map_append cert_in (take i certs) (leaf ∷ drop (suc i) certs);
+  place = subst (IsLeafPlace (map cert_in certs))
+      (sym (length_map cert_in (take i certs) ∙ length_front certs i few)) place;
+  ordered_are = ap (map cert_in) e
+      ∙ ap (λ (cs : List Certificate). cert_in leaf ∷ cs)
+      (map_append cert_in (take i certs) (take (length certs - (i + 1)) (drop (i + 1) certs))
+      ∙ ap (λ (behind : List Cert). map cert_in (take i certs) ++ map cert_in behind)
+      (behind_is certs i));
+}
