@@ -15,9 +15,10 @@ use ts_cli::VerifyWords;
 use ts_crl::Crl;
 use ts_host::Host;
 use ts_path::{Anchor, Inputs};
+use ts_report::text;
 use ts_revoke::Crls;
 use ts_time::Moment;
-use ts_verify::{Finding, Report, text, verify};
+use ts_verify::{Finding, Report, verify};
 
 /// The most certificates that a leaf's path is searched among, the leaf included.
 const MAX_CERTIFICATES: usize = 33;

@@ -1,0 +1,150 @@
+//! The text of a report.
+
+ghost use Rattle.std.specs.Prelude.{◌≡◌, ◌++◌, ◌∷◌, [], List, ℕ, true, IfOk, OnOk, length, map, string_bytes};
+ghost use Rattle.std.specs.List.{list_all};
+ghost use Rattle.ts_show.specs.Lines.{ended, is_printable, shown};
+ghost use Rattle.ts_report.specs.Text.{IsText, oid_text, policies_text, words_of};
+
+use crate::words::{write_no_anchor, write_reason};
+use std::alloc::{AllocError, Global};
+use ts_cert::Cert;
+use ts_der::OidRef;
+use ts_path::Reason;
+use ts_show::{Line, write_name};
+use ts_verify::{Finding, Report};
+
+/// An object identifier in dotted form, by its content octets.
+fn dotted(alloc: Global, content: &[u8]) -> Result<String, AllocError>
+    ensures { IfOk result (λ text. string_bytes text ≡ oid_text content.now) }
+{
+    match OidRef::from_content(content) {
+        Some(oid) => format!(in alloc; "{oid}"),
+        None => Ok(String::new(alloc)),
+    }
+}
+
+/// Policies, each behind a space.
+fn policies_text(alloc: Global, policies: &[&[u8]]) -> Result<String, AllocError>
+    ensures { IfOk result (λ text. string_bytes text
+        ≡ policies_text (map (λ p. p.now) policies.now)) }
+{
+    let mut text = String::new(alloc);
+    for policy in policies {
+        text.push_str(" ")?;
+        text.push_str(dotted(alloc, policy)?.as_str())?;
+    }
+    Ok(text)
+}
+
+/// The words of the first line.
+fn words_of(alloc: Global, report: &Report<'_>) -> Result<String, AllocError>
+    ensures { IfOk result (λ text. string_bytes text
+        ≡ words_of (length report.now.chain.items) report.now.finding) }
+{
+    match &report.finding {
+        Finding::Valid(policies) => {
+            let policies = policies_text(alloc, policies)?;
+            format!(in alloc; "valid{policies}")
+        }
+        Finding::Invalid { position, reason } => {
+            format!(in alloc; "invalid {position} {reason}")
+        }
+        Finding::OtherHost => {
+            let position = report.chain.len();
+            format!(in alloc; "invalid {position} Host")
+        }
+    }
+}
+
+/// A line that begins with a certificate of the chain: its place and its subject.
+fn certificate_line(
+    alloc: Global,
+    position: usize,
+    chain: &[Cert<'_>],
+    cert: &Cert<'_>,
+) -> Result<Line, AllocError> {
+    let mut line = Line::of(alloc, b"certificate ")?;
+    line.number(position as u64)?;
+    line.text(b" of ")?;
+    line.number(chain.len() as u64)?;
+    line.text(b", ")?;
+    write_name(alloc, &mut line, cert.subject())?;
+    line.text(b", ")?;
+    Ok(line)
+}
+
+/// The line on a certificate that does not meet a condition.
+fn invalid_line(
+    alloc: Global,
+    report: &Report<'_>,
+    position: u8,
+    reason: &Reason<'_>,
+) -> Result<Line, AllocError> {
+    let Some(cert) = report.chain.get((position as usize).saturating_sub(1)) else {
+        return Line::of(alloc, b"no certificate has this place");
+    };
+    let mut line = certificate_line(alloc, position as usize, &report.chain, cert)?;
+    let is_first = position == 1 && matches!(reason, Reason::Signature | Reason::IssuerName);
+    if is_first && !cert.issuer().same(report.anchor.name) {
+        write_no_anchor(alloc, &mut line, cert)?;
+    } else {
+        write_reason(alloc, &mut line, cert, reason)?;
+    }
+    Ok(line)
+}
+
+/// The line on a leaf that is for another host.
+fn host_line(alloc: Global, report: &Report<'_>) -> Result<Line, AllocError> {
+    let Some(cert) = report.chain.last() else {
+        return Line::of(alloc, b"no certificate");
+    };
+    let mut line = certificate_line(alloc, report.chain.len(), &report.chain, cert)?;
+    line.text(b"has no name of this host in its subjectAltName (RFC 9525 6)")?;
+    Ok(line)
+}
+
+/// The line on a chain that is valid.
+fn valid_line(alloc: Global, report: &Report<'_>) -> Result<Line, AllocError> {
+    let mut line = Line::of(alloc, b"a chain of ")?;
+    line.number(report.chain.len() as u64)?;
+    line.text(b" under the trust anchor ")?;
+    write_name(alloc, &mut line, report.anchor.name)?;
+    if report.has_lists {
+        line.text(b"; no CRL at hand says that one is revoked")?;
+    } else {
+        line.text(b"; revocation was not looked at, no CRL was given")?;
+    }
+    Ok(line)
+}
+
+/// The second line of a report, in plain words.
+fn explanation(alloc: Global, report: &Report<'_>) -> Result<Line, AllocError> {
+    match &report.finding {
+        Finding::Valid(_) => valid_line(alloc, report),
+        Finding::Invalid { position, reason } => invalid_line(alloc, report, *position, reason),
+        Finding::OtherHost => host_line(alloc, report),
+    }
+}
+
+/// Writes a line and the line feed that ends it.
+fn end(text: &mut Vec<u8>, line: &Line) -> Result<(), AllocError>
+    ensures { OnOk result (text.new.items ≡ text.old.items ++ ended line.now) }
+{
+    text.extend_from_slice(line.as_slice())?;
+    text.push(b'\n')?;
+    Ok(())
+}
+
+/// The text of a report: its words, and a line that explains them, each ended by a line feed.
+pub fn text(alloc: Global, report: &Report<'_>) -> Result<Vec<u8>, AllocError>
+    ensures { IfOk result (λ text. IsText (length report.now.chain.items) report.now.finding
+        text.items) }
+{
+    let words = words_of(alloc, report)?;
+    let first = Line::of(alloc, words.as_bytes())?;
+    let second = explanation(alloc, report)?;
+    let mut text = Vec::new(alloc);
+    end(&mut text, &first)?;
+    end(&mut text, &second)?;
+    Ok(text)
+}
