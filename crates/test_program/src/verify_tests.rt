@@ -7,7 +7,8 @@ use ts_cli::{Task, task_of};
 use ts_tasks::{Fault, verify_files};
 
 /// A certificate of P-256 under its own key, which openssl made: CN=p256.
-const PEM: &str = "-----BEGIN CERTIFICATE-----\nMIIBczCCARmgAwIBAgIUYfTXooGEyu+j+zokUiwbWnCfV4gwCgYIKoZIzj0EAwIw\nDzENMAsGA1UEAwwEcDI1NjAeFw0yNjExMjcxMjA5NTlaFw0zNjExMjQxMjA5NTla\nMA8xDTALBgNVBAMMBHAyNTYwWTATBgcqhkjOPQIBBggqhkjOPQMBBwNCAASfpdFq\nYnfRuHnXu0Fl3RPyiGBvp/zbkKFj542cBqCyO2/E9cHkSr2+ChgweSxJoK7YhZSd\nWYIYZ5rPMzMA1Nseo1MwUTAdBgNVHQ4EFgQU31YQjetaXoISC4RuORI3Tzk+hmMw\nHwYDVR0jBBgwFoAU31YQjetaXoISC4RuORI3Tzk+hmMwDwYDVR0TAQH/BAUwAwEB\n/zAKBggqhkjOPQQDAgNIADBFAiEAvTTcmo4SHNNfTNinqx7olrxrhVGilAZkmxda\n71p8z38CIAk/Khmra49280ye6bb020EprEWu0JKPp/DAApBPrlxX\n-----END CERTIFICATE-----\n";
+const PEM: &str =
+    "-----BEGIN CERTIFICATE-----\nMIIBczCCARmgAwIBAgIUYfTXooGEyu+j+zokUiwbWnCfV4gwCgYIKoZIzj0EAwIw\nDzENMAsGA1UEAwwEcDI1NjAeFw0yNjExMjcxMjA5NTlaFw0zNjExMjQxMjA5NTla\nMA8xDTALBgNVBAMMBHAyNTYwWTATBgcqhkjOPQIBBggqhkjOPQMBBwNCAASfpdFq\nYnfRuHnXu0Fl3RPyiGBvp/zbkKFj542cBqCyO2/E9cHkSr2+ChgweSxJoK7YhZSd\nWYIYZ5rPMzMA1Nseo1MwUTAdBgNVHQ4EFgQU31YQjetaXoISC4RuORI3Tzk+hmMw\nHwYDVR0jBBgwFoAU31YQjetaXoISC4RuORI3Tzk+hmMwDwYDVR0TAQH/BAUwAwEB\n/zAKBggqhkjOPQQDAgNIADBFAiEAvTTcmo4SHNNfTNinqx7olrxrhVGilAZkmxda\n71p8z38CIAk/Khmra49280ye6bb020EprEWu0JKPp/DAApBPrlxX\n-----END CERTIFICATE-----\n";
 
 const FILE: &str = "ts_tasks_verify.pem";
 
@@ -57,7 +58,11 @@ fn files_are_judged(rt: HostRuntime) -> Result<(), Fail> {
     fs::write(&rt, FILE, PEM)?;
     for (words, wanted) in LINES {
         let line = format!(in alloc; "trustd verify {words}")?;
-        assert_eq!(rt; verdict(&rt, alloc, line.as_str())?, Some(*wanted), "{words}");
+        assert_eq!(rt;
+            verdict(&rt, alloc, line.as_str())?,
+            Some(*wanted),
+            "{words}"
+        );
     }
     fs::remove_file(&rt, FILE)?;
     Ok(())

@@ -53,7 +53,21 @@ pub(crate) fn serve_words(
         stand_in,
         idle: number_or(matches, "idle", 1, 3600, 30, WrongValue::Seconds)?,
         request: number_or(matches, "request", 1, 3600, 5, WrongValue::Seconds)?,
-        at_once: number_or(matches, "connections-at-once", 1, 4096, 512, WrongValue::AtOnce)?,
-        connections: number_or(matches, "connections", 1, MANY, MANY, WrongValue::Connections)?,
+        at_once: number_or(
+            matches,
+            "connections-at-once",
+            1,
+            4096,
+            512,
+            WrongValue::AtOnce,
+        )?,
+        connections: number_or(
+            matches,
+            "connections",
+            1,
+            MANY,
+            MANY,
+            WrongValue::Connections,
+        )?,
     })
 }

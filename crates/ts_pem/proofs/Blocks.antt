@@ -76,8 +76,8 @@ gather (line ∷ body) rest n done o all =
     let h = gather body rest (n + 1) done next all.1 in (
       h.0,
       take_one n line (body ++ rest) done o all.0 ∙ h.1
-      ∙ ap (λ (b : List ℕ). blocks_from h.0 rest (within done (record o { body = b })))
-      (append_assoc o.body (trimmed line) (base64_of body)),
+          ∙ ap (λ (b : List ℕ). blocks_from h.0 rest (within done (record o { body = b })))
+          (append_assoc o.body (trimmed line) (base64_of body)),
     )
 
 over_all : (lines : List (List ℕ)) (n : ℕ) (done : List PemBlock) → AllByRecursion IsOutside lines
@@ -97,7 +97,7 @@ are_read (block ∷ blocks) lines n done h =
     let b = begins_one s.0 f.begin (f.body ++ f.end ∷ h.0) done block.label f.begins in
     let g = gather f.body (f.end ∷ h.0) (s.0 + 1) done (o s.0) f.inside in
     let e = ends_one g.0 f.end h.0 done (record (o s.0) { body = base64_of f.body }) block.octets
-      f.ends f.encodes in
+    f.ends f.encodes in
     ap (λ (ls : List (List ℕ)). blocks_from n ls (out_of done)) f.lines_are ∙ s.1 ∙ b ∙ g.1 ∙ e
     ∙ are_read blocks h.0 (g.0 + 1) (done ++ block ∷ []) h.2
     ∙ ap Ok (append_assoc done (block ∷ []) blocks)
@@ -255,8 +255,8 @@ claims (line ∷ lines) =
     let h = claims lines in (
       λ n done all e. out_case line lines h.0 h.1 n done all e (label_of (trimmed line)) refl,
       λ n done o all e. in_case line lines h.0 h.1 n done o all e
-        (bytes_eq (trimmed line) (end_line o.label)) (list_all is_symbol (trimmed line))
-        (decoded o.body) refl refl refl,
+          (bytes_eq (trimmed line) (end_line o.label)) (list_all is_symbol (trimmed line))
+          (decoded o.body) refl refl refl,
     )
 
 pub are_blocks : (lines : List (List ℕ)) (blocks : List PemBlock)

@@ -15,8 +15,8 @@ no_hyphen c is = grind (arith, nat_tests, is)
 head_of : (c : ℕ) (cs : List ℕ) → list_all is_symbol (c ∷ cs) ≡ true → nat_eq c 45 ≡ false
 head_of c cs all =
     (elim (is_symbol c) as (λ t. is_symbol c ≡ t → t && list_all is_symbol cs ≡ true → nat_eq c 45 ≡ false) [
-      true ↦ λ is h. no_hyphen c is
-    | false ↦ λ is h. absurd (false≢true h)
+      | true ↦ λ is h. no_hyphen c is
+      | false ↦ λ is h. absurd (false≢true h)
     ]) refl all
 
 turned : (c : ℕ) → nat_eq c 45 ≡ false → nat_eq 45 c ≡ false

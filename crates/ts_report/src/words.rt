@@ -72,7 +72,9 @@ fn write_extension(alloc: Global, line: &mut Line, content: &[u8]) -> Result<(),
 /// an algorithm that is not checked here.
 fn write_signature(alloc: Global, line: &mut Line, cert: &Cert<'_>) -> Result<(), AllocError> {
     if algorithm_named(cert.signature_algorithm().octets).is_none() {
-        return line.text(b"is signed by an algorithm that is not checked here (docs/SIGNATURES.md)");
+        return line.text(
+            b"is signed by an algorithm that is not checked here (docs/SIGNATURES.md)",
+        );
     }
     line.text(b"is not signed by the key of its issuer ")?;
     write_name(alloc, line, cert.issuer())?;
@@ -143,7 +145,12 @@ pub(crate) fn write_reason(
     match reason {
         Reason::Signature => write_signature(alloc, line, cert),
         Reason::TooEarly => {
-            write_validity(alloc, line, "is not valid before ", validity.not_before.moment)
+            write_validity(
+                alloc,
+                line,
+                "is not valid before ",
+                validity.not_before.moment,
+            )
         }
         Reason::Expired => {
             write_validity(alloc, line, "expired after ", validity.not_after.moment)

@@ -16,7 +16,11 @@ pub struct RecordLock {
 }
 
 /// A file that is there, or is made, and is locked.
-fn locked<R: Files<File = File> + Eprint>(rt: &R, path: &str, is_made: bool) -> Result<File, Fault> {
+fn locked<R: Files<File = File> + Eprint>(
+    rt: &R,
+    path: &str,
+    is_made: bool,
+) -> Result<File, Fault> {
     let opened = OpenOptions::new()
         .read(true)
         .write(true)

@@ -109,10 +109,7 @@ pub fn make_question(
 /// # Errors
 ///
 /// Those of the file; `Field` where a block is broken; `Write`.
-pub fn print_id(
-    rt: &(impl AllocGlobal + Files + Print + Eprint),
-    file: &str,
-) -> Result<(), Fault> {
+pub fn print_id(rt: &(impl AllocGlobal + Files + Print + Eprint), file: &str) -> Result<(), Fault> {
     let alloc = rt.alloc();
     let mut values = certificates_of(rt, alloc, file)?;
     if values.is_empty() {

@@ -101,7 +101,9 @@ fn is_crl(rt: &impl Eprint, path: &str, octets: &[u8]) -> bool {
     match Crl::read(octets) {
         Ok(_) => true,
         Err(_) => {
-            let _ = eprintln!(rt; "trustd: {path}: no CRL that a store takes (--force writes it anyway)");
+            let _ = eprintln!(rt;
+                "trustd: {path}: no CRL that a store takes (--force writes it anyway)"
+            );
             false
         }
     }

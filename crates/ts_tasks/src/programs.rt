@@ -14,8 +14,8 @@ use ts_answer::Answers;
 use ts_check::ChosenCheck;
 use ts_cli::ServeWords;
 use ts_disk::Disk;
-use ts_node::Node;
 use ts_loop::{Limits, LoopFault, serve_all};
+use ts_node::Node;
 use ts_serve::Server;
 use ts_sig::TableCheck;
 use ts_wire::NodeFault;
@@ -60,7 +60,11 @@ pub fn migrate_record(
 }
 
 /// The check of signatures that the words choose.
-fn check_of<R: Files + Eprint>(rt: &R, alloc: Global, words: &ServeWords) -> Result<ChosenCheck, Fault> {
+fn check_of<R: Files + Eprint>(
+    rt: &R,
+    alloc: Global,
+    words: &ServeWords,
+) -> Result<ChosenCheck, Fault> {
     if words.stand_in {
         return Ok(ChosenCheck::StandIn);
     }
@@ -104,10 +108,7 @@ fn fault_of_loop(rt: &impl Eprint, words: &ServeWords, fault: LoopFault) -> Faul
 }
 
 /// Serves the node on two disks, whose signatures this check decides, to many clients at once.
-fn serve_node<
-    D: Disk + Drop,
-    R: Net<Listener = TcpListener, Stream = TcpStream> + Clock + Eprint,
->(
+fn serve_node<D: Disk + Drop, R: Net<Listener = TcpListener, Stream = TcpStream> + Clock + Eprint>(
     rt: &R,
     alloc: Global,
     disks: (D, D),
@@ -122,7 +123,13 @@ fn serve_node<
     let Ok(mut server) = Server::new(alloc, node) else {
         return Err(Fault::Memory);
     };
-    match serve_all(rt, alloc, &mut server, words.listen.as_str(), &limits_of(words)) {
+    match serve_all(
+        rt,
+        alloc,
+        &mut server,
+        words.listen.as_str(),
+        &limits_of(words),
+    ) {
         Ok(_) => Ok(()),
         Err(fault) => Err(fault_of_loop(rt, words, fault)),
     }
@@ -142,10 +149,7 @@ pub fn serve_record<
         + Net<Listener = TcpListener, Stream = TcpStream>
         + Clock
         + Eprint,
->(
-    rt: &R,
-    words: &ServeWords,
-) -> Result<(), Fault> {
+>(rt: &R, words: &ServeWords) -> Result<(), Fault> {
     let alloc = rt.alloc();
     let file = words.file.as_str();
     let _lock = RecordLock::of_record(rt, alloc, file)?;

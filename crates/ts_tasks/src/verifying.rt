@@ -76,7 +76,9 @@ fn anchors_in<'a>(
         }
     }
     if passed > 0 {
-        let _ = eprintln!(rt; "trustd: {passed} anchors are no certificates by RFC 5280, and are passed over");
+        let _ = eprintln!(rt;
+            "trustd: {passed} anchors are no certificates by RFC 5280, and are passed over"
+        );
     }
     if anchors.is_empty() {
         return Err(Fault::Field);
@@ -100,7 +102,9 @@ fn certificates_in<'a>(
             Err(fault) => {
                 let (rule, at) = (fault.kind, fault.at);
                 let place = certificates.len();
-                let _ = eprintln!(rt; "trustd: certificate {place}, from 0, is none: {rule} at {at}");
+                let _ = eprintln!(rt;
+                    "trustd: certificate {place}, from 0, is none: {rule} at {at}"
+                );
                 return Err(Fault::Field);
             }
         }
@@ -191,7 +195,15 @@ pub fn verify_files<R: AllocGlobal + Files + Clock + Print + Eprint>(
         lists: &lists,
         deltas: &deltas,
     };
-    let report = verify(alloc, &certificates, &anchors, &inputs, &crls, host, &NativeCheck)?;
+    let report = verify(
+        alloc,
+        &certificates,
+        &anchors,
+        &inputs,
+        &crls,
+        host,
+        &NativeCheck,
+    )?;
     put(rt, &text(alloc, &report)?)?;
     Ok(is_valid(&report))
 }

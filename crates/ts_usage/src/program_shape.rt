@@ -74,10 +74,7 @@ fn serve<'a>(alloc: Global) -> Result<Command<'a>, AllocError>
     );
     let listen = needed(option(alloc, "listen", "ADDR", "HOST:PORT to listen at"));
     let command = with(with(command, listen), option(alloc, "table", "FILE", table));
-    with_limits(
-        alloc,
-        with(command, flag(alloc, "stand-in", stand_in)),
-    )
+    with_limits(alloc, with(command, flag(alloc, "stand-in", stand_in)))
 }
 
 /// A command with an address and a file.

@@ -31,10 +31,7 @@ fn with_inputs<'a>(
     let all = with(all, flag(alloc, "noany", help));
     let help = "A policy that the user accepts; any if none is given";
     let all = with(all, options(alloc, "policy", "OID", help));
-    with(
-        all,
-        option(alloc, "purpose", "OID", "What the leaf is for"),
-    )
+    with(all, option(alloc, "purpose", "OID", "What the leaf is for"))
 }
 
 /// A chain is judged without a node.
@@ -42,7 +39,11 @@ pub(crate) fn verify<'a>(alloc: Global) -> Result<Command<'a>, AllocError>
     ensures shape { IfOk result (IsShape shapes.verify) }
     ensures local { IfOk result IsLocal }
 {
-    let command = leaf(alloc, "verify", "Judges a certificate chain, without a node");
+    let command = leaf(
+        alloc,
+        "verify",
+        "Judges a certificate chain, without a node",
+    );
     let help = "Trust anchors, in PEM or DER; several files by several --anchor";
     let command = with(command, needed(options(alloc, "anchor", "FILE", help)));
     let help = "CRLs, in PEM or DER; revocation is then checked";

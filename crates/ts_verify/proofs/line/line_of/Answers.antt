@@ -22,7 +22,7 @@ loop-top-preserved c =
     let chain = c.loop-top.chain.items in
     let longer = c.in_ok-longer.longer.items in
     let e : longer ≡ above ∷ chain = c.in_ok-longer.ensures
-      ∙ ap (λ (cs : List Cert). above ∷ cs) c.deref-in-loop-top.ensures.value in
+    ∙ ap (λ (cs : List Cert). above ∷ cs) c.deref-in-loop-top.ensures.value in
     record {
       top_is = e ∙ ap (λ (cs : List Cert). above ∷ drop 1 cs) (sym e);
       line = line_more (map cert_in c.args.certificates.now) chain longer above c.loop-top.top
