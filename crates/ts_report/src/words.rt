@@ -71,7 +71,7 @@ fn write_extension(alloc: Global, line: &mut Line, content: &[u8]) -> Result<(),
 /// Writes the words for a certificate that the key above it did not sign, or whose signature is by
 /// an algorithm that is not checked here.
 fn write_signature(alloc: Global, line: &mut Line, cert: &Cert<'_>) -> Result<(), AllocError> {
-    if algorithm_named(cert.signature_algorithm().octets).is_none() {
+    if algorithm_named(cert.signature_algorithm().whole).is_none() {
         return line.text(
             b"is signed by an algorithm that is not checked here (docs/SIGNATURES.md)",
         );
