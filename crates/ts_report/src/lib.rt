@@ -16,7 +16,7 @@
 //! Neither proved nor tested but for some lines: what the second line says.
 #![tactic(auto)]
 
-mod text;
+mod printed;
 mod words;
 
-pub use text::text;
+pub use printed::text;
