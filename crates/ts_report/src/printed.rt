@@ -1,6 +1,8 @@
 //! The text of a report.
 
-ghost use Rattle.std.specs.Prelude.{◌≡◌, ◌++◌, ◌∷◌, [], List, ℕ, true, IfOk, OnOk, length, map, string_bytes};
+ghost use Rattle.std.specs.Prelude.{◌≡◌, ◌++◌, ◌∷◌, [], List, ℕ, true, IfOk, OnOk, length, map, codes, string_bytes};
+ghost use Rattle.std.specs.Fmt.{decimal};
+ghost use Rattle.ts_path.specs.Printed.{reason_text};
 ghost use Rattle.std.specs.List.{list_all};
 ghost use Rattle.ts_show.specs.Lines.{ended, is_printable, shown};
 ghost use Rattle.ts_report.specs.Text.{IsText, oid_text, policies_text, words_of};
@@ -36,6 +38,14 @@ fn policies_text(alloc: Global, policies: &[&[u8]]) -> Result<String, AllocError
     Ok(text)
 }
 
+/// The words for a certificate that does not meet a condition.
+fn invalid_words(alloc: Global, position: u8, reason: Reason<'_>) -> Result<String, AllocError>
+    ensures { IfOk result (λ text. string_bytes text
+        ≡ codes "invalid " ++ (decimal position ++ (codes " " ++ reason_text reason.entry))) }
+{
+    format!(in alloc; "invalid {position} {reason}")
+}
+
 /// The words of the first line.
 fn words_of(alloc: Global, report: &Report<'_>) -> Result<String, AllocError>
     ensures { IfOk result (λ text. string_bytes text
@@ -46,9 +56,7 @@ fn words_of(alloc: Global, report: &Report<'_>) -> Result<String, AllocError>
             let policies = policies_text(alloc, policies)?;
             format!(in alloc; "valid{policies}")
         }
-        Finding::Invalid { position, reason } => {
-            format!(in alloc; "invalid {position} {reason}")
-        }
+        Finding::Invalid { position, reason } => invalid_words(alloc, *position, *reason),
         Finding::OtherHost => {
             let position = report.chain.len();
             format!(in alloc; "invalid {position} Host")
