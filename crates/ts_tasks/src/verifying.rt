@@ -157,6 +157,46 @@ fn is_valid(report: &Report<'_>) -> bool {
     matches!(report.finding, Finding::Valid(_))
 }
 
+/// The policies that the user accepts, as the content octets of their object identifiers.
+fn policies_of<'a>(alloc: Global, words: &'a VerifyWords) -> Result<Vec<&'a [u8]>, Fault> {
+    let mut policies = Vec::new(alloc);
+    for policy in words.policies.as_slice() {
+        policies.push(policy.as_ref().content)?;
+    }
+    Ok(policies)
+}
+
+/// The purpose that the leaf is to have, if one is given.
+fn purpose_of(words: &VerifyWords) -> Option<&[u8]> {
+    match &words.purpose {
+        Some(purpose) => Some(purpose.as_ref().content),
+        None => None,
+    }
+}
+
+/// What path validation is asked beside the certificates. Revocation is hard where there are CRLs,
+/// unless the words say otherwise.
+fn inputs_of<'a>(
+    words: &VerifyWords,
+    moment: Moment,
+    purpose: Option<&'a [u8]>,
+    policies: &'a [&'a [u8]],
+    has_crls: bool,
+) -> Inputs<'a> {
+    Inputs {
+        moment,
+        purpose,
+        user_policies: policies,
+        explicit_policy: words.explicit,
+        inhibit_policy_mapping: words.nomap,
+        inhibit_any_policy: words.noany,
+        permitted_subtrees: &[],
+        excluded_subtrees: &[],
+        hard: has_crls && !words.soft,
+        use_deltas: words.deltas,
+    }
+}
+
 /// Judges the chain that words name, by signatures that are checked here, and prints the verdict
 /// and what it means. Whether the chain is valid.
 ///
@@ -177,20 +217,9 @@ pub fn verify_files<R: AllocGlobal + Files + Clock + Print + Eprint>(
     let anchors = anchors_in(rt, alloc, &anchor_octets)?;
     let certificates = certificates_in(rt, alloc, &chain_octets)?;
     let (lists, deltas) = crls_in(rt, alloc, &crl_octets)?;
-    let mut policies = Vec::new(alloc);
-    for policy in words.policies.as_slice() {
-        policies.push(policy.as_ref().content)?;
-    }
-    let mut inputs = Inputs::at(moment);
-    if let Some(purpose) = &words.purpose {
-        inputs.purpose = Some(purpose.as_ref().content);
-    }
-    inputs.user_policies = &policies;
-    inputs.explicit_policy = words.explicit;
-    inputs.inhibit_policy_mapping = words.nomap;
-    inputs.inhibit_any_policy = words.noany;
-    inputs.hard = !crl_octets.is_empty() && !words.soft;
-    inputs.use_deltas = words.deltas;
+    let policies = policies_of(alloc, words)?;
+    let has_crls = !crl_octets.is_empty();
+    let inputs = inputs_of(words, moment, purpose_of(words), &policies, has_crls);
     let crls = Crls {
         lists: &lists,
         deltas: &deltas,
