@@ -48,7 +48,7 @@ const LINES: &[(&str, &str)] = &[
     ),
     (
         "verify --anchor a --anchor b --crl l --soft --host h --at now c d",
-        "Verify(VerifyWords { anchors: [\"a\", \"b\"], crls: [\"l\"], certificates: [\"c\", \"d\"], moment: None, host: Some(\"h\"), soft: true, deltas: false, explicit: false, nomap: false, noany: false, policies: Oids([]), purpose: None })",
+        "Verify(VerifyWords { anchors: [\"a\", \"b\"], crls: [\"l\"], certificates: [\"c\", \"d\"], moment: None, host: Some(\"h\"), soft: true, deltas: false, explicit: false, nomap: false, noany: false, policies: Oids { oids: [] }, purpose: None })",
     ),
     ("verify --anchor a", "Wrong"),
     ("verify c", "Wrong"),

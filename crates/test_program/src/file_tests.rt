@@ -14,7 +14,7 @@ const FOLDER: &str = "ts_tasks_test";
 const PATH: &str = "ts_tasks_test/node";
 
 /// Appends a fact to the record. Whether it was opened.
-fn append_round<R: Files>(rt: &R, alloc: Global) -> Result<bool, Fault> {
+fn append_round<R: Files + Eprint>(rt: &R, alloc: Global) -> Result<bool, Fault> {
     let (a, b) = open_disks(rt, alloc, PATH)?;
     match Record::<_, Command>::open(alloc, a, b) {
         Ok(mut record) => {
@@ -26,7 +26,11 @@ fn append_round<R: Files>(rt: &R, alloc: Global) -> Result<bool, Fault> {
 }
 
 /// Whose record it is, and whether it has that fact alone. `None` where it is not opened.
-fn found<R: Files>(rt: &R, alloc: Global, path: &str) -> Result<Option<(u8, bool)>, Fault> {
+fn found<R: Files + Eprint>(
+    rt: &R,
+    alloc: Global,
+    path: &str,
+) -> Result<Option<(u8, bool)>, Fault> {
     let (a, b) = open_disks(rt, alloc, path)?;
     Ok(match Record::<_, Command>::open(alloc, a, b) {
         Ok(record) => {
