@@ -158,20 +158,37 @@ fn is_valid(report: &Report<'_>) -> bool {
 }
 
 /// The policies that the user accepts, as the content octets of their object identifiers.
-fn policies_of<'a>(alloc: Global, words: &'a VerifyWords) -> Result<Vec<&'a [u8]>, Fault> {
+fn policies_of(alloc: Global, words: &VerifyWords) -> Result<Vec<Vec<u8>>, Fault> {
     let mut policies = Vec::new(alloc);
     for policy in words.policies.as_slice() {
-        policies.push(policy.as_ref().content)?;
+        policies.push(Vec::from_slice(alloc, policy.as_ref().content)?)?;
     }
     Ok(policies)
 }
 
-/// The purpose that the leaf is to have, if one is given.
-fn purpose_of(words: &VerifyWords) -> Option<&[u8]> {
+/// The purpose that the leaf is to have, if one is given, in the same form.
+fn purpose_of(alloc: Global, words: &VerifyWords) -> Result<Option<Vec<u8>>, Fault> {
     match &words.purpose {
-        Some(purpose) => Some(purpose.as_ref().content),
+        Some(purpose) => Ok(Some(Vec::from_slice(alloc, purpose.as_ref().content)?)),
+        None => Ok(None),
+    }
+}
+
+/// Octets, borrowed.
+fn borrowed(octets: &Option<Vec<u8>>) -> Option<&[u8]> {
+    match octets {
+        Some(octets) => Some(octets),
         None => None,
     }
+}
+
+/// Lists of octets, borrowed.
+fn all_borrowed<'a>(alloc: Global, lists: &'a [Vec<u8>]) -> Result<Vec<&'a [u8]>, Fault> {
+    let mut found: Vec<&'a [u8]> = Vec::new(alloc);
+    for octets in lists {
+        found.push(octets)?;
+    }
+    Ok(found)
 }
 
 /// What path validation is asked beside the certificates. Revocation is hard where there are CRLs,
@@ -217,9 +234,11 @@ pub fn verify_files<R: AllocGlobal + Files + Clock + Print + Eprint>(
     let anchors = anchors_in(rt, alloc, &anchor_octets)?;
     let certificates = certificates_in(rt, alloc, &chain_octets)?;
     let (lists, deltas) = crls_in(rt, alloc, &crl_octets)?;
-    let policies = policies_of(alloc, words)?;
+    let policy_octets = policies_of(alloc, words)?;
+    let purpose = purpose_of(alloc, words)?;
+    let policies = all_borrowed(alloc, &policy_octets)?;
     let has_crls = !crl_octets.is_empty();
-    let inputs = inputs_of(words, moment, purpose_of(words), &policies, has_crls);
+    let inputs = inputs_of(words, moment, borrowed(&purpose), &policies, has_crls);
     let crls = Crls {
         lists: &lists,
         deltas: &deltas,
