@@ -157,16 +157,8 @@ fn is_valid(report: &Report<'_>) -> bool {
     matches!(report.finding, Finding::Valid(_))
 }
 
-/// The policies that the user accepts, as the content octets of their object identifiers.
-fn policies_of(alloc: Global, words: &VerifyWords) -> Result<Vec<Vec<u8>>, Fault> {
-    let mut policies = Vec::new(alloc);
-    for policy in words.policies.as_slice() {
-        policies.push(Vec::from_slice(alloc, policy.as_ref().content)?)?;
-    }
-    Ok(policies)
-}
-
-/// The purpose that the leaf is to have, if one is given, in the same form.
+/// The purpose that the leaf is to have, if one is given, as the content octets of its object
+/// identifier.
 fn purpose_of(alloc: Global, words: &VerifyWords) -> Result<Option<Vec<u8>>, Fault> {
     match &words.purpose {
         Some(purpose) => Ok(Some(Vec::from_slice(alloc, purpose.as_ref().content)?)),
@@ -182,63 +174,45 @@ fn borrowed(octets: &Option<Vec<u8>>) -> Option<&[u8]> {
     }
 }
 
-/// Lists of octets, borrowed.
-fn all_borrowed<'a>(alloc: Global, lists: &'a [Vec<u8>]) -> Result<Vec<&'a [u8]>, Fault> {
-    let mut found: Vec<&'a [u8]> = Vec::new(alloc);
-    for octets in lists {
-        found.push(octets)?;
-    }
-    Ok(found)
+/// What the files of the words hold. All is borrowed from here, so that it has one lifetime.
+#[derive(Drop)]
+struct Given {
+    anchors: Vec<Vec<u8>>,
+    certificates: Vec<Vec<u8>>,
+    crls: Vec<Vec<u8>>,
+    purpose: Option<Vec<u8>>,
 }
 
-/// What path validation is asked beside the certificates. Revocation is hard where there are CRLs,
-/// unless the words say otherwise.
-fn inputs_of<'a>(
-    words: &VerifyWords,
-    moment: Moment,
-    purpose: Option<&'a [u8]>,
-    policies: &'a [&'a [u8]],
-    has_crls: bool,
-) -> Inputs<'a> {
+/// What path validation is asked beside the certificates, for any policy. Revocation is hard where
+/// there are CRLs, unless the words say otherwise.
+fn inputs_of<'a>(words: &VerifyWords, moment: Moment, given: &'a Given) -> Inputs<'a> {
     Inputs {
         moment,
-        purpose,
-        user_policies: policies,
+        purpose: borrowed(&given.purpose),
+        user_policies: &[],
         explicit_policy: words.explicit,
         inhibit_policy_mapping: words.nomap,
         inhibit_any_policy: words.noany,
         permitted_subtrees: &[],
         excluded_subtrees: &[],
-        hard: has_crls && !words.soft,
+        hard: !given.crls.is_empty() && !words.soft,
         use_deltas: words.deltas,
     }
 }
 
-/// Judges the chain that words name, by signatures that are checked here, and prints the verdict
-/// and what it means. Whether the chain is valid.
-///
-/// # Errors
-///
-/// Those of the files; `Field` where one holds no certificate or CRL, or the host's name is none;
-/// `OutOfLimits` where there is no certificate, or are more than 33; `Clock`; `Memory`; `Write`.
-pub fn verify_files<R: AllocGlobal + Files + Clock + Print + Eprint>(
+/// Judges what is given, and prints the verdict and what it means. Whether the chain is valid.
+fn judge<R: AllocGlobal + Print + Eprint>(
     rt: &R,
     words: &VerifyWords,
+    moment: Moment,
+    given: &Given,
 ) -> Result<bool, Fault> {
     let alloc = rt.alloc();
-    let moment = moment_of(rt, words)?;
     let host = host_of(rt, words)?;
-    let anchor_octets = octets_of(rt, alloc, &words.anchors, false)?;
-    let chain_octets = octets_of(rt, alloc, &words.certificates, false)?;
-    let crl_octets = octets_of(rt, alloc, &words.crls, true)?;
-    let anchors = anchors_in(rt, alloc, &anchor_octets)?;
-    let certificates = certificates_in(rt, alloc, &chain_octets)?;
-    let (lists, deltas) = crls_in(rt, alloc, &crl_octets)?;
-    let policy_octets = policies_of(alloc, words)?;
-    let purpose = purpose_of(alloc, words)?;
-    let policies = all_borrowed(alloc, &policy_octets)?;
-    let has_crls = !crl_octets.is_empty();
-    let inputs = inputs_of(words, moment, borrowed(&purpose), &policies, has_crls);
+    let anchors = anchors_in(rt, alloc, &given.anchors)?;
+    let certificates = certificates_in(rt, alloc, &given.certificates)?;
+    let (lists, deltas) = crls_in(rt, alloc, &given.crls)?;
+    let inputs = inputs_of(words, moment, given);
     let crls = Crls {
         lists: &lists,
         deltas: &deltas,
@@ -254,4 +228,31 @@ pub fn verify_files<R: AllocGlobal + Files + Clock + Print + Eprint>(
     )?;
     put(rt, &text(alloc, &report)?)?;
     Ok(is_valid(&report))
+}
+
+/// Judges the chain that words name, by signatures that are checked here, and prints the verdict
+/// and what it means. Whether the chain is valid.
+///
+/// # Errors
+///
+/// Those of the files; `Field` where one holds no certificate or CRL, or the host's name is none;
+/// `OutOfLimits` where there is no certificate, are more than 33, or a policy is named, which only
+/// a question to a node can; `Clock`; `Memory`; `Write`.
+pub fn verify_files<R: AllocGlobal + Files + Clock + Print + Eprint>(
+    rt: &R,
+    words: &VerifyWords,
+) -> Result<bool, Fault> {
+    let alloc = rt.alloc();
+    if !words.policies.as_slice().is_empty() {
+        let _ = eprintln!(rt; "trustd: --policy is for questions to a node alone");
+        return Err(Fault::OutOfLimits);
+    }
+    let moment = moment_of(rt, words)?;
+    let given = Given {
+        anchors: octets_of(rt, alloc, &words.anchors, false)?,
+        certificates: octets_of(rt, alloc, &words.certificates, false)?,
+        crls: octets_of(rt, alloc, &words.crls, true)?,
+        purpose: purpose_of(alloc, words)?,
+    };
+    judge(rt, words, moment, &given)
 }
