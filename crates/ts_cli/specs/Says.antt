@@ -8,7 +8,8 @@ use Rattle.ts_cli.specs.CommandLine.{app_in, group_of, words_in}
 use Rattle.ts_cli.specs.Values.{IsAddressed, IsNumberIn, IsHex, IsDotted, AsWritten, written}
 use Rattle.ts_cli.specs.Serving.{IsServe, IsServable}
 use Rattle.ts_cli.specs.Verifying.{IsVerify}
-use Rattle.ts_cli.specs.Given.{IsAt, IsNumberAt, IsDigestAt, IsMomentAt, all_at, is_set}
+use Rattle.ts_cli.specs.Given.{IsAt, IsNumberAt, IsNumberOr, IsDigestAt, IsMomentAt, all_at}
+use Rattle.ts_cli.specs.Given.{is_set}
 use Rattle.ts_question.specs.declared.terms.Flags.{Flags}
 use Rattle.ts_cli.specs.declared.command_words.CommandWords.{CommandWords}
 use Rattle.ts_cli.specs.declared.command_words.Change.{Change}
@@ -159,8 +160,9 @@ SaysTask name rows (Format file id nodes) = IsFormat name rows (string_bytes fil
 SaysTask name rows (Migrate old new) = IsMigration name rows (string_bytes old) (string_bytes new)
 SaysTask name rows (Serve words) = (name ≡ codes "serve") × IsServe rows words
 SaysTask name rows (Verify words) = (name ≡ codes "verify") × IsVerify rows words
-SaysTask name rows (Submit address file) =
+SaysTask name rows (Submit address file wait) =
     IsSending name (codes "submit") rows (string_bytes address) (string_bytes file)
+    × IsNumberOr (codes "wait") rows 1 3600 0 wait
 SaysTask name rows (Ask address file) =
     IsSending name (codes "ask") rows (string_bytes address) (string_bytes file)
 SaysTask name rows (Carry addresses rounds) =
@@ -182,7 +184,7 @@ SaysAny own name rows (Format file id nodes) = SaysTask name rows (Format file i
 SaysAny own name rows (Migrate old new) = SaysTask name rows (Migrate old new)
 SaysAny own name rows (Serve words) = SaysTask name rows (Serve words)
 SaysAny own name rows (Verify words) = SaysTask name rows (Verify words)
-SaysAny own name rows (Submit address file) = SaysTask name rows (Submit address file)
+SaysAny own name rows (Submit address file wait) = SaysTask name rows (Submit address file wait)
 SaysAny own name rows (Ask address file) = SaysTask name rows (Ask address file)
 SaysAny own name rows (Carry addresses rounds) = SaysTask name rows (Carry addresses rounds)
 SaysAny own name rows (Status address) = SaysTask name rows (Status address)
@@ -211,7 +213,7 @@ IsInRange (Carry addresses rounds) =
     (1 ≤ length addresses.items) × (length addresses.items ≤ 9) × (1 ≤ rounds) × (rounds ≤ 1000000)
 IsInRange Lab = Unit {0}
 IsInRange (Migrate old new) = Unit {0}
-IsInRange (Submit address file) = Unit {0}
+IsInRange (Submit address file wait) = wait ≤ 3600
 IsInRange (Ask address file) = Unit {0}
 IsInRange (Command words) = Unit {0}
 IsInRange (Question words) = Unit {0}

@@ -1,9 +1,15 @@
 -- How a node is served, by the arguments of `trustd serve`.
-use Rattle.std.specs.Prelude.{◌≡◌, ◌≤◌, List, codes, string_bytes, option_map}
-use Rattle.clap.specs.Walk.{Row, first_of}
-use Rattle.ts_cli.specs.Values.{IsAddressed}
-use Rattle.ts_cli.specs.Given.{IsAt, IsNumberOr, is_set}
+use Rattle.std.specs.Prelude.{◌≡◌, ◌≤◌, List, codes, string_bytes, option_map, map}
+use Rattle.std.specs.List.{AllByRecursion}
+use Rattle.clap.specs.Walk.{Row, Text, first_of}
+use Rattle.ts_cli.specs.Values.{IsAddressed, NamesPeer}
+use Rattle.ts_cli.specs.Given.{IsAt, IsNumberOr, all_at, is_set}
 use Rattle.ts_cli.specs.declared.serve_words.ServeWords.{ServeWords}
+
+-- the peers that are named
+pub record ArePeers (rows : List Row) (peers : List Text) : Type 0 where
+  pub are : peers ≡ all_at (codes "peer") rows
+  pub form : AllByRecursion NamesPeer peers
 
 pub record IsServe (rows : List Row) (words : ServeWords) : Type 0 where
   pub file_is : IsAt (codes "file") rows (string_bytes words.file)
@@ -11,6 +17,8 @@ pub record IsServe (rows : List Row) (words : ServeWords) : Type 0 where
   pub listen_address : IsAddressed (string_bytes words.listen)
   pub table_is : first_of (codes "table") rows ≡ option_map string_bytes words.table
   pub stand_in_is : words.stand_in ≡ is_set (codes "stand-in") rows
+  pub peers_are : ArePeers rows (map string_bytes words.peers.items)
+  pub quiet_is : words.quiet ≡ is_set (codes "quiet") rows
   pub idle_is : IsNumberOr (codes "idle") rows 1 3600 30 words.idle
   pub request_is : IsNumberOr (codes "request") rows 1 3600 5 words.request
   pub at_once_is : IsNumberOr (codes "connections-at-once") rows 1 4096 512 words.at_once

@@ -27,6 +27,15 @@ pub record IsAddress (text host : List ℕ) (port : ℕ) : Type 0 where
 abbrev pub IsAddressed : List ℕ → Type 0
 IsAddressed text = (host : List ℕ) × (port : ℕ) × IsAddress text host port
 
+-- the number of a node, 1 to 9, an equals sign, and an address
+pub record IsPeer (text : List ℕ) (node : ℕ) (address : List ℕ) : Type 0 where
+  pub before : IsNumberIn 1 9 (before_first (λ octet. octet == 61) text) node
+  pub behind : address ≡ after_first (λ octet. octet == 61) text
+  pub addressed : IsAddressed address
+
+abbrev pub NamesPeer : List ℕ → Type 0
+NamesPeer text = (node : ℕ) × (address : List ℕ) × IsPeer text node address
+
 -- so many octets, in lower-case hexadecimal digits
 pub record IsHex (size : ℕ) (text octets : List ℕ) : Type 0 where
   pub written : text ≡ encode_lower octets

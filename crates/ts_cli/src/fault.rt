@@ -25,6 +25,10 @@ pub enum WrongValue {
     Seconds,
     /// No number of connections at once.
     AtOnce,
+    /// No peer.
+    Peer,
+    /// No number of seconds to wait.
+    Wait,
     /// No number of rounds.
     Rounds,
     /// No address.
@@ -62,6 +66,8 @@ impl fmt::Display for WrongValue {
             WrongValue::Check => "--stand-in goes without --table",
             WrongValue::Seconds => "--idle and --request are numbers of seconds from 1 to 3600",
             WrongValue::AtOnce => "--connections-at-once is a number from 1 to 4096",
+            WrongValue::Peer => "--peer is the number of a node, 1 to 9, = and its address",
+            WrongValue::Wait => "--wait is a number of seconds from 1 to 3600",
             WrongValue::Rounds => "--rounds is a number from 1 to 1000000",
             WrongValue::Address => "an address is a host, a colon and a port from 0 to 65535",
             WrongValue::Addresses => "there are at most nine addresses",

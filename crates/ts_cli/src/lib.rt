@@ -62,5 +62,5 @@ pub use fault::{CommandFault, WrongValue, report};
 pub use question_words::{QuestionWords, Subject, TermWords};
 pub use serve_words::ServeWords;
 pub use task::Task;
-pub use values::address_of;
+pub use values::{address_of, peer_of};
 pub use verify_words::VerifyWords;

@@ -4,11 +4,11 @@ ghost use Rattle.std.specs.Prelude.{◌≡◌, ℕ, List, IfOk, Some, map, optio
 ghost use Rattle.std.specs.List.{AllByRecursion};
 ghost use Rattle.clap.specs.Matches.{found_of};
 ghost use Rattle.clap.specs.Walk.{rows_of, first_of, all_of};
-ghost use Rattle.ts_cli.specs.Values.{IsAddressed};
+ghost use Rattle.ts_cli.specs.Values.{IsAddressed, NamesPeer};
 ghost use Rattle.ts_cli.specs.Given.{IsNumberAt, IsNumberOr, all_at, is_set};
 
 use crate::fault::{CommandFault, WrongValue};
-use crate::values::{address_of, number_in};
+use crate::values::{address_of, number_in, peer_of};
 use clap::ArgMatches;
 use std::alloc::{AllocError, Global};
 
@@ -156,6 +156,18 @@ pub(crate) fn strings_at(
         Some(texts) => strings(alloc, texts),
         None => Ok(Vec::new(alloc)),
     }
+}
+
+/// Whether each of these names a peer.
+pub(crate) fn are_peers(texts: &[String]) -> bool
+    ensures { result ≡ true → AllByRecursion NamesPeer (map string_bytes texts.now) }
+{
+    for text in texts {
+        if peer_of(text.as_str()).is_none() {
+            return false;
+        }
+    }
+    true
 }
 
 /// Whether each of these is an address.

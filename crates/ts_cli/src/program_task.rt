@@ -7,7 +7,9 @@ ghost use Rattle.ts_cli.specs.Says.{SaysTask};
 ghost use Rattle.ts_cli.specs.declared.task.Task.TheVariants.{Lab};
 
 use crate::fault::{CommandFault, WrongValue};
-use crate::matched::{address_at, are_addresses, number_at, string_at, strings_at};
+use crate::matched::{
+    address_at, are_addresses, number_at, number_or, string_at, strings_at,
+};
 use crate::serve_words::serve_words;
 use crate::task::Task;
 use crate::verify_words::verify_words;
@@ -47,6 +49,7 @@ fn submit(alloc: Global, matches: &ArgMatches<'_>) -> Result<Task, CommandFault>
     Ok(Task::Submit {
         address: address_at(alloc, matches, "address")?,
         file: string_at(alloc, matches, "file")?,
+        wait: number_or(matches, "wait", 1, 3600, 0, WrongValue::Wait)?,
     })
 }
 

@@ -1,12 +1,14 @@
 //! How a node is served.
 
-ghost use Rattle.std.specs.Prelude.{IfOk};
+ghost use Rattle.std.specs.Prelude.{IfOk, map, string_bytes};
 ghost use Rattle.clap.specs.Matches.{found_of};
 ghost use Rattle.clap.specs.Walk.{rows_of};
-ghost use Rattle.ts_cli.specs.Serving.{IsServe};
+ghost use Rattle.ts_cli.specs.Serving.{ArePeers, IsServe};
 
 use crate::fault::{CommandFault, WrongValue};
-use crate::matched::{address_at, is_set, number_or, optional_string_at, string_at};
+use crate::matched::{
+    address_at, are_peers, is_set, number_or, optional_string_at, string_at, strings_at,
+};
 use clap::ArgMatches;
 use std::alloc::Global;
 
@@ -21,6 +23,10 @@ pub struct ServeWords {
     pub table: Option<String>,
     /// Whether signatures are those of the stand-in.
     pub stand_in: bool,
+    /// The other nodes, each as its number, = and its address.
+    pub peers: Vec<String>,
+    /// Whether standard error is not told what happens.
+    pub quiet: bool,
     /// How many seconds a silent client is kept.
     pub idle: u32,
     /// How many seconds a client has for a whole request, and to read an answer.
@@ -33,6 +39,18 @@ pub struct ServeWords {
 
 /// The most connections that a server takes.
 const MANY: u32 = 1_000_000;
+
+/// The peers that are named, kept.
+fn peers_at(alloc: Global, matches: &ArgMatches<'_>) -> Result<Vec<String>, CommandFault>
+    ensures { IfOk result (λ peers.
+        ArePeers (rows_of (found_of matches.now)) (map string_bytes peers.items)) }
+{
+    let peers = strings_at(alloc, matches, "peer")?;
+    if !are_peers(peers.as_slice()) {
+        return Err(CommandFault::Value(WrongValue::Peer));
+    }
+    Ok(peers)
+}
 
 /// The words of `trustd serve`.
 pub(crate) fn serve_words(
@@ -51,6 +69,8 @@ pub(crate) fn serve_words(
         listen: address_at(alloc, matches, "listen")?,
         table,
         stand_in,
+        peers: peers_at(alloc, matches)?,
+        quiet: is_set(matches, "quiet"),
         idle: number_or(matches, "idle", 1, 3600, 30, WrongValue::Seconds)?,
         request: number_or(matches, "request", 1, 3600, 5, WrongValue::Seconds)?,
         at_once: number_or(

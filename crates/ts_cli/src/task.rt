@@ -36,6 +36,8 @@ pub enum Task {
         address: String,
         /// The encoded command.
         file: String,
+        /// For how many seconds to wait until it is chosen; 0 to wait for nothing.
+        wait: u32,
     },
     /// Ask a node a question.
     Ask {

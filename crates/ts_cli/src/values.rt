@@ -1,14 +1,17 @@
 //! What words write.
 
-ghost use Rattle.std.specs.Prelude.{◌≡◌, ◌*◌, ℕ, ℤ, List, length, MatchOption};
+ghost use Rattle.std.specs.Prelude.{◌≡◌, ◌*◌, ℕ, ℤ, List, length, IfSome, MatchOption};
 ghost use Rattle.std.specs.Bool.{MatchBool};
 ghost use Rattle.ts_time.specs.Text.{IsGeneral};
-ghost use Rattle.ts_cli.specs.Values.{IsNumber, IsNumberIn, IsAddress, IsHex};
+ghost use Rattle.ts_cli.specs.Values.{IsNumber, IsNumberIn, IsAddress, IsHex, IsPeer};
 
 use ts_time::{Moment, read_general};
 
 /// Stands between the host and the port of an address.
 const COLON: char = ':';
+
+/// Stands between the number of a peer and its address.
+const EQUALS: char = '=';
 
 /// The number that a text writes in decimal, without leading zeros.
 fn number_of(text: &str) -> Option<u32>
@@ -44,6 +47,16 @@ pub fn address_of(text: &str) -> Option<(&str, u16)>
     }
     let port = number_in(port, 0, 65_535)?;
     Some((host, port as u16))
+}
+
+/// The number of a node, 1 to 9, and its address, with an equals sign between.
+pub fn peer_of(text: &str) -> Option<(u8, &str)>
+    ensures { IfSome result (λ found. IsPeer text.now found.0 found.1.now) }
+{
+    let (node, address) = text.split_once(EQUALS)?;
+    let node = number_in(node, 1, 9)?;
+    let _ = address_of(address)?;
+    Some((node as u8, address))
 }
 
 /// Writes the octets that a text writes in lower-case hexadecimal digits, if it writes so many;

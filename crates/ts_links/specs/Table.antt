@@ -59,6 +59,9 @@ abbrev pub with_link : {A : Type 0} → Option Link → (Link → A) → A → A
 with_link (Some link) f other = f link
 with_link None f other = other
 
+abbrev pub held_at : List Link → ℕ → List ℕ
+held_at links slot = with_link (slice_get links slot) (λ link. link.held) []
+
 abbrev pub waits_at : List Link → ℕ → List ℕ
 waits_at links slot = with_link (slice_get links slot) (λ link. link.waits) []
 

@@ -2,7 +2,7 @@
 
 ghost use Rattle.std.specs.Prelude.{◌≡◌, ◌+◌, ◌<◌, ◌≤◌, true, length};
 ghost use Rattle.ts_links.specs.Moves.{IsIdle};
-ghost use Rattle.ts_links.specs.Table.{IsIdlest, is_late_at, stage_at, waits_at};
+ghost use Rattle.ts_links.specs.Table.{IsIdlest, held_at, is_late_at, stage_at, waits_at};
 
 use crate::connections::Connections;
 use crate::link::{Link, Stage};
@@ -39,6 +39,16 @@ impl Connections {
     {
         match self.links.get(slot) {
             Some(link) => link.waits.octets(),
+            None => &[],
+        }
+    }
+
+    /// What has come on a slot and was not taken.
+    pub fn held(&self, slot: usize) -> &[u8]
+        ensures { result.now ≡ held_at self.now.links.items slot }
+    {
+        match self.links.get(slot) {
+            Some(link) => link.held.octets(),
             None => &[],
         }
     }

@@ -83,8 +83,8 @@ fn find_slot(
 ) -> Option<usize>
     ensures { IsQuiet table.old table.new }
 {
-    if let Some(slot) = open(table, now) {
-        return Some(slot);
+    if counts.open < doors.len() as u64 {
+        return open(table, now);
     }
     make_room(table, doors, now, counts)
 }

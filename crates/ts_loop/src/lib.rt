@@ -30,15 +30,23 @@
 #![tactic(auto)]
 
 mod accepting;
+mod asking;
+mod carrier;
 mod counts;
 mod door;
 mod fault;
+mod frames;
+mod group;
 mod limits;
+mod line;
+mod pausing;
 mod pumping;
 mod rounds;
 mod serving;
 
 pub use counts::Counts;
 pub use fault::LoopFault;
+pub use group::{Group, PeerAddress};
 pub use limits::Limits;
+pub use pausing::pause;
 pub use serving::serve_all;

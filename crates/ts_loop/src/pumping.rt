@@ -2,6 +2,7 @@
 
 ghost use Rattle.ts_links.specs.Calls.{HasReached};
 
+use crate::carrier::Carrier;
 use crate::door::{Door, PIECE, read_once, shut_if_done, write_once};
 use ts_links::reaching::take_some;
 use ts_links::{Connections, Service, Stage};
@@ -16,6 +17,8 @@ pub(crate) enum Pumped {
     Waits,
     /// It could do more.
     More,
+    /// Its request has to wait for a command that is under way.
+    Held,
     /// Its client has closed it, and all was answered.
     Ended,
     /// It failed.
@@ -55,10 +58,55 @@ fn what_is_left(table: &Connections, door: &Door, slot: usize, taken: u32) -> Pu
     }
 }
 
+/// Takes the first request of a connection, unless it has to wait for a command that is under way.
+/// How many were taken, and whether memory was there.
+fn take_one<S: Service>(
+    table: &mut Connections,
+    service: &mut S,
+    carrier: &mut Carrier,
+    slot: usize,
+    now: u64,
+) -> (u32, bool)
+    requires { S.is_ready service.old }
+    ensures reached { HasReached S.turn service.old table.old service.new table.new }
+    ensures ready { S.is_ready service.new }
+{
+    if carrier.gate.holds_back(table.held(slot)) {
+        return (0, true);
+    }
+    if carrier.gate.begins(table.held(slot)) {
+        carrier.begin(table.held(slot), now);
+    }
+    take_some(table, slot, service, 1, now)
+}
+
+/// Takes requests of a connection, up to one that has to wait. How many, and whether memory was
+/// there.
+fn take_turns<S: Service>(
+    table: &mut Connections,
+    service: &mut S,
+    carrier: &mut Carrier,
+    slot: usize,
+    now: u64,
+) -> (u32, bool)
+    requires { S.is_ready service.old }
+    ensures reached { HasReached S.turn service.old table.old service.new table.new }
+    ensures ready { S.is_ready service.new }
+{
+    for turns in 0..TURNS {
+        let (taken, good) = take_one(table, service, carrier, slot, now);
+        if taken == 0 || !good {
+            return (turns, good);
+        }
+    }
+    (TURNS, true)
+}
+
 /// One read, some turns and one write of a connection. How many requests were taken.
 pub(crate) fn pump<S: Service>(
     table: &mut Connections,
     service: &mut S,
+    carrier: &mut Carrier,
     door: &mut Door,
     slot: usize,
     buffer: &mut [u8; PIECE],
@@ -71,7 +119,7 @@ pub(crate) fn pump<S: Service>(
     if !read_once(table, door, slot, buffer, now) {
         return (0, Pumped::Failed);
     }
-    let (taken, good) = take_some(table, slot, service, TURNS, now);
+    let (taken, good) = take_turns(table, service, carrier, slot, now);
     if !good {
         return (taken, Pumped::Failed);
     }
@@ -79,5 +127,8 @@ pub(crate) fn pump<S: Service>(
         return (taken, Pumped::Failed);
     }
     shut_if_done(table, door, slot);
+    if carrier.gate.holds_back(table.held(slot)) {
+        return (taken, Pumped::Held);
+    }
     (taken, what_is_left(table, door, slot, taken))
 }

@@ -2,6 +2,7 @@
 
 ghost use Rattle.ts_links.specs.Calls.{HasReached, IsQuiet};
 
+use crate::carrier::Carrier;
 use crate::counts::{Counts, Why};
 use crate::door::{Door, PIECE, write_once};
 use crate::pumping::{Pumped, pump};
@@ -12,15 +13,20 @@ use ts_links::{Connections, Deadlines, Service};
 /// The token of the listener. The door of a slot has the slot's number.
 pub(crate) const LISTENER: Token = Token(usize::MAX);
 
+/// The token of the first peer's line. The others follow.
+pub(crate) const PEERS: usize = usize::MAX - 16;
+
 /// How many milliseconds pass until late connections are looked for again.
 const SWEEP: u64 = 100;
 
-/// Marks the doors that have something to do. Whether the listener has.
-pub(crate) fn mark(doors: &mut [Option<Door>], events: &Events) -> bool {
+/// Marks the doors and lines that have something to do. Whether the listener has.
+pub(crate) fn mark(doors: &mut [Option<Door>], carrier: &mut Carrier, events: &Events) -> bool {
     let mut accepts = false;
     for event in events.iter() {
         if event.token() == LISTENER {
             accepts = true;
+        } else if event.token().0 >= PEERS {
+            carrier.mark(event.token().0 - PEERS, event);
         } else if let Some(Some(door)) = doors.get_mut(event.token().0) {
             door.hot = true;
             if event.is_readable() || event.is_read_closed() || event.is_error() {
@@ -62,6 +68,9 @@ fn settle(
     if pumped == Pumped::More {
         return true;
     }
+    if pumped == Pumped::Held {
+        return false;
+    }
     if pumped == Pumped::Waits {
         if let Some(door) = place {
             door.hot = false;
@@ -81,6 +90,7 @@ fn settle(
 fn pump_slot<S: Service>(
     table: &mut Connections,
     service: &mut S,
+    carrier: &mut Carrier,
     place: &mut Option<Door>,
     slot: usize,
     buffer: &mut [u8; PIECE],
@@ -97,7 +107,7 @@ fn pump_slot<S: Service>(
     if !door.hot {
         return false;
     }
-    let (taken, pumped) = pump(table, service, door, slot, buffer, now);
+    let (taken, pumped) = pump(table, service, carrier, door, slot, buffer, now);
     counts.taken = counts.taken.saturating_add(u64::from(taken));
     settle(table, place, slot, pumped, counts)
 }
@@ -106,6 +116,7 @@ fn pump_slot<S: Service>(
 pub(crate) fn pump_all<S: Service>(
     table: &mut Connections,
     service: &mut S,
+    carrier: &mut Carrier,
     doors: &mut [Option<Door>],
     first: usize,
     buffer: &mut [u8; PIECE],
@@ -120,16 +131,18 @@ pub(crate) fn pump_all<S: Service>(
     let mut more = false;
     for step in 0..slots {
         let slot = first.wrapping_add(step) % slots;
-        if pump_slot(table, service, &mut doors[slot], slot, buffer, now, counts) {
+        let place = &mut doors[slot];
+        if pump_slot(table, service, carrier, place, slot, buffer, now, counts) {
             more = true;
         }
     }
     more
 }
 
-/// Closes the connection of a slot if its time is over.
+/// Closes the connection of a slot if its time is over. A request that has to wait is not late.
 fn sweep_slot(
     table: &mut Connections,
+    carrier: &Carrier,
     place: &mut Option<Door>,
     slot: usize,
     deadlines: &Deadlines,
@@ -138,7 +151,7 @@ fn sweep_slot(
 )
     ensures { IsQuiet table.old table.new }
 {
-    if !table.is_late(slot, deadlines, now) {
+    if !table.is_late(slot, deadlines, now) || carrier.gate.holds_back(table.held(slot)) {
         return;
     }
     close_slot(table, place, slot, Why::Late, counts);
@@ -148,6 +161,7 @@ fn sweep_slot(
 /// When it was done last.
 pub(crate) fn sweep(
     table: &mut Connections,
+    carrier: &Carrier,
     doors: &mut [Option<Door>],
     deadlines: &Deadlines,
     swept: u64,
@@ -160,7 +174,7 @@ pub(crate) fn sweep(
         return swept;
     }
     for slot in 0..doors.len() {
-        sweep_slot(table, &mut doors[slot], slot, deadlines, now, counts);
+        sweep_slot(table, carrier, &mut doors[slot], slot, deadlines, now, counts);
     }
     now
 }

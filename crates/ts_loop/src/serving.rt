@@ -10,18 +10,20 @@ ghost use Rattle.ts_links.specs.Calls.{HasReached, IsQuiet};
 ghost use Rattle.ts_links.specs.Turns.{Served};
 
 use crate::accepting::{Accepts, accept_some};
+use crate::carrier::Carrier;
 use crate::counts::Counts;
 use crate::door::{Door, PIECE};
 use crate::fault::LoopFault;
+use crate::group::Group;
 use crate::limits::Limits;
 use crate::rounds::{LISTENER, mark, pump_all, sweep, write_all};
 use mio::net::TcpListener;
 use mio::{Events, Interest, Poll};
 use std::alloc::Global;
 use std::net;
-use std::net::Net;
+use std::net::{Net, ToSocketAddrs};
 use std::rt::Clock;
-use std::time::{Duration, Instant};
+use std::time::{Duration, Instant, SystemTime, UNIX_EPOCH};
 use ts_disk::Disk;
 use ts_links::{Connections, Service};
 use ts_node::Machine;
@@ -42,6 +44,7 @@ struct Edge {
     events: Events,
     listener: TcpListener,
     doors: Vec<Option<Door>>,
+    carrier: Carrier,
     accepts: Accepts,
     counts: Counts,
     start: Instant,
@@ -76,6 +79,33 @@ fn places(alloc: Global, slots: usize) -> Result<Vec<Option<Door>>, LoopFault> {
     Ok(doors)
 }
 
+/// A number that differs from run to run.
+fn seed_of<R: Clock>(rt: &R) -> Option<u64> {
+    let now = SystemTime::now(rt).ok()?;
+    let past = now.duration_since(UNIX_EPOCH).ok()?;
+    Some(past.as_nanos() as u64)
+}
+
+/// The carrier of a group, whose peers' addresses are looked up once.
+fn carrier_of<R: Net + Clock>(rt: &R, alloc: Global, group: &Group) -> Result<Carrier, LoopFault> {
+    let Some(seed) = seed_of(rt) else {
+        return Err(LoopFault::Clock);
+    };
+    let mut carrier = Carrier::new(alloc, group.carries, group.tells, seed);
+    for peer in &group.peers {
+        let Ok(mut found) = peer.address.as_str().to_socket_addrs(rt) else {
+            return Err(LoopFault::Peer(peer.node));
+        };
+        let Some(address) = found.next() else {
+            return Err(LoopFault::Peer(peer.node));
+        };
+        if !carrier.add(peer.node, address) {
+            return Err(LoopFault::Memory);
+        }
+    }
+    Ok(carrier)
+}
+
 impl Edge {
     /// The sockets at the start: the listener alone.
     fn new<R: Net<Listener = net::TcpListener, Stream = net::TcpStream> + Clock>(
@@ -83,6 +113,7 @@ impl Edge {
         alloc: Global,
         address: &str,
         slots: usize,
+        group: &Group,
     ) -> Result<Edge, LoopFault> {
         let mut listener = listener_at(rt, address)?;
         let Ok(poll) = Poll::new(rt) else {
@@ -104,6 +135,7 @@ impl Edge {
             events,
             listener,
             doors: places(alloc, slots)?,
+            carrier: carrier_of(rt, alloc, group)?,
             accepts: Accepts::AtEvent,
             counts: Counts::new(),
             start,
@@ -124,7 +156,7 @@ impl Edge {
             return Err(LoopFault::Clock);
         };
         let now = u64::try_from(elapsed.as_millis()).unwrap_or(u64::MAX);
-        Ok((mark(&mut self.doors, &self.events), now))
+        Ok((mark(&mut self.doors, &mut self.carrier, &self.events), now))
     }
 
     /// Accepts connections, if it is time.
@@ -144,8 +176,25 @@ impl Edge {
         );
     }
 
+    /// Looks after what is carried: what the node has made, and the lines to its peers.
+    fn carry<S: Service, R: Net + Eprint>(
+        &mut self,
+        rt: &R,
+        table: &mut Connections,
+        service: &mut S,
+        buffer: &mut [u8; PIECE],
+        now: u64,
+    )
+        requires { S.is_ready service.old }
+        ensures reached { HasReached S.turn service.old table.old service.new table.new }
+        ensures ready { S.is_ready service.new }
+    {
+        self.carrier.carry(table, service, self.counts.taken, now);
+        self.carrier.tend(rt, self.poll.registry(), buffer, now);
+    }
+
     /// One round. The milliseconds since the start.
-    fn round<S: Service, R: Clock>(
+    fn round<S: Service, R: Net + Clock + Eprint>(
         &mut self,
         rt: &R,
         table: &mut Connections,
@@ -157,12 +206,13 @@ impl Edge {
         ensures reached { HasReached S.turn service.old table.old service.new table.new }
         ensures ready { S.is_ready service.new }
     {
-        let goes_on = self.more || self.accepts == Accepts::Now;
+        let goes_on = self.more || self.carrier.has_more() || self.accepts == Accepts::Now;
         let (event, now) = self.wait(rt, if goes_on { 0 } else { ROUND })?;
         self.accept(table, event, now);
         self.more = pump_all(
             table,
             service,
+            &mut self.carrier,
             &mut self.doors,
             self.first,
             buffer,
@@ -170,8 +220,10 @@ impl Edge {
             &mut self.counts,
         );
         self.first = self.first.wrapping_add(1);
+        self.carry(rt, table, service, buffer, now);
         self.swept = sweep(
             table,
+            &self.carrier,
             &mut self.doors,
             &limits.deadlines(),
             self.swept,
@@ -225,7 +277,7 @@ impl Edge {
     }
 
     /// One round, and how the loop ends after it, if it does.
-    fn step<S: Service, R: Clock>(
+    fn step<S: Service, R: Net + Clock + Eprint>(
         &mut self,
         rt: &R,
         table: &mut Connections,
@@ -244,7 +296,7 @@ impl Edge {
     }
 
     /// Rounds, until so many connections are over or the service has failed.
-    fn serve<S: Service, R: Clock>(
+    fn serve<S: Service, R: Net + Clock + Eprint>(
         &mut self,
         rt: &R,
         table: &mut Connections,
@@ -269,21 +321,24 @@ impl Edge {
 
 /// Serves an address to many connections at once, by one thread: each request is taken in its turn,
 /// and a connection that is slow, silent or reads nothing keeps no other from being answered. A
-/// connection's own fault ends it alone.
+/// connection's own fault ends it alone. Where the group says so messages are carried: the node's
+/// to itself at once, those to peers on a connection to each, which is made again where it breaks.
+/// While a command is under way no other is taken from a client.
 ///
 /// # Errors
 ///
-/// `Listen`, `Poll`, `Clock` and `Memory` where the system gives no listener, events, time or
-/// memory; `NodeFailed` once a device of the node has failed, after what was answered.
+/// `Listen`, `Peer`, `Poll`, `Clock` and `Memory` where the system gives no listener, no address of
+/// a peer, no events, time or memory; `NodeFailed` once a device of the node has failed, after what was answered.
 pub fn serve_all<R, D, M>(
     rt: &R,
     alloc: Global,
     server: &mut Server<D, M>,
     address: &str,
     limits: &Limits,
+    group: &Group,
 ) -> Result<Counts, LoopFault>
 where
-    R: Net<Listener = net::TcpListener, Stream = net::TcpStream> + Clock,
+    R: Net<Listener = net::TcpListener, Stream = net::TcpStream> + Clock + Eprint,
     D: Disk,
     M: Machine<Command, Outcome = Outcome, Question = Question, Answer = Answer>,
     requires { IsSound D.state octets_of M.commands server.old.node }
@@ -293,8 +348,10 @@ where
         (store_of Asked M.client_id M.outcome) M.basis M.is_answer) server.old server.new }
     ensures sound { IsSound D.state octets_of M.commands server.new.node }
 {
-    let mut table = Connections::new(alloc, limits.connections_at_once)?;
-    let mut edge = Edge::new(rt, alloc, address, limits.connections_at_once)?;
+    let slots = limits.connections_at_once;
+    // One slot more is for what the loop asks of its own node.
+    let mut table = Connections::new(alloc, slots.saturating_add(1))?;
+    let mut edge = Edge::new(rt, alloc, address, slots, group)?;
     edge.serve(rt, &mut table, server, limits)?;
     Ok(edge.counts)
 }

@@ -23,6 +23,8 @@ pub enum Fault {
     Busy,
     /// The clock gives no time.
     Clock,
+    /// A command was submitted, and is not known to be chosen.
+    Unknown,
     /// A file is not one whole command or question, or holds no certificate or CRL.
     Field,
     /// A file is longer than a command's certificate or list may be.
@@ -56,6 +58,7 @@ impl fmt::Display for Fault {
             Fault::File => "File",
             Fault::Busy => "Busy",
             Fault::Clock => "Clock",
+            Fault::Unknown => "Unknown",
             Fault::Field => "Field",
             Fault::TooLong => "TooLong",
             Fault::OutOfLimits => "OutOfLimits",

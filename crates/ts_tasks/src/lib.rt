@@ -19,6 +19,7 @@
 
 mod fault;
 mod files;
+mod grouping;
 mod locking;
 mod making;
 mod material;
@@ -27,6 +28,7 @@ mod requests;
 mod running;
 mod upkeep;
 mod verifying;
+mod waiting;
 
 pub use fault::Fault;
 pub use files::{format_files, migrate_files, open_disks, read_file};

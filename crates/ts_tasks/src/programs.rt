@@ -4,6 +4,7 @@ ghost use Rattle.std.specs.Prelude.{◌≤◌};
 
 use crate::fault::Fault;
 use crate::files::{format_files, migrate_files, open_disks, read_all};
+use crate::grouping::{group_of, say_start};
 use crate::locking::RecordLock;
 use std::alloc::Global;
 use std::fs::File;
@@ -14,7 +15,7 @@ use ts_answer::Answers;
 use ts_check::ChosenCheck;
 use ts_cli::ServeWords;
 use ts_disk::Disk;
-use ts_loop::{Limits, LoopFault, serve_all};
+use ts_loop::{Group, Limits, LoopFault, serve_all};
 use ts_node::Node;
 use ts_serve::Server;
 use ts_sig::TableCheck;
@@ -100,6 +101,10 @@ fn fault_of_loop(rt: &impl Eprint, words: &ServeWords, fault: LoopFault) -> Faul
             let _ = eprintln!(rt; "trustd: {address}: can't be listened at; is it in use?");
             Fault::Read
         }
+        LoopFault::Peer(node) => {
+            let _ = eprintln!(rt; "trustd: the address of peer {node} can't be found");
+            Fault::Read
+        }
         LoopFault::Poll => Fault::Read,
         LoopFault::Clock => Fault::Clock,
         LoopFault::Memory => Fault::Memory,
@@ -114,6 +119,7 @@ fn serve_node<D: Disk + Drop, R: Net<Listener = TcpListener, Stream = TcpStream>
     disks: (D, D),
     check: ChosenCheck,
     words: &ServeWords,
+    group: &Group,
 ) -> Result<(), Fault> {
     let (a, b) = disks;
     let node = match Node::open(alloc, a, b, Answers::new(alloc, check)) {
@@ -129,6 +135,7 @@ fn serve_node<D: Disk + Drop, R: Net<Listener = TcpListener, Stream = TcpStream>
         &mut server,
         words.listen.as_str(),
         &limits_of(words),
+        group,
     ) {
         Ok(_) => Ok(()),
         Err(fault) => Err(fault_of_loop(rt, words, fault)),
@@ -137,12 +144,12 @@ fn serve_node<D: Disk + Drop, R: Net<Listener = TcpListener, Stream = TcpStream>
 
 /// Serves the node whose record lies in a file and the one beside it, as the words say. Signatures
 /// are computed; a table adds those that it lists; the stand-in, which is no security, takes their
-/// place.
+/// place. Where peers are named, and in a group of one node, messages are carried.
 ///
 /// # Errors
 ///
 /// `Busy` where another process serves the record; those of files, table, record and address, in
-/// this order; `DiskFailed` where a device of the node failed meanwhile.
+/// this order; `Field` where a peer is no other node of the group; `DiskFailed` where a device of the node failed meanwhile.
 pub fn serve_record<
     R: AllocGlobal
         + Files<File = File>
@@ -158,5 +165,7 @@ pub fn serve_record<
     if words.stand_in {
         let _ = eprintln!(rt; "signatures are the examples' stand-in: anybody can forge them");
     }
-    serve_node(rt, alloc, disks, check, words)
+    let group = group_of(rt, alloc, words)?;
+    say_start(rt, words, &group);
+    serve_node(rt, alloc, disks, check, words, &group)
 }

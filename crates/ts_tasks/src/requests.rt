@@ -4,10 +4,12 @@ ghost use Rattle.std.specs.Prelude.{All};
 
 use crate::fault::Fault;
 use crate::files::read_file;
+use crate::waiting::submit_and_wait;
 use std::alloc::Global;
 use std::io::Print;
 use std::net::Net;
-use std::rt::Files;
+use std::rt::{Clock, Files};
+use std::time::Duration;
 use ts_lab::text::{outcome_text, reply_text};
 use ts_question::Question;
 use ts_serve::{Peer, TcpPeer, carry};
@@ -120,23 +122,48 @@ pub fn server_at<'a, R: Net>(
     Ok(TcpPeer::new(alloc, rt, String::from_str(alloc, address)?))
 }
 
+/// Submits a command to the server at an address, and waits for so many seconds until it is known
+/// to be chosen. The line that says where and what came of it.
+fn submit_for(
+    rt: &(impl Net + Clock + Eprint),
+    alloc: Global,
+    address: &str,
+    command: Command,
+    seconds: u32,
+) -> Result<String, Fault> {
+    let mut server = server_at(rt, alloc, address)?;
+    let longest = Duration::from_secs(seconds as u64);
+    let answer = submit_and_wait(rt, alloc, &mut server, command, longest)?;
+    if !matches!(answer, Frame::Settled { .. }) {
+        let _ = eprintln!(rt; "trustd: not chosen within {seconds} seconds; it may be later");
+        return Err(Fault::Unknown);
+    }
+    submit_line(alloc, &answer)
+}
+
 /// Submits the command that a file holds to the server at an address, and prints what it is
-/// answered.
+/// answered: at once, or after at most so many seconds where it is known to be chosen.
 ///
 /// # Errors
 ///
-/// `Field` where the file is not one whole command; those of the file and of [`submit`].
+/// `Field` where the file is not one whole command; those of the file and of [`submit`]; `Unknown`
+/// where it was waited for, and is not known to be chosen.
 pub fn submit_file(
-    rt: &(impl AllocGlobal + Files + Net + Print + Eprint),
+    rt: &(impl AllocGlobal + Files + Net + Clock + Print + Eprint),
     address: &str,
     file: &str,
+    wait: u32,
 ) -> Result<(), Fault> {
     let alloc = rt.alloc();
     let octets = read_file(rt, alloc, file)?;
     let Some(command) = Command::read(alloc, &octets)? else {
         return Err(Fault::Field);
     };
-    let line = submit(alloc, &mut server_at(rt, alloc, address)?, command)?;
+    let line = if wait == 0 {
+        submit(alloc, &mut server_at(rt, alloc, address)?, command)?
+    } else {
+        submit_for(rt, alloc, address, command, wait)?
+    };
     say(rt, line.as_str())
 }
 

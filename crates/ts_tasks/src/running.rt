@@ -33,7 +33,11 @@ pub fn run<
         Task::Format { file, id, nodes } => format_record(rt, file.as_str(), *id, *nodes),
         Task::Migrate { old, new } => migrate_record(rt, old.as_str(), new.as_str()),
         Task::Serve(words) => serve_record(rt, words),
-        Task::Submit { address, file } => submit_file(rt, address.as_str(), file.as_str()),
+        Task::Submit {
+            address,
+            file,
+            wait,
+        } => submit_file(rt, address.as_str(), file.as_str(), *wait),
         Task::Ask { address, file } => ask_file(rt, address.as_str(), file.as_str()),
         Task::Carry { addresses, rounds } => carry_messages(rt, addresses, *rounds),
         Task::Status { address } => tend_server(rt, address.as_str(), Upkeep::Status),

@@ -99,9 +99,13 @@ with_limits own = with_arguments own
     (option (codes "idle") ∷ option (codes "request") ∷ option (codes "connections-at-once")
     ∷ option (codes "connections") ∷ [])
 
+-- whom messages are carried to, and whether standard error is told what happens
+unfoldable pub with_group : Shape → Shape
+with_group own = with_arguments own (options (codes "peer") ∷ flag (codes "quiet") ∷ [])
+
 unfoldable pub serve : Shape
-serve = with_limits (leaf (codes "serve") (word (codes "file")
-    ∷ needed (option (codes "listen")) ∷ option (codes "table") ∷ flag (codes "stand-in") ∷ []))
+serve = with_limits (with_group (leaf (codes "serve") (word (codes "file")
+    ∷ needed (option (codes "listen")) ∷ option (codes "table") ∷ flag (codes "stand-in") ∷ [])))
 
 -- what path validation is asked beside the certificates
 unfoldable pub with_inputs : Shape → Shape
@@ -118,6 +122,10 @@ verify = with_inputs (leaf (codes "verify") (needed (options (codes "anchor"))
 abbrev pub sending : Text → Shape
 sending name = leaf name (word (codes "address") ∷ word (codes "file") ∷ [])
 
+-- an address and a file, and how long to wait
+unfoldable pub submit : Shape
+submit = with_argument (sending (codes "submit")) (option (codes "wait"))
+
 -- an address
 abbrev pub reaching : Text → Shape
 reaching name = leaf name (word (codes "address") ∷ [])
@@ -133,7 +141,7 @@ named name = leaf name []
 -- the tasks of a node
 unfoldable pub node_tasks : App
 node_tasks = with_tasks (choice (codes "trustd") [] [])
-    (lab ∷ format ∷ migrate ∷ serve ∷ sending (codes "submit") ∷ sending (codes "ask") ∷ carry
+    (lab ∷ format ∷ migrate ∷ serve ∷ submit ∷ sending (codes "ask") ∷ carry
     ∷ [])
 
 -- the tasks of a node's upkeep, after others

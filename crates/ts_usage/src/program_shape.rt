@@ -5,7 +5,9 @@ ghost use Rattle.clap.specs.Simple.{App, Shape, app_of};
 ghost use Rattle.ts_usage.specs.Shapes as shapes;
 ghost use Rattle.ts_usage.specs.Shapes.{IsApp, IsLocal, IsShape};
 
-use crate::arguments::{among, choice, flag, leaf, needed, option, reading, with, word, words};
+use crate::arguments::{
+    among, choice, flag, leaf, needed, option, options, reading, with, word, words,
+};
 use crate::verify_shape::verify;
 use clap::Command;
 use std::alloc::{AllocError, Global};
@@ -59,6 +61,21 @@ fn with_limits<'a>(
     with(all, option(alloc, "connections", "C", help))
 }
 
+/// A command with whom messages are carried to, and whether standard error is told what happens.
+fn with_group<'a>(
+    alloc: Global,
+    own: Result<Command<'a>, AllocError>,
+) -> Result<Command<'a>, AllocError>
+    ensures shape { (shape : Shape) → IfOk own.entry (IsShape shape)
+        → IfOk result (IsShape (shapes.with_group shape)) }
+    ensures local { IfOk own.entry IsLocal → IfOk result IsLocal }
+{
+    let help = "Carry messages to node I at HOST:PORT; once for each other node";
+    let all = with(own, options(alloc, "peer", "I=HOST:PORT", help));
+    let help = "Don't say on standard error which peers are reached and what is chosen";
+    with(all, flag(alloc, "quiet", help))
+}
+
 /// A node is served.
 fn serve<'a>(alloc: Global) -> Result<Command<'a>, AllocError>
     ensures shape { IfOk result (IsShape shapes.serve) }
@@ -74,7 +91,8 @@ fn serve<'a>(alloc: Global) -> Result<Command<'a>, AllocError>
     );
     let listen = needed(option(alloc, "listen", "ADDR", "HOST:PORT to listen at"));
     let command = with(with(command, listen), option(alloc, "table", "FILE", table));
-    with_limits(alloc, with(command, flag(alloc, "stand-in", stand_in)))
+    let command = with(command, flag(alloc, "stand-in", stand_in));
+    with_limits(alloc, with_group(alloc, command))
 }
 
 /// A command with an address and a file.
@@ -90,6 +108,17 @@ fn sending<'a>(
     let address = word(alloc, "address", "ADDR", "HOST:PORT of the node");
     let file = word(alloc, "file", "FILE", help);
     with(with(leaf(alloc, name, about), address), file)
+}
+
+/// A command is handed to a node.
+fn submit<'a>(alloc: Global) -> Result<Command<'a>, AllocError>
+    ensures shape { IfOk result (IsShape shapes.submit) }
+    ensures local { IfOk result IsLocal }
+{
+    let what = "Hands a command to a node";
+    let command = sending(alloc, "submit", what, "An encoded command");
+    let help = "Wait so many seconds, 1 to 3600, until it is known to be chosen";
+    with(command, option(alloc, "wait", "SECONDS", help))
 }
 
 /// A command with an address.
@@ -142,11 +171,7 @@ fn node_tasks<'a>(alloc: Global) -> Result<Command<'a>, AllocError>
     let program = among(program, format(alloc));
     let program = among(program, migrate(alloc));
     let program = among(program, serve(alloc));
-    let what = "Hands a command to a node";
-    let program = among(
-        program,
-        sending(alloc, "submit", what, "An encoded command"),
-    );
+    let program = among(program, submit(alloc));
     let what = "Asks a node a question";
     let program = among(program, sending(alloc, "ask", what, "An encoded question"));
     among(program, carry(alloc))

@@ -8,6 +8,6 @@ returns c =
     let format = c.among-program-2.ensures _ _ lab c.format.ensures.shape in
     let migrate = c.among-program-3.ensures _ _ format c.migrate.ensures.shape in
     let serve = c.among-program-4.ensures _ _ migrate c.serve.ensures.shape in
-    let submit = c.among-program-5.ensures _ _ serve c.sending.ensures.shape in
-    let ask = c.among-program-6.ensures _ _ submit c.sending-2.ensures.shape in
+    let submit = c.among-program-5.ensures _ _ serve c.submit.ensures.shape in
+    let ask = c.among-program-6.ensures _ _ submit c.sending.ensures.shape in
     c.among.ensures _ _ ask c.carry.ensures.shape

@@ -1,0 +1,39 @@
+-- The command of a client that is under way. Moments are milliseconds.
+use Rattle.std.specs.Prelude.{◌≡◌, ◌≢◌, ℕ, Bool, true, false, List, [], ◌∷◌, ◌+◌, ◌*◌, ◌%◌, ◌^◌}
+use Rattle.std.specs.Prelude.{◌-◌, min, nat_eq, nat_le, Option, None, Some, if◌then◌else◌}
+use Rattle.ts_carrier.specs.declared.gate.Gate.{Gate}
+use Rattle.ts_carrier.specs.declared.gate.Wanted.{Wanted}
+
+-- a frame that submits a command begins here: its kind, 10, follows length and version
+abbrev pub is_submit : List ℕ → Bool
+is_submit (a ∷ b ∷ c ∷ d ∷ version ∷ kind ∷ fields) = nat_eq kind 0x10
+is_submit other = false
+
+-- a frame has to wait: it submits a command while another one is under way
+abbrev pub IsHeldBack : Gate → List ℕ → Type 0
+IsHeldBack gate held = (gate.wanted ≢ None) × (is_submit held ≡ true)
+
+-- how long to wait for a command that was proposed so often: a quarter of a second, twice as long
+-- each time, up to two seconds
+abbrev pub patience : ℕ → ℕ
+patience tries = if nat_eq tries 1 then 250 else
+    (if nat_eq tries 2 then 500 else (if nat_eq tries 3 then 1000 else 2000))
+
+-- it is proposed again after that, and by chance up to as long again
+abbrev pub again_after : ℕ → ℕ → ℕ → ℕ
+again_after tries now chance =
+    min (min (now + patience tries) (2 ^ 64 - 1) + chance % patience tries) (2 ^ 64 - 1)
+
+-- the frame of the command, where it is time to propose it again
+abbrev pub due : Option Wanted → ℕ → Option (List ℕ)
+due None now = None
+due (Some wanted) now = if nat_le wanted.again now then Some wanted.frame.items else None
+
+-- after it was proposed once more: it is given up after the fifth time
+abbrev pub after_try : Option Wanted → ℕ → ℕ → Option Wanted
+after_try None now chance = None
+after_try (Some wanted) now chance = if nat_le 5 wanted.tries then None else Some (record {
+  frame = wanted.frame;
+  tries = wanted.tries + 1;
+  again = again_after (wanted.tries + 1) now chance;
+})

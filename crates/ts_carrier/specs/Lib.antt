@@ -1,0 +1,3 @@
+pub mod Dial
+pub mod Gate
+pub mod Mailbox

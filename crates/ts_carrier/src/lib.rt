@@ -1,0 +1,45 @@
+//! What a node's carrier keeps, as values: the frames that wait to be sent to a peer, when to connect
+//! to it, and the command of a client that is under way. No socket is in it; moments, in
+//! milliseconds, and chances are arguments.
+//!
+//! ```text
+//! let mut mailbox = Mailbox::new(alloc);
+//! mailbox.put(frame)?;                      // above 256 frames the oldest goes
+//! mailbox.fill()?;
+//! let count = stream.write(mailbox.octets())?;
+//! mailbox.sent(count);
+//!
+//! let mut dial = Dial::new();
+//! if dial.is_due(now) { dial.begin(now); }  // connect
+//! dial.reach(now);                          // or dial.lose(now, chance): wait longer each time
+//!
+//! let mut gate = Gate::new();
+//! if !gate.holds_back(held) { .. }          // a Submit waits while another one is under way
+//! ```
+//!
+//! What is proved:
+//!
+//! - [`Mailbox`]: `put`: the frame is behind the others, of which the first has gone where there
+//!   were 256; `fill`: no octet is lost, doubled or moved; `sent`: so many have gone at the front;
+//!   `cut`: what was being sent has gone, and whole frames stay.
+//!   frames that were put, in their order, until it breaks ([`laws::carries_what_was_put`]).
+//! - [`Dial`]: each call leaves the state of `specs/Dial`: the next try is after the delay and at
+//!   most half of it more; the delay is 50 ms, doubled at each failure up to 5 s, and 50 ms again
+//!   after a connection that lasted a second.
+//! - [`Gate`]: `holds_back`: exactly where a command is under way and the octets are those of a
+//!   Submit; `due`, `tried`: when the command is proposed again, and that it is given up after the
+//!   fifth time (`specs/Gate`).
+//!
+//! # Not promised
+//!
+//! That anything is sent, or when: that is the loop's part (`ts_loop`). Chances are whatever the
+//! caller gives.
+#![tactic(auto)]
+
+mod dial;
+mod gate;
+mod mailbox;
+
+pub use dial::{Dial, FIRST_DELAY, LONGEST_DELAY, Phase};
+pub use gate::{Gate, TRIES, Wanted};
+pub use mailbox::{MAX_FRAMES, Mailbox};

@@ -1,0 +1,333 @@
+//! What a loop carries: the node's messages to itself, which it is handed at once, and those to its
+//! peers, which wait on a line each.
+
+ghost use Rattle.ts_links.specs.Calls.{HasReached};
+
+use crate::asking::ask;
+use crate::door::PIECE;
+use crate::frames::{is_settled, messages_in, octets_of, outcome_of, prefix_of};
+use crate::line::{Change, Line};
+use crate::rounds::PEERS;
+use mio::event::Event;
+use mio::{Registry, Token};
+use rand_core::{Rng, SeedableRng};
+use rand_xoshiro::SplitMix64;
+use std::alloc::Global;
+use std::net::{Net, SocketAddr};
+use ts_carrier::Gate;
+use ts_links::{Connections, Service};
+use ts_wire::Frame;
+
+/// The frame Take, by which a node is asked for the messages that wait.
+const TAKE: [u8; 6] = [0, 0, 0, 2, 2, 0x12];
+
+/// The frame CatchUp, by which a node is told to ask others for what it lacks.
+const CATCH_UP: [u8; 6] = [0, 0, 0, 2, 2, 0x14];
+
+/// The frame Status, by which a node is asked how many commands it knows.
+const STATUS: [u8; 6] = [0, 0, 0, 2, 2, 0x15];
+
+/// How often in a round a node is handed the messages to itself that it made last.
+const STEPS: u32 = 64;
+
+/// How many milliseconds pass until a node that is behind is told again to catch up, if it has not
+/// learned anything.
+const BEHIND: u64 = 500;
+
+/// What a loop carries.
+#[derive(Drop)]
+pub(crate) struct Carrier {
+    alloc: Global,
+    /// Whether messages are carried at all.
+    carries: bool,
+    /// Whether standard error is told what happens.
+    tells: bool,
+    lines: Vec<Line>,
+    /// The command of a client that is under way.
+    pub gate: Gate,
+    /// How many commands the node knows.
+    pub prefix: u32,
+    /// When it learned one last, or was told to catch up.
+    grown: u64,
+    /// How many requests clients had made when it was last looked after.
+    taken: u64,
+    /// There is more to do at once.
+    more: bool,
+    chances: SplitMix64,
+}
+
+impl Carrier {
+    /// A carrier without peers. `seed` is any number.
+    pub fn new(alloc: Global, carries: bool, tells: bool, seed: u64) -> Carrier {
+        Carrier {
+            alloc,
+            carries,
+            tells,
+            lines: Vec::new(alloc),
+            gate: Gate::new(),
+            prefix: 0,
+            grown: 0,
+            taken: 0,
+            more: carries,
+            chances: SplitMix64::seed_from_u64(seed),
+        }
+    }
+
+    /// Adds the line to a peer.
+    pub fn add(&mut self, node: u8, address: SocketAddr) -> bool {
+        self.lines
+            .push(Line::new(self.alloc, node, address))
+            .is_ok()
+    }
+
+    /// An event of a line.
+    pub fn mark(&mut self, place: usize, event: &Event) {
+        if let Some(line) = self.lines.get_mut(place) {
+            line.mark(event);
+        }
+    }
+
+    /// A client's command is taken by this frame.
+    pub fn begin(&mut self, held: &[u8], now: u64) {
+        if !self.carries {
+            return;
+        }
+        if let Some(frame) = frame_at(self.alloc, held) {
+            let chance = self.chances.next_u64();
+            self.gate.begin(frame, now, chance);
+        }
+    }
+
+    /// Puts a message on the line to its node. Without one it is lost.
+    fn hand_on(&mut self, node: u8, frame: Vec<u8>) {
+        for line in self.lines.iter_mut() {
+            if line.node == node {
+                line.put(frame);
+                return;
+            }
+        }
+    }
+
+    /// Takes the messages that wait at the node. Those to itself are given, in their frames; the
+    /// others wait on their lines then.
+    fn sort(&mut self, given: &[u8]) -> Vec<Vec<u8>> {
+        let mut own = Vec::new(self.alloc);
+        for message in messages_in(self.alloc, given) {
+            let (from, to) = (message.from, message.to);
+            let Some(frame) = octets_of(self.alloc, &Frame::Peer(message)) else {
+                continue;
+            };
+            if from == to {
+                let _pushed = own.push(frame);
+            } else {
+                self.hand_on(to, frame);
+            }
+        }
+        own
+    }
+}
+
+/// The frame that begins here, if it is whole.
+fn frame_at(alloc: Global, held: &[u8]) -> Option<Vec<u8>> {
+    let (head, _) = held.split_first_chunk::<4>()?;
+    let end = 4 + u32::from_be_bytes(*head) as usize;
+    Vec::from_slice(alloc, held.get(..end)?).ok()
+}
+
+/// Hands a node these messages, one after another.
+fn deliver<S: Service>(
+    table: &mut Connections,
+    service: &mut S,
+    alloc: Global,
+    frames: &[Vec<u8>],
+    now: u64,
+)
+    requires { S.is_ready service.old }
+    ensures reached { HasReached S.turn service.old table.old service.new table.new }
+    ensures ready { S.is_ready service.new }
+{
+    for frame in frames {
+        let _answer = ask(table, service, alloc, frame, now);
+    }
+}
+
+impl Carrier {
+    /// Takes the node's messages once, and hands it those to itself. Whether there were some.
+    fn take_once<S: Service>(
+        &mut self,
+        table: &mut Connections,
+        service: &mut S,
+        now: u64,
+    ) -> bool
+        requires { S.is_ready service.old }
+        ensures reached { HasReached S.turn service.old table.old service.new table.new }
+        ensures ready { S.is_ready service.new }
+    {
+        let Some(given) = ask(table, service, self.alloc, &TAKE, now) else {
+            return false;
+        };
+        let own = self.sort(&given);
+        deliver(table, service, self.alloc, &own, now);
+        !own.is_empty()
+    }
+
+    /// Takes the node's messages, and hands it those to itself, until it makes no more of them.
+    fn take_all<S: Service>(&mut self, table: &mut Connections, service: &mut S, now: u64)
+        requires { S.is_ready service.old }
+        ensures reached { HasReached S.turn service.old table.old service.new table.new }
+        ensures ready { S.is_ready service.new }
+    {
+        for _step in 0..STEPS {
+            if !self.take_once(table, service, now) {
+                return;
+            }
+        }
+        self.more = true;
+    }
+
+    /// Asks the node how many commands it knows.
+    fn look<S: Service>(&mut self, table: &mut Connections, service: &mut S, now: u64)
+        requires { S.is_ready service.old }
+        ensures reached { HasReached S.turn service.old table.old service.new table.new }
+        ensures ready { S.is_ready service.new }
+    {
+        let Some(answer) = ask(table, service, self.alloc, &STATUS, now) else {
+            return;
+        };
+        if let Some(prefix) = prefix_of(self.alloc, &answer) {
+            if prefix > self.prefix {
+                self.prefix = prefix;
+                self.grown = now;
+            }
+        }
+    }
+
+    /// Whether the command that is under way is known to be chosen, or can't be asked for.
+    fn is_over<S: Service>(&self, table: &mut Connections, service: &mut S, now: u64) -> bool
+        requires { S.is_ready service.old }
+        ensures reached { HasReached S.turn service.old table.old service.new table.new }
+        ensures ready { S.is_ready service.new }
+    {
+        let Some(wanted) = self.gate.wanted() else {
+            return false;
+        };
+        let Some(request) = outcome_of(self.alloc, &wanted.frame) else {
+            return true;
+        };
+        match ask(table, service, self.alloc, &request, now) {
+            Some(answer) => is_settled(self.alloc, &answer),
+            None => false,
+        }
+    }
+
+    /// Proposes the command that is under way again, if it is time.
+    fn propose_again<S: Service>(&mut self, table: &mut Connections, service: &mut S, now: u64)
+        requires { S.is_ready service.old }
+        ensures reached { HasReached S.turn service.old table.old service.new table.new }
+        ensures ready { S.is_ready service.new }
+    {
+        let Some(frame) = self.gate.due(now) else {
+            return;
+        };
+        let _answer = ask(table, service, self.alloc, frame, now);
+        let chance = self.chances.next_u64();
+        self.gate.tried(now, chance);
+        self.more = true;
+    }
+
+    /// Looks after the command that is under way: it may be chosen, or its round may be lost.
+    fn follow<S: Service>(&mut self, table: &mut Connections, service: &mut S, now: u64)
+        requires { S.is_ready service.old }
+        ensures reached { HasReached S.turn service.old table.old service.new table.new }
+        ensures ready { S.is_ready service.new }
+    {
+        if self.is_over(table, service, now) {
+            self.gate.end();
+            self.more = true;
+            return;
+        }
+        self.propose_again(table, service, now);
+    }
+
+    /// Whether a peer knows more commands, and none was learned for a while.
+    fn is_behind(&self, now: u64) -> bool {
+        now.saturating_sub(self.grown) >= BEHIND
+            && self.lines.iter().any(|line| line.prefix > self.prefix)
+    }
+
+    /// Tells the node to catch up, if it is behind.
+    fn catch_up<S: Service>(&mut self, table: &mut Connections, service: &mut S, now: u64)
+        requires { S.is_ready service.old }
+        ensures reached { HasReached S.turn service.old table.old service.new table.new }
+        ensures ready { S.is_ready service.new }
+    {
+        if !self.is_behind(now) {
+            return;
+        }
+        let _answer = ask(table, service, self.alloc, &CATCH_UP, now);
+        self.grown = now;
+        self.more = true;
+    }
+
+    /// Whether there is something to carry, or to look after, once clients have made so many
+    /// requests.
+    fn has_work(&self, taken: u64, now: u64) -> bool {
+        self.more || taken != self.taken || self.gate.due(now).is_some() || self.is_behind(now)
+    }
+
+    /// Carries what the node has made, and looks after the command that is under way.
+    pub fn carry<S: Service>(
+        &mut self,
+        table: &mut Connections,
+        service: &mut S,
+        taken: u64,
+        now: u64,
+    )
+        requires { S.is_ready service.old }
+        ensures reached { HasReached S.turn service.old table.old service.new table.new }
+        ensures ready { S.is_ready service.new }
+    {
+        if !self.carries || !self.has_work(taken, now) {
+            return;
+        }
+        self.taken = taken;
+        self.more = false;
+        self.take_all(table, service, now);
+        self.look(table, service, now);
+        self.follow(table, service, now);
+        self.catch_up(table, service, now);
+    }
+
+    /// Whether there is more to carry at once.
+    pub fn has_more(&self) -> bool {
+        self.more
+    }
+
+    /// One round of the lines to the peers. Standard error is told of those reached and lost.
+    pub fn tend<R: Net + Eprint>(
+        &mut self,
+        rt: &R,
+        registry: &Registry,
+        buffer: &mut [u8; PIECE],
+        now: u64,
+    ) {
+        for place in 0..self.lines.len() {
+            let chance = self.chances.next_u64();
+            let line = &mut self.lines[place];
+            let token = Token(PEERS.saturating_add(place));
+            let change = line.tend(rt, registry, token, buffer, now, chance);
+            if self.tells {
+                tell(rt, line.node, change);
+            }
+        }
+    }
+}
+
+/// Tells standard error what became of a peer.
+fn tell(rt: &impl Eprint, node: u8, change: Change) {
+    let _told = match change {
+        Change::None => Ok(()),
+        Change::Reached => eprintln!(rt; "trustd: peer {node} is reached"),
+        Change::Lost => eprintln!(rt; "trustd: peer {node} is lost"),
+    };
+}

@@ -1,0 +1,56 @@
+//! The frames that a carrier writes and reads.
+
+use std::alloc::Global;
+use ts_store::Command;
+use ts_synod::Message;
+use ts_wire::{Feed, Frame, write_frame};
+
+/// The octets of a frame. `None` where memory is refused, or it would be too long.
+pub(crate) fn octets_of(alloc: Global, frame: &Frame) -> Option<Vec<u8>> {
+    let mut octets = Vec::new(alloc);
+    write_frame(alloc, &mut octets, frame).ok()?;
+    Some(octets)
+}
+
+/// The first frame of octets, if it is whole.
+pub(crate) fn first_of(alloc: Global, octets: &[u8]) -> Option<Frame> {
+    let mut feed = Feed::new(alloc);
+    feed.push(octets).ok()?;
+    feed.take().ok()?
+}
+
+/// The messages among the frames that octets are, up to the first that can't be read.
+pub(crate) fn messages_in(alloc: Global, octets: &[u8]) -> Vec<Message<Command>> {
+    let mut messages = Vec::new(alloc);
+    let mut feed = Feed::new(alloc);
+    if feed.push(octets).is_err() {
+        return messages;
+    }
+    while let Ok(Some(frame)) = feed.take() {
+        if let Frame::Peer(message) = frame {
+            let _pushed = messages.push(message);
+        }
+    }
+    messages
+}
+
+/// How many commands the answer to Status says are known.
+pub(crate) fn prefix_of(alloc: Global, answer: &[u8]) -> Option<u32> {
+    match first_of(alloc, answer)? {
+        Frame::Prefix { prefix } => Some(prefix),
+        _ => None,
+    }
+}
+
+/// The question what became of the command that a frame submits.
+pub(crate) fn outcome_of(alloc: Global, submit: &[u8]) -> Option<Vec<u8>> {
+    let Frame::Submit { command } = first_of(alloc, submit)? else {
+        return None;
+    };
+    octets_of(alloc, &Frame::Outcome { id: command.id() })
+}
+
+/// Whether an answer says that a command is at a position.
+pub(crate) fn is_settled(alloc: Global, answer: &[u8]) -> bool {
+    matches!(first_of(alloc, answer), Some(Frame::Settled { .. }))
+}

@@ -1,0 +1,282 @@
+//! The line to a peer: a connection that is made, used and made again.
+
+ghost use Rattle.std.specs.Prelude.{◌≤◌, IfSome};
+
+use crate::door::PIECE;
+use mio::event::Event;
+use mio::net::TcpStream;
+use mio::{Interest, Registry, Token};
+use std::alloc::Global;
+use std::io::{ErrorKind, Read, Write};
+use std::net::{Net, SocketAddr};
+use ts_carrier::{Dial, Mailbox, Phase};
+use ts_wire::{Feed, Frame};
+
+/// The frame Status, by which a peer is asked how many commands it knows.
+const STATUS: [u8; 6] = [0, 0, 0, 2, 2, 0x15];
+
+/// How many milliseconds pass until a peer is asked again how many commands it knows.
+const BEAT: u64 = 1_000;
+
+/// How many milliseconds a connection may take to be made, and a peer to answer.
+const SILENCE: u64 = 5_000;
+
+/// The most reads and writes of a line in one round.
+const CALLS: u32 = 16;
+
+/// What became of a line in a round.
+#[derive(Clone, Copy, Debug, PartialEq, Eq)]
+pub(crate) enum Change {
+    /// Nothing that anybody has to be told.
+    None,
+    /// The peer was reached.
+    Reached,
+    /// The peer was lost.
+    Lost,
+}
+
+/// The line to a peer.
+#[derive(Drop)]
+pub(crate) struct Line {
+    alloc: Global,
+    /// The number of the peer.
+    pub node: u8,
+    address: SocketAddr,
+    mailbox: Mailbox,
+    dial: Dial,
+    stream: Option<TcpStream>,
+    answers: Feed,
+    readable: bool,
+    writable: bool,
+    /// When the peer was last asked how many commands it knows.
+    asked: u64,
+    /// When something was last heard of it.
+    heard: u64,
+    /// How many commands it has said that it knows.
+    pub prefix: u32,
+    /// How many messages to it were dropped.
+    pub dropped: u64,
+}
+
+impl Line {
+    /// The line to a peer, which is down.
+    pub fn new(alloc: Global, node: u8, address: SocketAddr) -> Line {
+        Line {
+            alloc,
+            node,
+            address,
+            mailbox: Mailbox::new(alloc),
+            dial: Dial::new(),
+            stream: None,
+            answers: Feed::new(alloc),
+            readable: false,
+            writable: false,
+            asked: 0,
+            heard: 0,
+            prefix: 0,
+            dropped: 0,
+        }
+    }
+
+    /// Puts a frame behind those that wait for the peer.
+    pub fn put(&mut self, frame: Vec<u8>) {
+        match self.mailbox.put(frame) {
+            Ok(false) => {}
+            Ok(true) | Err(_) => self.dropped = self.dropped.saturating_add(1),
+        }
+    }
+
+    /// An event of its socket.
+    pub fn mark(&mut self, event: &Event) {
+        if event.is_readable() || event.is_read_closed() || event.is_error() {
+            self.readable = true;
+        }
+        if event.is_writable() || event.is_write_closed() || event.is_error() {
+            self.writable = true;
+        }
+    }
+
+    /// The connection is lost, or was not made.
+    fn lose(&mut self, now: u64, chance: u64) -> Change {
+        let was_up = matches!(self.dial.phase, Phase::Up { .. });
+        self.stream = None;
+        self.mailbox.cut();
+        self.answers = Feed::new(self.alloc);
+        self.dial.lose(now, chance);
+        if was_up { Change::Lost } else { Change::None }
+    }
+
+    /// Begins to connect.
+    fn dial<N: Net>(
+        &mut self,
+        net: &N,
+        registry: &Registry,
+        token: Token,
+        now: u64,
+        chance: u64,
+    ) -> Change {
+        self.dial.begin(now);
+        self.readable = false;
+        self.writable = false;
+        let both = Interest::READABLE | Interest::WRITABLE;
+        let Ok(mut stream) = TcpStream::connect(net, self.address) else {
+            return self.lose(now, chance);
+        };
+        if registry.register(&mut stream, token, both).is_err() {
+            return self.lose(now, chance);
+        }
+        self.stream = Some(stream);
+        Change::None
+    }
+
+    /// Whether the connection that is being made is there.
+    fn is_made(&self) -> bool {
+        let Some(stream) = &self.stream else {
+            return false;
+        };
+        let _nodelay = stream.set_nodelay(true);
+        matches!(stream.take_error(), Ok(None)) && stream.peer_addr().is_ok()
+    }
+
+    /// Looks after a connection that is being made.
+    fn finish(&mut self, since: u64, now: u64, chance: u64) -> Change {
+        if !self.writable {
+            if now.saturating_sub(since) < SILENCE {
+                return Change::None;
+            }
+            return self.lose(now, chance);
+        }
+        if !self.is_made() {
+            return self.lose(now, chance);
+        }
+        self.dial.reach(now);
+        self.heard = now;
+        self.ask_prefix(now);
+        Change::Reached
+    }
+
+    /// Asks the peer how many commands it knows.
+    fn ask_prefix(&mut self, now: u64) {
+        self.asked = now;
+        if let Ok(frame) = Vec::from_slice(self.alloc, &STATUS) {
+            self.put(frame);
+        }
+    }
+
+    /// Reads once. How many octets came, and `None` where the connection is over.
+    fn read_once(&mut self, buffer: &mut [u8; PIECE]) -> Option<usize>
+        ensures { IfSome result (λ count. count ≤ 16384) }
+    {
+        let stream = self.stream.as_mut()?;
+        match stream.read(buffer) {
+            Ok(0) => None,
+            Ok(count) => Some(count),
+            Err(error) if error.kind() == ErrorKind::WouldBlock => {
+                self.readable = false;
+                Some(0)
+            }
+            Err(error) if error.kind() == ErrorKind::Interrupted => Some(0),
+            Err(_) => None,
+        }
+    }
+
+    /// Takes the answers that are whole. `false` where one is none that a node gives to a message.
+    fn take_answers(&mut self, octets: &[u8]) -> bool {
+        if self.answers.push(octets).is_err() {
+            return false;
+        }
+        loop {
+            match self.answers.take() {
+                Ok(Some(Frame::Prefix { prefix })) => self.prefix = prefix,
+                Ok(Some(Frame::Done { .. } | Frame::NodeFault { .. })) => {}
+                Ok(None) => return true,
+                Ok(Some(_)) | Err(_) => return false,
+            }
+        }
+    }
+
+    /// Reads what has come. `false` where the connection is over.
+    fn read_all(&mut self, buffer: &mut [u8; PIECE], now: u64) -> bool {
+        for _read in 0..CALLS {
+            if !self.readable {
+                return true;
+            }
+            let Some(count) = self.read_once(buffer) else {
+                return false;
+            };
+            if count > 0 {
+                self.heard = now;
+                if !self.take_answers(&buffer[..count]) {
+                    return false;
+                }
+            }
+        }
+        true
+    }
+
+    /// Writes once. `false` where the connection is over.
+    fn write_once(&mut self) -> bool {
+        let Some(stream) = &mut self.stream else {
+            return false;
+        };
+        match stream.write(self.mailbox.octets()) {
+            Ok(count) => {
+                self.mailbox.sent(count);
+                true
+            }
+            Err(error) if error.kind() == ErrorKind::WouldBlock => {
+                self.writable = false;
+                true
+            }
+            Err(error) => error.kind() == ErrorKind::Interrupted,
+        }
+    }
+
+    /// Writes what waits. `false` where the connection is over.
+    fn write_all(&mut self) -> bool {
+        for _write in 0..CALLS {
+            if self.mailbox.fill().is_err() {
+                return false;
+            }
+            if !self.writable || self.mailbox.octets().is_empty() {
+                return true;
+            }
+            if !self.write_once() {
+                return false;
+            }
+        }
+        true
+    }
+
+    /// Looks after a connection that is there.
+    fn exchange(&mut self, buffer: &mut [u8; PIECE], now: u64, chance: u64) -> Change {
+        if now.saturating_sub(self.asked) >= BEAT && self.heard >= self.asked {
+            self.ask_prefix(now);
+        }
+        let is_silent = now.saturating_sub(self.heard) >= SILENCE;
+        if is_silent || !self.read_all(buffer, now) || !self.write_all() {
+            return self.lose(now, chance);
+        }
+        Change::None
+    }
+
+    /// One round of the line: it is dialed, looked after, read and written. `chance` is any number.
+    pub fn tend<N: Net>(
+        &mut self,
+        net: &N,
+        registry: &Registry,
+        token: Token,
+        buffer: &mut [u8; PIECE],
+        now: u64,
+        chance: u64,
+    ) -> Change {
+        match self.dial.phase {
+            Phase::Down { .. } if self.dial.is_due(now) => {
+                self.dial(net, registry, token, now, chance)
+            }
+            Phase::Down { .. } => Change::None,
+            Phase::Dialing { since } => self.finish(since, now, chance),
+            Phase::Up { .. } => self.exchange(buffer, now, chance),
+        }
+    }
+}

@@ -1,0 +1,83 @@
+//! The group that a node is served in.
+
+use crate::fault::Fault;
+use crate::files::fault_of;
+use std::alloc::Global;
+use std::fs;
+use std::io::Read;
+use std::rt::Files;
+use ts_cli::{ServeWords, peer_of};
+use ts_loop::{Group, PeerAddress};
+
+/// Where a record's header has the number of its node, and behind it how many nodes there are.
+const NODE: usize = 8;
+
+/// What a record's header says of its node.
+#[derive(Clone, Copy, Debug, PartialEq, Eq)]
+struct Member {
+    node: u8,
+    nodes: u8,
+}
+
+/// The node that a record's header names. Whether it is a header, opening the record says.
+fn member_of<R: Files + Eprint>(rt: &R, path: &str) -> Result<Member, Fault> {
+    let mut file = match fs::open(rt, path) {
+        Ok(file) => file,
+        Err(error) => return Err(fault_of(rt, path, &error)),
+    };
+    let mut head = [0u8; NODE + 2];
+    match file.read_exact(&mut head) {
+        Ok(()) => Ok(Member {
+            node: head[NODE],
+            nodes: head[NODE + 1],
+        }),
+        Err(_) => Err(Fault::Record(ts_record::Fault::NotFormatted)),
+    }
+}
+
+/// Whether a peer of this number may be added: it is another node of the group, and is not there yet.
+fn may_be_added(peers: &[PeerAddress], member: Member, node: u8) -> bool {
+    node != member.node && node <= member.nodes && peers.iter().all(|peer| peer.node != node)
+}
+
+/// The group that the words name, of the node that the record names.
+///
+/// # Errors
+///
+/// `Field` where a peer is named twice, or is no other node of the group; those of the record's
+/// file; `Memory`.
+pub(crate) fn group_of<R: Files + Eprint>(
+    rt: &R,
+    alloc: Global,
+    words: &ServeWords,
+) -> Result<Group, Fault> {
+    let member = member_of(rt, words.file.as_str())?;
+    let mut peers = Vec::new(alloc);
+    for text in &words.peers {
+        let Some((node, address)) = peer_of(text.as_str()) else {
+            return Err(Fault::Field);
+        };
+        if !may_be_added(&peers, member, node) {
+            let (own, nodes) = (member.node, member.nodes);
+            let _ = eprintln!(rt; "trustd: peer {node} is no other node than {own} of {nodes}");
+            return Err(Fault::Field);
+        }
+        let address = String::from_str(alloc, address)?;
+        peers.push(PeerAddress { node, address })?;
+    }
+    Ok(Group {
+        carries: member.nodes == 1 || !peers.is_empty(),
+        peers,
+        tells: !words.quiet,
+    })
+}
+
+/// Says on standard error what is served, unless that is not wanted.
+pub(crate) fn say_start(rt: &impl Eprint, words: &ServeWords, group: &Group) {
+    if words.quiet {
+        return;
+    }
+    let (file, listen) = (words.file.as_str(), words.listen.as_str());
+    let peers = group.peers.len();
+    let _ = eprintln!(rt; "trustd: serves {file} at {listen}, {peers} peers");
+}
