@@ -1,5 +1,5 @@
 -- The command of a client that is under way. Moments are milliseconds.
-use Rattle.std.specs.Prelude.{◌≡◌, ◌≢◌, ℕ, Bool, true, false, List, [], ◌∷◌, ◌+◌, ◌*◌, ◌%◌, ◌^◌}
+use Rattle.std.specs.Prelude.{◌≡◌, ◌≢◌, ℕ, Bool, true, false, List, ◌∷◌, ◌+◌, ◌%◌, ◌^◌}
 use Rattle.std.specs.Prelude.{◌-◌, min, nat_eq, nat_le, Option, None, Some, if◌then◌else◌}
 use Rattle.ts_carrier.specs.declared.gate.Gate.{Gate}
 use Rattle.ts_carrier.specs.declared.gate.Wanted.{Wanted}
@@ -29,11 +29,21 @@ abbrev pub due : Option Wanted → ℕ → Option (List ℕ)
 due None now = None
 due (Some wanted) now = if nat_le wanted.again now then Some wanted.frame.items else None
 
--- after it was proposed once more: it is given up after the fifth time
+-- a round of it was refused: it is proposed again within 10 to 110 milliseconds
+abbrev pub hurried : Option Wanted → ℕ → ℕ → Option Wanted
+hurried None now chance = None
+hurried (Some wanted) now chance = Some (record wanted {
+  again = min wanted.again
+      (min (min (now + 10) (2 ^ 64 - 1) + chance % 100) (2 ^ 64 - 1));
+})
+
+-- after it was proposed once more: it is given up after ten seconds
 abbrev pub after_try : Option Wanted → ℕ → ℕ → Option Wanted
 after_try None now chance = None
-after_try (Some wanted) now chance = if nat_le 5 wanted.tries then None else Some (record {
-  frame = wanted.frame;
-  tries = wanted.tries + 1;
-  again = again_after (wanted.tries + 1) now chance;
-})
+after_try (Some wanted) now chance = if nat_le 10000 (now - wanted.since) then None
+    else Some (record {
+      frame = wanted.frame;
+      since = wanted.since;
+      tries = min (wanted.tries + 1) (2 ^ 32 - 1);
+      again = again_after (min (wanted.tries + 1) (2 ^ 32 - 1)) now chance;
+    })

@@ -1,7 +1,6 @@
 -- Frames that wait to be sent to a peer.
 use Rattle.std.specs.Prelude.{ℕ, List, [], ◌∷◌, ◌++◌, length, drop, nat_le, if◌then◌else◌}
 use Rattle.std.specs.List.{flat_map}
-use Rattle.std.specs.declared.vec.Vec.{Vec}
 use Rattle.ts_carrier.specs.declared.mailbox.Mailbox.{Mailbox}
 
 -- a frame behind the others; of 256 the first goes

@@ -1,14 +1,22 @@
 //! The command of a client that is under way.
 
 ghost use Rattle.std.specs.Prelude.{◌≡◌, ◌↔◌, IsTrue, None, Some, option_map};
-ghost use Rattle.ts_carrier.specs.Gate.{IsHeldBack, after_try, again_after, due, is_submit};
+ghost use Rattle.ts_carrier.specs.Gate.{IsHeldBack, after_try, again_after, due, hurried};
+ghost use Rattle.ts_carrier.specs.Gate.{is_submit};
 
-/// How often a command is proposed, the first time included, before it is given up.
-pub const TRIES: u32 = 5;
+/// For how many milliseconds a command is proposed again, before it is given up.
+pub const LONGEST_WAY: u64 = 10_000;
 
 /// How many milliseconds pass, and by chance as many more, before a command is proposed again the
 /// first time; each time twice as many.
 const PATIENCE: u64 = 250;
+
+/// How many milliseconds pass at most, and by chance up to [`MORE`] more, before a command is
+/// proposed again whose round was refused.
+const REFUSED: u64 = 10;
+
+/// See [`REFUSED`].
+const MORE: u64 = 100;
 
 /// The kind of a frame that submits a command.
 const SUBMIT: u8 = 0x10;
@@ -21,6 +29,8 @@ const KIND: usize = 5;
 pub struct Wanted {
     /// The frame that submits it.
     pub frame: Vec<u8>,
+    /// When it was submitted.
+    pub since: u64,
     /// How often it was proposed.
     pub tries: u32,
     /// When it is proposed again.
@@ -73,20 +83,14 @@ impl Gate {
         self.wanted.is_some() && is_submit(held)
     }
 
-    /// Whether taking the frame that begins here begins the way of a command.
-    pub fn begins(&self, held: &[u8]) -> bool
-        ensures { result ≡ is_submit held.now }
-    {
-        is_submit(held)
-    }
-
     /// A command was submitted by this frame.
     pub fn begin(&mut self, frame: Vec<u8>, now: u64, chance: u64)
         ensures { self.new.wanted ≡ Some (record {
-          frame = frame; tries = 1; again = again_after 1 now chance }) }
+          frame = frame; since = now; tries = 1; again = again_after 1 now chance }) }
     {
         self.wanted = Some(Wanted {
             frame,
+            since: now,
             tries: 1,
             again: again_after(1, now, chance),
         });
@@ -102,20 +106,37 @@ impl Gate {
         }
     }
 
-    /// The command was proposed again: it is given more time, or given up where this was the last
-    /// of [`TRIES`].
+    /// A round of the command was refused, since another node has begun one: it is proposed again
+    /// soon, by chance not at the moment when the other node does so.
+    pub fn hurry(&mut self, now: u64, chance: u64)
+        ensures { self.new.wanted ≡ hurried self.old.wanted now chance }
+    {
+        let Some(wanted) = self.wanted.take() else {
+            return;
+        };
+        let soon = now.saturating_add(REFUSED).saturating_add(chance % MORE);
+        self.wanted = Some(Wanted {
+            frame: wanted.frame,
+            since: wanted.since,
+            tries: wanted.tries,
+            again: wanted.again.min(soon),
+        });
+    }
+
+    /// The command was proposed again: it is given more time, or given up after [`LONGEST_WAY`].
     pub fn tried(&mut self, now: u64, chance: u64)
         ensures { self.new.wanted ≡ after_try self.old.wanted now chance }
     {
         let Some(wanted) = self.wanted.take() else {
             return;
         };
-        if wanted.tries >= TRIES {
+        if now.saturating_sub(wanted.since) >= LONGEST_WAY {
             return;
         }
-        let tries = wanted.tries + 1;
+        let tries = wanted.tries.saturating_add(1);
         self.wanted = Some(Wanted {
             frame: wanted.frame,
+            since: wanted.since,
             tries,
             again: again_after(tries, now, chance),
         });

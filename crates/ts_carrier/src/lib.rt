@@ -27,8 +27,8 @@
 //!   most half of it more; the delay is 50 ms, doubled at each failure up to 5 s, and 50 ms again
 //!   after a connection that lasted a second.
 //! - [`Gate`]: `holds_back`: exactly where a command is under way and the octets are those of a
-//!   Submit; `due`, `tried`: when the command is proposed again, and that it is given up after the
-//!   fifth time (`specs/Gate`).
+//!   Submit; `due`, `tried`, `hurry`: when the command is proposed again, and that it is given up
+//!   after ten seconds (`specs/Gate`).
 //!
 //! # Not promised
 //!
@@ -41,5 +41,5 @@ mod gate;
 mod mailbox;
 
 pub use dial::{Dial, FIRST_DELAY, LONGEST_DELAY, Phase};
-pub use gate::{Gate, TRIES, Wanted};
+pub use gate::{Gate, LONGEST_WAY, Wanted};
 pub use mailbox::{MAX_FRAMES, Mailbox};

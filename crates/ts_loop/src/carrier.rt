@@ -16,6 +16,7 @@ use std::alloc::Global;
 use std::net::{Net, SocketAddr};
 use ts_carrier::Gate;
 use ts_links::{Connections, Service};
+use ts_synod::Body;
 use ts_wire::Frame;
 
 /// The frame Take, by which a node is asked for the messages that wait.
@@ -26,6 +27,15 @@ const CATCH_UP: [u8; 6] = [0, 0, 0, 2, 2, 0x14];
 
 /// The frame Status, by which a node is asked how many commands it knows.
 const STATUS: [u8; 6] = [0, 0, 0, 2, 2, 0x15];
+
+/// Where the kind stands in a frame.
+const KIND: usize = 5;
+
+/// The kind of a frame that submits a command.
+const SUBMIT: u8 = 0x10;
+
+/// The kind of a message that says that a round was refused.
+const BUSY: u8 = 0x03;
 
 /// How often in a round a node is handed the messages to itself that it made last.
 const STEPS: u32 = 64;
@@ -87,15 +97,31 @@ impl Carrier {
         }
     }
 
-    /// A client's command is taken by this frame.
-    pub fn begin(&mut self, held: &[u8], now: u64) {
+    /// The frame that begins here is taken next: it may be a client's command, or say that a round
+    /// of the one that is under way was refused.
+    pub fn see(&mut self, held: &[u8], now: u64) {
         if !self.carries {
             return;
         }
+        match held.get(KIND) {
+            Some(&SUBMIT) => self.begin(held, now),
+            Some(&BUSY) => self.hurry(now),
+            _ => {}
+        }
+    }
+
+    /// A client's command is taken by this frame.
+    fn begin(&mut self, held: &[u8], now: u64) {
         if let Some(frame) = frame_at(self.alloc, held) {
             let chance = self.chances.next_u64();
             self.gate.begin(frame, now, chance);
         }
+    }
+
+    /// A round of the command that is under way was refused.
+    pub fn hurry(&mut self, now: u64) {
+        let chance = self.chances.next_u64();
+        self.gate.hurry(now, chance);
     }
 
     /// Puts a message on the line to its node. Without one it is lost.
@@ -110,10 +136,13 @@ impl Carrier {
 
     /// Takes the messages that wait at the node. Those to itself are given, in their frames; the
     /// others wait on their lines then.
-    fn sort(&mut self, given: &[u8]) -> Vec<Vec<u8>> {
+    fn sort(&mut self, given: &[u8], now: u64) -> Vec<Vec<u8>> {
         let mut own = Vec::new(self.alloc);
         for message in messages_in(self.alloc, given) {
             let (from, to) = (message.from, message.to);
+            if from == to && matches!(message.body, Body::Busy { .. }) {
+                self.hurry(now);
+            }
             let Some(frame) = octets_of(self.alloc, &Frame::Peer(message)) else {
                 continue;
             };
@@ -166,7 +195,7 @@ impl Carrier {
         let Some(given) = ask(table, service, self.alloc, &TAKE, now) else {
             return false;
         };
-        let own = self.sort(&given);
+        let own = self.sort(&given, now);
         deliver(table, service, self.alloc, &own, now);
         !own.is_empty()
     }

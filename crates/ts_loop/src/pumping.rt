@@ -74,9 +74,7 @@ fn take_one<S: Service>(
     if carrier.gate.holds_back(table.held(slot)) {
         return (0, true);
     }
-    if carrier.gate.begins(table.held(slot)) {
-        carrier.begin(table.held(slot), now);
-    }
+    carrier.see(table.held(slot), now);
     take_some(table, slot, service, 1, now)
 }
 

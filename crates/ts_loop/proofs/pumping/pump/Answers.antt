@@ -3,12 +3,12 @@ use Rattle.ts_links.proofs.Reached.{reached_quiet, reached_then, then_quiet}
 use Rattle.ts_loop.proofs.pumping.pump.Goals as goal
 
 pub returns-then-not-good-clause-reached : goal.returns-then-not-good-clause-reached
-returns-then-not-good-clause-reached g c = reached_then g.S.Service.turn _ _ _ _ _ _ (reached_quiet g.S.Service.turn _ _ _ c.read_once.ensures) c.take_some-taken.ensures.reached
+returns-then-not-good-clause-reached g c = reached_then g.S.Service.turn _ _ _ _ _ _ (reached_quiet g.S.Service.turn _ _ _ c.read_once.ensures) c.take_turns-taken.ensures.reached
 
 pub returns-then-not-write_once-clause-reached : goal.returns-then-not-write_once-clause-reached
 returns-then-not-write_once-clause-reached g c =
-    then_quiet g.S.Service.turn _ _ _ _ _ (reached_then g.S.Service.turn _ _ _ _ _ _ (reached_quiet g.S.Service.turn _ _ _ c.read_once.ensures) c.take_some-taken.ensures.reached) c.write_once.ensures
+    then_quiet g.S.Service.turn _ _ _ _ _ (reached_then g.S.Service.turn _ _ _ _ _ _ (reached_quiet g.S.Service.turn _ _ _ c.read_once.ensures) c.take_turns-taken.ensures.reached) c.write_once.ensures
 
 pub returns-clause-reached : goal.returns-clause-reached
 returns-clause-reached g c =
-    then_quiet g.S.Service.turn _ _ _ _ _ (reached_then g.S.Service.turn _ _ _ _ _ _ (reached_quiet g.S.Service.turn _ _ _ c.read_once.ensures) c.take_some-taken.ensures.reached) c.write_once.ensures
+    then_quiet g.S.Service.turn _ _ _ _ _ (reached_then g.S.Service.turn _ _ _ _ _ _ (reached_quiet g.S.Service.turn _ _ _ c.read_once.ensures) c.take_turns-taken.ensures.reached) c.write_once.ensures

@@ -8,5 +8,5 @@ returns-clause-shape c =
     let file = c.with-command.ensures.shape _ _ c.word.ensures.rule c.leaf.ensures.shape in
     let listen = c.with.ensures.shape _ _ (c.needed-listen.ensures.rule ∙ ap needed c.option.ensures.rule) file in
     let table = c.with-command-2.ensures.shape _ _ c.option-2.ensures.rule listen in
-    let stand_in = c.with-2.ensures.shape _ _ c.flag.ensures.rule table in
+    let stand_in = c.with-command-3.ensures.shape _ _ c.flag.ensures.rule table in
     c.with_limits.ensures.shape _ (c.with_group.ensures.shape _ stand_in)
