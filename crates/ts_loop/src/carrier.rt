@@ -57,6 +57,8 @@ pub(crate) struct Carrier {
     pub gate: Gate,
     /// How many commands the node knows.
     pub prefix: u32,
+    /// How many of these standard error was told of.
+    told: u32,
     /// When it learned one last, or was told to catch up.
     grown: u64,
     /// How many requests clients had made when it was last looked after.
@@ -76,6 +78,7 @@ impl Carrier {
             lines: Vec::new(alloc),
             gate: Gate::new(),
             prefix: 0,
+            told: 0,
             grown: 0,
             taken: 0,
             more: carries,
@@ -332,7 +335,18 @@ impl Carrier {
         self.more
     }
 
-    /// One round of the lines to the peers. Standard error is told of those reached and lost.
+    /// Tells standard error how many commands the node knows, if that is news.
+    fn tell_prefix(&mut self, rt: &impl Eprint) {
+        if !self.tells || self.told == self.prefix {
+            return;
+        }
+        self.told = self.prefix;
+        let prefix = self.prefix;
+        let _ = eprintln!(rt; "trustd: knows {prefix} commands");
+    }
+
+    /// One round of the lines to the peers. Standard error is told of those reached and lost, and of
+    /// commands that were chosen.
     pub fn tend<R: Net + Eprint>(
         &mut self,
         rt: &R,
@@ -340,6 +354,7 @@ impl Carrier {
         buffer: &mut [u8; PIECE],
         now: u64,
     ) {
+        self.tell_prefix(rt);
         for place in 0..self.lines.len() {
             let chance = self.chances.next_u64();
             let line = &mut self.lines[place];

@@ -20,7 +20,6 @@ use crate::rounds::{LISTENER, mark, pump_all, sweep, write_all};
 use mio::net::TcpListener;
 use mio::{Events, Interest, Poll};
 use std::alloc::Global;
-use std::net;
 use std::net::{Net, ToSocketAddrs};
 use std::rt::Clock;
 use std::time::{Duration, Instant, SystemTime, UNIX_EPOCH};
@@ -54,18 +53,17 @@ struct Edge {
     more: bool,
 }
 
-/// The listener at an address, whose calls don't wait.
-fn listener_at<R: Net<Listener = net::TcpListener, Stream = net::TcpStream>>(
-    rt: &R,
-    address: &str,
-) -> Result<TcpListener, LoopFault> {
-    let Ok(listener) = net::TcpListener::bind(rt, address) else {
+/// The listener at an address, whose calls don't wait. `mio` asks for the longest backlog.
+fn listener_at<R: Net>(rt: &R, address: &str) -> Result<TcpListener, LoopFault> {
+    let Ok(found) = address.to_socket_addrs(rt) else {
         return Err(LoopFault::Listen);
     };
-    if listener.set_nonblocking(true).is_err() {
-        return Err(LoopFault::Listen);
+    for place in found {
+        if let Ok(listener) = TcpListener::bind(rt, place) {
+            return Ok(listener);
+        }
     }
-    Ok(TcpListener::from_std(listener))
+    Err(LoopFault::Listen)
 }
 
 /// So many places for doors.
@@ -108,7 +106,7 @@ fn carrier_of<R: Net + Clock>(rt: &R, alloc: Global, group: &Group) -> Result<Ca
 
 impl Edge {
     /// The sockets at the start: the listener alone.
-    fn new<R: Net<Listener = net::TcpListener, Stream = net::TcpStream> + Clock>(
+    fn new<R: Net + Clock>(
         rt: &R,
         alloc: Global,
         address: &str,
@@ -338,7 +336,7 @@ pub fn serve_all<R, D, M>(
     group: &Group,
 ) -> Result<Counts, LoopFault>
 where
-    R: Net<Listener = net::TcpListener, Stream = net::TcpStream> + Clock + Eprint,
+    R: Net + Clock + Eprint,
     D: Disk,
     M: Machine<Command, Outcome = Outcome, Question = Question, Answer = Answer>,
     requires { IsSound D.state octets_of M.commands server.old.node }

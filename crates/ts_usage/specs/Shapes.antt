@@ -56,6 +56,10 @@ choice name rules subs = record {
   subs = subs;
 }
 
+-- with a version, which `--version` prints
+abbrev pub versioned : App → App
+versioned app = record app { top = record app.top { has_version = true } }
+
 -- with one more subcommand
 abbrev pub among : App → Shape → App
 among app sub = with_subcommand app sub
@@ -140,7 +144,7 @@ named name = leaf name []
 
 -- the tasks of a node
 unfoldable pub node_tasks : App
-node_tasks = with_tasks (choice (codes "trustd") [] [])
+node_tasks = with_tasks (versioned (choice (codes "trustd") [] []))
     (lab ∷ format ∷ migrate ∷ serve ∷ submit ∷ sending (codes "ask") ∷ carry
     ∷ [])
 

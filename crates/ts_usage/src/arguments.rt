@@ -6,7 +6,7 @@
 ghost use Rattle.std.specs.Prelude.{◌≡◌, [], false, IfOk};
 ghost use Rattle.clap.specs.Simple.{App, Shape, with_rule};
 ghost use Rattle.clap.specs.Walk.{Rule, rule_of};
-ghost use Rattle.ts_usage.specs.Shapes.{option, options, flag, word, words, needed, leaf};
+ghost use Rattle.ts_usage.specs.Shapes.{option, options, flag, word, words, needed, leaf, versioned};
 ghost use Rattle.ts_usage.specs.Shapes.{with_argument, choice, among, reading, IsApp, IsLocal};
 ghost use Rattle.ts_usage.specs.Shapes.{IsShape};
 
@@ -52,6 +52,17 @@ pub(crate) fn choice<'a>(
         .subcommand_required(true)
         .disable_help_subcommand(true)
         .bin_name(usage)
+}
+
+/// A choice with a version, which `--version` prints.
+pub(crate) fn versioned<'a>(
+    command: Result<Command<'a>, AllocError>,
+    version: &'a str,
+) -> Result<Command<'a>, AllocError>
+    ensures { (app : App) → IfOk command.entry (IsApp app)
+        → IfOk result (IsApp (versioned app)) }
+{
+    Ok(command?.version(version))
 }
 
 /// A choice with one more argument of its own.

@@ -6,11 +6,14 @@ ghost use Rattle.ts_usage.specs.Shapes as shapes;
 ghost use Rattle.ts_usage.specs.Shapes.{IsApp, IsLocal, IsShape};
 
 use crate::arguments::{
-    among, choice, flag, leaf, needed, option, options, reading, with, word, words,
+    among, choice, flag, leaf, needed, option, options, reading, versioned, with, word, words,
 };
 use crate::verify_shape::verify;
 use clap::Command;
 use std::alloc::{AllocError, Global};
+
+/// The version that `trustd --version` prints. Nodes of a group run one version.
+const VERSION: &str = "0.9.0";
 
 /// The record of a node is made.
 fn format<'a>(alloc: Global) -> Result<Command<'a>, AllocError>
@@ -163,7 +166,7 @@ fn node_tasks<'a>(alloc: Global) -> Result<Command<'a>, AllocError>
     ensures { IfOk result (IsApp shapes.node_tasks) }
 {
     let about = "A replicated trust store for X.509 certificates";
-    let program = choice(alloc, "trustd", about, "trustd");
+    let program = versioned(choice(alloc, "trustd", about, "trustd"), VERSION);
     let program = among(
         program,
         leaf(alloc, "lab", "Answers the script on standard input"),
