@@ -60,7 +60,8 @@ fn again_after(tries: u32, now: u64, chance: u64) -> u64
         3 => 4 * PATIENCE,
         _ => 8 * PATIENCE,
     };
-    now.saturating_add(patience).saturating_add(chance % patience)
+    now.saturating_add(patience)
+        .saturating_add(chance % patience)
 }
 
 impl Gate {
@@ -86,7 +87,11 @@ impl Gate {
     /// A command was submitted by this frame.
     pub fn begin(&mut self, frame: Vec<u8>, now: u64, chance: u64)
         ensures { self.new.wanted ≡ Some (record {
-          frame = frame; since = now; tries = 1; again = again_after 1 now chance }) }
+          frame = frame;
+          since = now;
+          tries = 1;
+          again = again_after 1 now chance;
+        }) }
     {
         self.wanted = Some(Wanted {
             frame,

@@ -7,9 +7,7 @@ ghost use Rattle.ts_cli.specs.Says.{SaysTask};
 ghost use Rattle.ts_cli.specs.declared.task.Task.TheVariants.{Lab};
 
 use crate::fault::{CommandFault, WrongValue};
-use crate::matched::{
-    address_at, are_addresses, number_at, number_or, string_at, strings_at,
-};
+use crate::matched::{address_at, are_addresses, number_at, number_or, string_at, strings_at};
 use crate::serve_words::serve_words;
 use crate::task::Task;
 use crate::verify_words::verify_words;

@@ -185,12 +185,7 @@ fn deliver<S: Service>(
 
 impl Carrier {
     /// Takes the node's messages once, and hands it those to itself. Whether there were some.
-    fn take_once<S: Service>(
-        &mut self,
-        table: &mut Connections,
-        service: &mut S,
-        now: u64,
-    ) -> bool
+    fn take_once<S: Service>(&mut self, table: &mut Connections, service: &mut S, now: u64) -> bool
         requires { S.is_ready service.old }
         ensures reached { HasReached S.turn service.old table.old service.new table.new }
         ensures ready { S.is_ready service.new }

@@ -174,7 +174,15 @@ pub(crate) fn sweep(
         return swept;
     }
     for slot in 0..doors.len() {
-        sweep_slot(table, carrier, &mut doors[slot], slot, deadlines, now, counts);
+        sweep_slot(
+            table,
+            carrier,
+            &mut doors[slot],
+            slot,
+            deadlines,
+            now,
+            counts,
+        );
     }
     now
 }
