@@ -1,12 +1,15 @@
 -- The command of a client that is under way. Moments are milliseconds.
 use Rattle.std.specs.Prelude.{◌≡◌, ◌≢◌, ℕ, Bool, true, false, List, ◌∷◌, ◌+◌, ◌%◌, ◌^◌}
+use Rattle.std.specs.Prelude.{◌&&◌, ◌*◌, length}
 use Rattle.std.specs.Prelude.{◌-◌, min, nat_eq, nat_le, Option, None, Some, if◌then◌else◌}
 use Rattle.ts_carrier.specs.declared.gate.Gate.{Gate}
 use Rattle.ts_carrier.specs.declared.gate.Wanted.{Wanted}
 
--- a frame that submits a command begins here: its kind, 10, follows length and version
+-- A whole frame that submits a command begins here: its kind, 10, follows the length of what
+-- follows, in four octets, and the version.
 abbrev pub is_submit : List ℕ → Bool
 is_submit (a ∷ b ∷ c ∷ d ∷ version ∷ kind ∷ fields) = nat_eq kind 0x10
+    && nat_le (((a * 256 + b) * 256 + c) * 256 + d) (length fields + 2)
 is_submit other = false
 
 -- a frame has to wait: it submits a command while another one is under way

@@ -21,9 +21,6 @@ const MORE: u64 = 100;
 /// The kind of a frame that submits a command.
 const SUBMIT: u8 = 0x10;
 
-/// Where the kind stands in a frame.
-const KIND: usize = 5;
-
 /// A command that was submitted and is not known to be chosen.
 #[derive(Drop)]
 pub struct Wanted {
@@ -43,11 +40,17 @@ pub struct Gate {
     wanted: Option<Wanted>,
 }
 
-/// Whether a frame that submits a command begins here.
+/// Whether a whole frame that submits a command begins here.
 fn is_submit(held: &[u8]) -> bool
     ensures { result ≡ is_submit held.now }
 {
-    held.get(KIND) == Some(&SUBMIT)
+    let [a, b, c, d, _version, kind, fields @ ..] = held else {
+        return false;
+    };
+    let high = u32::from(*a) * 256 + u32::from(*b);
+    let low = u32::from(*c) * 256 + u32::from(*d);
+    let size = high * 65_536 + low;
+    *kind == SUBMIT && size as usize <= fields.len() + 2
 }
 
 /// When a command is proposed again that was proposed so often.
