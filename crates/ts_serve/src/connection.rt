@@ -1,11 +1,25 @@
 //! How a connection is set up.
 
 use std::io;
-use std::net::OpenStream;
+use std::net::{Net, OpenStream, TcpStream, ToSocketAddrs};
 use std::time::Duration;
 
 /// How many seconds one read or write waits for the other end.
 pub const LONGEST_WAIT: u64 = 60;
+
+/// How many seconds a connection may take to be made, to each place that an address names.
+pub const LONGEST_DIAL: u64 = 5;
+
+/// A connection to an address.
+pub(crate) fn connect<N: Net>(net: &N, address: &str) -> Option<N::Stream> {
+    let longest = Duration::from_secs(LONGEST_DIAL);
+    for place in address.to_socket_addrs(net).ok()? {
+        if let Ok(stream) = TcpStream::connect_timeout(net, &place, longest) {
+            return Some(stream);
+        }
+    }
+    None
+}
 
 /// Has the reads and writes of a connection fail where they wait longer than that, and has what is
 /// written sent at once. The system would else hold an answer back until the one before it is

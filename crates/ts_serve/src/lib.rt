@@ -65,7 +65,7 @@ mod serving;
 
 pub use answering::{AnswerFault, is_request, refusal};
 pub use carrying::carry;
-pub use connection::LONGEST_WAIT;
+pub use connection::{LONGEST_DIAL, LONGEST_WAIT};
 pub use fault::ServeFault;
 pub use listening::listen;
 pub use outbox::MAX_WAITING;

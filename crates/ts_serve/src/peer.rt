@@ -8,14 +8,14 @@ ghost use Rattle.ts_store.specs.Octets.{octets_of};
 ghost use Rattle.ts_serve.specs.Turn.{Turn};
 ghost use Rattle.ts_serve.specs.Stream.{IsServedSomehow};
 
-use crate::connection::set_up;
+use crate::connection::{connect, set_up};
 use crate::fault::ServeFault;
 use crate::sending::write_octets;
 use crate::server::Server;
 use crate::serving::{READ_LIMIT, serve};
 use std::alloc::Global;
 use std::io::{ErrorKind, Read};
-use std::net::{Net, OpenStream, Shutdown, TcpStream};
+use std::net::{Net, OpenStream, Shutdown};
 use ts_disk::Disk;
 use ts_node::Machine;
 use ts_question::{Answer, Question};
@@ -86,11 +86,12 @@ impl<'a, N: Net> TcpPeer<'a, N> {
 impl<N: Net> Peer for TcpPeer<'_, N> {
     ghost is_ready = { λ _. Unit {0} };
 
-    /// `Write` where the connection is not made, or a write fails; `Read` and `ReadLimit` as the
+    /// `Write` where the connection is not made within [`LONGEST_DIAL`](crate::LONGEST_DIAL)
+    /// seconds, or a write fails; `Read` and `ReadLimit` as the
     /// answers are read; `Memory`. A read or write that waits longer than
     /// [`LONGEST_WAIT`](crate::LONGEST_WAIT) seconds fails.
     fn exchange(&mut self, octets: &[u8]) -> Result<Vec<u8>, ServeFault> {
-        let Ok(mut stream) = TcpStream::connect(self.net, self.address.as_str()) else {
+        let Some(mut stream) = connect(self.net, self.address.as_str()) else {
             return Err(ServeFault::Write);
         };
         if set_up(&stream).is_err() {
