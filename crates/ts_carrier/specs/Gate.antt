@@ -1,6 +1,6 @@
 -- The command of a client that is under way. Moments are milliseconds.
 use Rattle.std.specs.Prelude.{◌≡◌, ◌≢◌, ℕ, Bool, true, false, List, ◌∷◌, ◌+◌, ◌%◌, ◌^◌}
-use Rattle.std.specs.Prelude.{◌&&◌, ◌*◌, length}
+use Rattle.std.specs.Prelude.{◌&&◌, ◌||◌, ◌*◌, length, is_some, nat_lt}
 use Rattle.std.specs.Prelude.{◌-◌, min, nat_eq, nat_le, Option, None, Some, if◌then◌else◌}
 use Rattle.ts_carrier.specs.declared.gate.Gate.{Gate}
 use Rattle.ts_carrier.specs.declared.gate.Wanted.{Wanted}
@@ -12,9 +12,10 @@ is_submit (a ∷ b ∷ c ∷ d ∷ version ∷ kind ∷ fields) = nat_eq kind 0x
     && nat_le (((a * 256 + b) * 256 + c) * 256 + d) (length fields + 2)
 is_submit other = false
 
--- a frame has to wait: it submits a command while another one is under way
-abbrev pub IsHeldBack : Gate → List ℕ → Type 0
-IsHeldBack gate held = (gate.wanted ≢ None) × (is_submit held ≡ true)
+-- a frame has to wait: it submits a command while another one is under way, or was a short while
+-- ago
+abbrev pub is_held_back : Gate → List ℕ → ℕ → Bool
+is_held_back gate held now = (is_some gate.wanted || nat_lt now gate.rests) && is_submit held
 
 -- how long to wait for a command that was proposed so often: a quarter of a second, twice as long
 -- each time, up to two seconds
@@ -39,6 +40,11 @@ hurried (Some wanted) now chance = Some (record wanted {
   again = min wanted.again
       (min (min (now + 10) (2 ^ 64 - 1) + chance % 100) (2 ^ 64 - 1));
 })
+
+-- it is given as much time again
+abbrev pub renewed : Option Wanted → ℕ → Option Wanted
+renewed None now = None
+renewed (Some wanted) now = Some (record wanted { since = now })
 
 -- after it was proposed once more: it is given up after ten seconds
 abbrev pub after_try : Option Wanted → ℕ → ℕ → Option Wanted

@@ -1,8 +1,8 @@
 //! The command of a client that is under way.
 
-ghost use Rattle.std.specs.Prelude.{◌≡◌, ◌↔◌, IsTrue, None, Some, option_map};
-ghost use Rattle.ts_carrier.specs.Gate.{IsHeldBack, after_try, again_after, due, hurried};
-ghost use Rattle.ts_carrier.specs.Gate.{is_submit};
+ghost use Rattle.std.specs.Prelude.{◌≡◌, None, Some, option_map};
+ghost use Rattle.ts_carrier.specs.Gate.{after_try, again_after, due, hurried, renewed};
+ghost use Rattle.ts_carrier.specs.Gate.{is_held_back, is_submit};
 
 /// For how many milliseconds a command is proposed again, before it is given up.
 pub const LONGEST_WAY: u64 = 10_000;
@@ -34,10 +34,13 @@ pub struct Wanted {
     pub again: u64,
 }
 
-/// The command that is under way, if one is. While it is, no other is taken.
+/// The command that is under way, if one is. While it is, and for a while after it, no other is
+/// taken.
 #[derive(Drop)]
 pub struct Gate {
     wanted: Option<Wanted>,
+    /// Until when none is taken.
+    rests: u64,
 }
 
 /// Whether a whole frame that submits a command begins here.
@@ -70,9 +73,13 @@ fn again_after(tries: u32, now: u64, chance: u64) -> u64
 impl Gate {
     /// No command is under way.
     pub fn new() -> Gate
-        ensures { result.wanted ≡ None }
+        ensures wanted { result.wanted ≡ None }
+        ensures rests { result.rests ≡ 0 }
     {
-        Gate { wanted: None }
+        Gate {
+            wanted: None,
+            rests: 0,
+        }
     }
 
     /// The command that is under way.
@@ -80,11 +87,12 @@ impl Gate {
         self.wanted.as_ref()
     }
 
-    /// Whether the frame that begins here has to wait: it submits a command, and one is under way.
-    pub fn holds_back(&self, held: &[u8]) -> bool
-        ensures { IsTrue result ↔ IsHeldBack self.now held.now }
+    /// Whether the frame that begins here has to wait: it submits a command, and one is under way,
+    /// or was a short while ago.
+    pub fn holds_back(&self, held: &[u8], now: u64) -> bool
+        ensures { result ≡ is_held_back self.now held.now now }
     {
-        self.wanted.is_some() && is_submit(held)
+        (self.wanted.is_some() || now < self.rests) && is_submit(held)
     }
 
     /// A command was submitted by this frame.
@@ -150,10 +158,29 @@ impl Gate {
         });
     }
 
-    /// No command is under way any more.
-    pub fn end(&mut self)
-        ensures { self.new.wanted ≡ None }
+    /// Other commands are chosen meanwhile, so that a majority runs: the command is given as much
+    /// time again.
+    pub fn renew(&mut self, now: u64)
+        ensures wanted { self.new.wanted ≡ renewed self.old.wanted now }
+        ensures rests { self.new.rests ≡ self.old.rests }
+    {
+        let Some(wanted) = self.wanted.take() else {
+            return;
+        };
+        self.wanted = Some(Wanted {
+            frame: wanted.frame,
+            since: now,
+            tries: wanted.tries,
+            again: wanted.again,
+        });
+    }
+
+    /// No command is under way any more, and none is taken before this moment.
+    pub fn end(&mut self, until: u64)
+        ensures wanted { self.new.wanted ≡ None }
+        ensures rests { self.new.rests ≡ until }
     {
         self.wanted = None;
+        self.rests = until;
     }
 }

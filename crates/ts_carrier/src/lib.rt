@@ -14,7 +14,7 @@
 //! dial.reach(now);                          // or dial.lose(now, chance): wait longer each time
 //!
 //! let mut gate = Gate::new();
-//! if !gate.holds_back(held) { .. }          // a Submit waits while another one is under way
+//! if !gate.holds_back(held, now) { .. }     // a Submit waits while another one is under way
 //! ```
 //!
 //! What is proved:
@@ -26,8 +26,8 @@
 //! - [`Dial`]: each call leaves the state of `specs/Dial`: the next try is after the delay and at
 //!   most half of it more; the delay is 50 ms, doubled at each failure up to 5 s, and 50 ms again
 //!   after a connection that lasted a second.
-//! - [`Gate`]: `holds_back`: exactly where a command is under way and the octets are those of a
-//!   Submit; `due`, `tried`, `hurry`: when the command is proposed again, and that it is given up
+//! - [`Gate`]: `holds_back`: exactly where a command is under way, or was a short while ago, and
+//!   a whole Submit begins here; `due`, `tried`, `hurry`: when the command is proposed again, and that it is given up
 //!   after ten seconds (`specs/Gate`).
 //!
 //! # Not promised

@@ -34,11 +34,20 @@ const KIND: usize = 5;
 /// The kind of a frame that submits a command.
 const SUBMIT: u8 = 0x10;
 
+/// The kind of a message that begins a round.
+const PREPARE: u8 = 0x01;
+
 /// The kind of a message that says that a round was refused.
 const BUSY: u8 = 0x03;
 
 /// How often in a round a node is handed the messages to itself that it made last.
 const STEPS: u32 = 64;
+
+/// For how many milliseconds another node that was seen to propose is let pass.
+const RIVALRY: u64 = 1_000;
+
+/// The most milliseconds that a position is taken to need.
+const LONGEST_PACE: u64 = 500;
 
 /// How many milliseconds pass until a node that is behind is told again to catch up, if it has not
 /// learned anything.
@@ -61,6 +70,10 @@ pub(crate) struct Carrier {
     told: u32,
     /// When it learned one last, or was told to catch up.
     grown: u64,
+    /// How many milliseconds the last position took.
+    pace: u64,
+    /// When another node was last seen to propose.
+    rivals: u64,
     /// How many requests clients had made when it was last looked after.
     taken: u64,
     /// There is more to do at once.
@@ -80,6 +93,8 @@ impl Carrier {
             prefix: 0,
             told: 0,
             grown: 0,
+            pace: 0,
+            rivals: 0,
             taken: 0,
             more: carries,
             chances: SplitMix64::seed_from_u64(seed),
@@ -108,6 +123,7 @@ impl Carrier {
         }
         match held.get(KIND) {
             Some(&SUBMIT) => self.begin(held, now),
+            Some(&PREPARE) => self.rivals = now,
             Some(&BUSY) => self.hurry(now),
             _ => {}
         }
@@ -223,8 +239,10 @@ impl Carrier {
         };
         if let Some(prefix) = prefix_of(self.alloc, &answer) {
             if prefix > self.prefix {
+                self.pace = now.saturating_sub(self.grown).min(LONGEST_PACE);
                 self.prefix = prefix;
                 self.grown = now;
+                self.gate.renew(now);
             }
         }
     }
@@ -262,6 +280,15 @@ impl Carrier {
         self.more = true;
     }
 
+    /// Until when no command is taken after one that was chosen: where another node proposes too, it
+    /// is let pass, for as long as two positions take.
+    fn rest_until(&self, now: u64) -> u64 {
+        if now.saturating_sub(self.rivals) >= RIVALRY {
+            return now;
+        }
+        now.saturating_add(self.pace.saturating_mul(2))
+    }
+
     /// Looks after the command that is under way: it may be chosen, or its round may be lost.
     fn follow<S: Service>(&mut self, table: &mut Connections, service: &mut S, now: u64)
         requires { S.is_ready service.old }
@@ -269,7 +296,7 @@ impl Carrier {
         ensures ready { S.is_ready service.new }
     {
         if self.is_over(table, service, now) {
-            self.gate.end();
+            self.gate.end(self.rest_until(now));
             self.more = true;
             return;
         }

@@ -71,7 +71,7 @@ fn take_one<S: Service>(
     ensures reached { HasReached S.turn service.old table.old service.new table.new }
     ensures ready { S.is_ready service.new }
 {
-    if carrier.gate.holds_back(table.held(slot)) {
+    if carrier.gate.holds_back(table.held(slot), now) {
         return (0, true);
     }
     carrier.see(table.held(slot), now);
@@ -125,7 +125,7 @@ pub(crate) fn pump<S: Service>(
         return (taken, Pumped::Failed);
     }
     shut_if_done(table, door, slot);
-    if carrier.gate.holds_back(table.held(slot)) {
+    if carrier.gate.holds_back(table.held(slot), now) {
         return (taken, Pumped::Held);
     }
     (taken, what_is_left(table, door, slot, taken))

@@ -151,7 +151,7 @@ fn sweep_slot(
 )
     ensures { IsQuiet table.old table.new }
 {
-    if !table.is_late(slot, deadlines, now) || carrier.gate.holds_back(table.held(slot)) {
+    if !table.is_late(slot, deadlines, now) || carrier.gate.holds_back(table.held(slot), now) {
         return;
     }
     close_slot(table, place, slot, Why::Late, counts);
