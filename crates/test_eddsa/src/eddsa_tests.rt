@@ -16,7 +16,12 @@ fn answer(alloc: Global, sample: &Sample) -> Result<bool, Fail> {
 #[test]
 fn answers_as_the_standard(rt: HostRuntime) -> Result<(), Fail> {
     for sample in ROWS {
-        assert_eq!(rt; answer(rt.alloc(), sample)?, sample.is_good, "{}", sample.name);
+        assert_eq!(rt;
+            answer(rt.alloc(), sample)?,
+            sample.is_good,
+            "{}",
+            sample.name
+        );
     }
     Ok(())
 }

@@ -1,5 +1,5 @@
 -- The test of a signature says what the relation says.
-use Rattle.std.proofs.Common.{◌≡◌, ℕ, Bool, true, false, ◌&&◌, ltb, eqb, List, length, Option, Some, None, IsTrue, ◌↔◌, refl}
+use Rattle.std.proofs.Common.{◌≡◌, ℕ, true, ◌&&◌, ltb, eqb, List, length, Option, Some, None, IsTrue, ◌↔◌, refl}
 use Rattle.std.proofs.lemmas.Bool.{eqb-true, eq-eqb, ltb-true, lt-ltb, false≢true}
 use Rattle.ts_prime.specs.Primes.{l25519}
 use Rattle.ts_curve.proofs.Tests.{both, joined}
@@ -47,10 +47,10 @@ signature_test key message signature =
             long = eqb-true _ _ x.0;
             a = z.0;
             r = z.1;
-            key_is = z.2.0;
-            r_is = z.2.1;
+            key_is = z.2;
+            r_is = z.3;
             s_below = ltb-true s l25519 y.0;
-            equation = z.2.2;
+            equation = z.4;
           },
       λ i.
           joined long (below && last) (eq-eqb _ _ i.long)

@@ -61,11 +61,11 @@ pub struct Addend {
 }
 
 impl Model for Addend {
-    ghost use Rattle.ts_eddsa.specs.Addend.{Addend as Value, addend};
+    ghost use Rattle.ts_eddsa.specs.Addend.{Prepared, prepared};
 
-    ghost Value = { Value };
+    ghost Value = { Prepared };
 
-    ghost view = { λ q. addend q.low q.high q.scaled q.twice };
+    ghost view = { λ q. prepared q.low q.high q.scaled q.twice };
 }
 
 /// The last products of both formulas: E F, G H, F G and E H.

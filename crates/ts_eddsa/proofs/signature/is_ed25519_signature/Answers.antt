@@ -1,4 +1,3 @@
-use Rattle.std.proofs.Common.{ap}
 use Rattle.ts_eddsa.proofs.Exact.{signature_test}
 use Rattle.ts_eddsa.proofs.signature.is_ed25519_signature.Goals as goal
 
