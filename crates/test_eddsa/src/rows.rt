@@ -1,6 +1,7 @@
 //! Keys, messages and signatures: those of RFC 8032 7.1, and such as are spoiled. The reference code
-//! of RFC 8032 6 answers alike, and so does openssl but for two: it takes a key whose y is not below
-//! p, and one whose x is 0 with the sign 1.
+//! of RFC 8032 6 answers alike. So does openssl 3.0, which was asked of all but the empty message
+//! and the key that is too long, but for two: it takes the key whose y is not below p, and the one
+//! whose x is 0 with the sign 1.
 
 /// A question with its answer; octets are in hexadecimal digits.
 pub struct Sample {
