@@ -2,4 +2,5 @@ pub mod Contents
 pub mod Keys
 pub mod ByRsa
 pub mod ByEcdsa
+pub mod ByEd25519
 pub mod Natives

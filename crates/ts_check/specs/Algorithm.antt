@@ -1,5 +1,5 @@
 -- Which algorithm of signatures an AlgorithmIdentifier (RFC 5280 4.1.1.2) names: RFC 4055 3.1 and 5,
--- RFC 5758 3.2.
+-- RFC 5758 3.2, RFC 8410 3.
 use Rattle.std.specs.Prelude.{ℕ, Bool, true, false, ◌||◌, List, [], ◌∷◌, ◌++◌, length, Option, Some, None}
 use Rattle.std.specs.Prelude.{if◌then◌else◌}
 use Rattle.std.specs.Str.{bytes_eq}
@@ -7,7 +7,7 @@ use Rattle.ts_digest.specs.declared.hash.Hash.{Hash}
 use Rattle.ts_digest.specs.declared.hash.Hash.TheVariants.{Sha256, Sha384, Sha512}
 use Rattle.ts_digest.specs.Hash.{hash_size}
 use Rattle.ts_check.specs.declared.algorithm.SignatureAlgorithm.{SignatureAlgorithm}
-use Rattle.ts_check.specs.declared.algorithm.SignatureAlgorithm.TheVariants.{Pkcs1, Pss, Ecdsa}
+use Rattle.ts_check.specs.declared.algorithm.SignatureAlgorithm.TheVariants.{Pkcs1, Pss, Ecdsa, Ed25519}
 
 -- an element whose content has fewer than 128 octets (X.690 8.1.3.4)
 abbrev pub short : ℕ → List ℕ → List ℕ
@@ -67,6 +67,10 @@ abbrev pub ecdsa_identifier : Hash → List ℕ
 ecdsa_identifier hash =
     short 0x30 (short 6 (0x2a ∷ 0x86 ∷ 0x48 ∷ 0xce ∷ 0x3d ∷ 4 ∷ 3 ∷ ecdsa_arc hash ∷ []))
 
+-- id-Ed25519, 1.3.101.112: parameters are absent (RFC 8410 3)
+abbrev pub ed25519_identifier : List ℕ
+ed25519_identifier = short 0x30 (short 6 (0x2b ∷ 0x65 ∷ 0x70 ∷ []))
+
 -- the identifier is one of RSASSA-PKCS1-v1_5 with this hash function
 unfoldable pub is_pkcs1 : List ℕ → Hash → Bool
 is_pkcs1 identifier hash =
@@ -93,5 +97,6 @@ or_else (Some x) second = Some x
 -- the algorithm that the identifier names
 unfoldable pub algorithm_named : List ℕ → Option SignatureAlgorithm
 algorithm_named identifier =
-    or_else (named_with identifier Sha256)
+    if bytes_eq identifier ed25519_identifier then Some Ed25519
+    else or_else (named_with identifier Sha256)
     (or_else (named_with identifier Sha384) (named_with identifier Sha512))

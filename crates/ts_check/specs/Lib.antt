@@ -3,6 +3,7 @@ pub mod Algorithm
 pub mod PublicKey
 pub mod Rsa
 pub mod Elliptic
+pub mod Edwards
 pub mod Native
 pub mod Chosen
 pub mod View

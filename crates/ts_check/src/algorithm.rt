@@ -1,11 +1,11 @@
 //! Which algorithm an AlgorithmIdentifier names.
 
 ghost use Rattle.std.specs.Prelude.{◌≡◌, true, false};
-ghost use Rattle.ts_check.specs.Algorithm.{algorithm_named, ecdsa_identifier, is_pkcs1, is_pss, named_with, pkcs1_identifier, pss_identifier};
+ghost use Rattle.ts_check.specs.Algorithm.{algorithm_named, ecdsa_identifier, ed25519_identifier, is_pkcs1, is_pss, named_with, pkcs1_identifier, pss_identifier};
 
 use ts_digest::Hash;
 
-/// An algorithm of signatures, with the hash function of the signed octets.
+/// An algorithm of signatures, with the hash function of the signed octets where there is a choice.
 #[derive(Clone, Copy, Debug, PartialEq, Eq)]
 pub enum SignatureAlgorithm {
     /// RSASSA-PKCS1-v1_5 (RFC 8017 8.2).
@@ -14,6 +14,8 @@ pub enum SignatureAlgorithm {
     Pss(Hash),
     /// ECDSA (FIPS 186-5 6).
     Ecdsa(Hash),
+    /// Ed25519 of the signed octets themselves (RFC 8410 3).
+    Ed25519,
 }
 
 /// The AlgorithmIdentifier of RSASSA-PKCS1-v1_5, with parameters NULL (RFC 4055 5).
@@ -128,6 +130,13 @@ fn ecdsa(hash: Hash) -> &'static [u8]
     }
 }
 
+/// The AlgorithmIdentifier of Ed25519 (RFC 8410 3).
+fn ed25519() -> &'static [u8]
+    ensures { result.now ≡ ed25519_identifier }
+{
+    &[0x30, 0x05, 0x06, 0x03, 0x2b, 0x65, 0x70]
+}
+
 /// Whether an identifier is one of RSASSA-PKCS1-v1_5 with this hash function.
 #[tactic(auto, unfolding(crate::specs::Algorithm::is_pkcs1))]
 fn is_pkcs1(identifier: &[u8], hash: Hash) -> bool
@@ -167,6 +176,9 @@ fn named_with(identifier: &[u8], hash: Hash) -> Option<SignatureAlgorithm>
 pub fn algorithm_named(identifier: &[u8]) -> Option<SignatureAlgorithm>
     ensures { result ≡ algorithm_named identifier.now }
 {
+    if identifier == ed25519() {
+        return Some(SignatureAlgorithm::Ed25519);
+    }
     if let Some(algorithm) = named_with(identifier, Hash::Sha256) {
         return Some(algorithm);
     }

@@ -1,22 +1,22 @@
 //! The check of signatures that a trust store uses: which algorithm an AlgorithmIdentifier names,
-//! which key is for it, and whether the signature is good, by RSA and ECDSA.
+//! which key is for it, and whether the signature is good, by RSA, ECDSA and Ed25519.
 //!
 //! ```text
-//! NativeCheck.good(algorithm, &key, signed, signature)      // RSA and ECDSA, no options, no state
+//! NativeCheck.good(algorithm, &key, signed, signature)      // no options, no state
 //! ChosenCheck::NativeOrTable(table)                         // and what a table lists besides
 //! ```
 //!
 //! Algorithms are RSASSA-PKCS1-v1_5 and RSASSA-PSS (RFC 8017, RFC 4055), and ECDSA on P-256 and
-//! P-384 (FIPS 186-5, RFC 5758), each with SHA-256, SHA-384 and SHA-512. An identifier is compared
-//! as a whole, with its parameters; a key by its algorithm and parameters, which may be inherited
-//! (RFC 5280 6.1.4 (e)). Any other signature is not good.
+//! P-384 (FIPS 186-5, RFC 5758), each with SHA-256, SHA-384 and SHA-512; and Ed25519 (RFC 8032,
+//! RFC 8410). An identifier is compared as a whole, with its parameters; a key by its algorithm and
+//! parameters, which may be inherited (RFC 5280 6.1.4 (e)). Any other signature is not good.
 //!
 //! What is proved of each call:
 //!
 //! - [`NativeCheck`]'s `good`: the answer is `native_accepts` of the four values (`specs/Native`).
 //! - law [`laws::accepts_signatures`]: that test is true exactly where the identifier names an
-//!   algorithm and the signature is one by it: `IsNativeSignature`, by the relations of `ts_rsa`
-//!   and `ts_ecdsa`.
+//!   algorithm and the signature is one by it: `IsNativeSignature`, by the relations of `ts_rsa`,
+//!   `ts_ecdsa` and `ts_eddsa`.
 //! - [`algorithm_named`]: the algorithm that an identifier names, exactly.
 //! - [`ChosenCheck`]'s `good`: the native check, what it or a table takes, or the stand-in.
 //!
@@ -30,6 +30,7 @@
 
 mod algorithm;
 mod chosen;
+mod edwards;
 mod elliptic;
 pub mod laws;
 mod native;

@@ -6,11 +6,12 @@ ghost use Rattle.ts_sig.specs.Key.{key_of};
 ghost use Rattle.ts_check.specs.Native.{IsNativeSignature, native_accepts, takes};
 
 use crate::algorithm::{SignatureAlgorithm, algorithm_named};
+use crate::edwards::ed25519_takes;
 use crate::elliptic::ecdsa_takes;
 use crate::rsa::{pkcs1_takes, pss_takes};
 use ts_sig::{SignatureCheck, WorkingKey};
 
-/// Checks signatures by RSA and ECDSA. It has no state: each node that has this version answers
+/// Checks signatures by RSA, ECDSA and Ed25519. It has no state: each node that has this version answers
 /// alike.
 #[derive(Clone, Copy, Debug)]
 pub struct NativeCheck;
@@ -28,6 +29,7 @@ fn takes(
         SignatureAlgorithm::Pkcs1(hash) => pkcs1_takes(hash, key, signed, signature),
         SignatureAlgorithm::Pss(hash) => pss_takes(hash, key, signed, signature),
         SignatureAlgorithm::Ecdsa(hash) => ecdsa_takes(hash, key, signed, signature),
+        SignatureAlgorithm::Ed25519 => ed25519_takes(key, signed, signature),
     }
 }
 

@@ -1,0 +1,207 @@
+//! Points of edwards25519 (RFC 8032 5.1.4).
+
+ghost use Rattle.std.specs.Prelude.{◌≡◌, true, false};
+ghost use Rattle.ts_curve.specs.Four.{number4};
+ghost use Rattle.ts_eddsa.specs.Points.{affine, base, neutral, completed, double, multiple};
+ghost use Rattle.ts_eddsa.specs.Addend.{addend_of, sum_by};
+ghost use Rattle.ts_eddsa.specs.Tests.{are_equal};
+
+use crate::field::Prime25519;
+use std::marker::Model;
+use ts_curve::{Limbs, Limbs4, Residue};
+
+/// The coefficient d of the curve -x^2 + y^2 = 1 + d x^2 y^2.
+pub const D: Limbs4 = Limbs4 {
+    a: 0x75eb_4dca_1359_78a3,
+    b: 0x0070_0a4d_4141_d8ab,
+    c: 0x8cc7_4079_7779_e898,
+    d: 0x5203_6cee_2b6f_fe73,
+};
+
+/// The first coordinate of the base point.
+const BASE_X: Limbs4 = Limbs4 {
+    a: 0xc956_2d60_8f25_d51a,
+    b: 0x692c_c760_9525_a7b2,
+    c: 0xc0a4_e231_fdd6_dc5c,
+    d: 0x2169_36d3_cd6e_53fe,
+};
+
+/// The second coordinate of the base point.
+const BASE_Y: Limbs4 = Limbs4 {
+    a: 0x6666_6666_6666_6658,
+    b: 0x6666_6666_6666_6666,
+    c: 0x6666_6666_6666_6666,
+    d: 0x6666_6666_6666_6666,
+};
+
+/// A point in extended homogeneous coordinates: (x / z, y / z), where t / z is the product of both.
+#[derive(Drop)]
+pub struct EdwardsPoint {
+    x: Residue<Prime25519>,
+    y: Residue<Prime25519>,
+    z: Residue<Prime25519>,
+    t: Residue<Prime25519>,
+}
+
+impl Model for EdwardsPoint {
+    ghost use Rattle.ts_eddsa.specs.Points.{Point, point_of};
+
+    ghost Value = { Point };
+
+    ghost view = { λ q. point_of q.x q.y q.z q.t };
+}
+
+/// What of a second point is computed once: y - x, y + x, 2 d t and 2 z.
+#[derive(Drop)]
+pub struct Addend {
+    low: Residue<Prime25519>,
+    high: Residue<Prime25519>,
+    scaled: Residue<Prime25519>,
+    twice: Residue<Prime25519>,
+}
+
+impl Model for Addend {
+    ghost use Rattle.ts_eddsa.specs.Addend.{Prepared, prepared};
+
+    ghost Value = { Prepared };
+
+    ghost view = { λ q. prepared q.low q.high q.scaled q.twice };
+}
+
+/// The last products of both formulas: E F, G H, F G and E H.
+#[inline(always)]
+fn completed(
+    e: &Residue<Prime25519>,
+    f: &Residue<Prime25519>,
+    g: &Residue<Prime25519>,
+    h: &Residue<Prime25519>,
+) -> EdwardsPoint
+    ensures { result ≡ completed e.now f.now g.now h.now }
+{
+    EdwardsPoint {
+        x: e.product(f),
+        y: g.product(h),
+        z: f.product(g),
+        t: e.product(h),
+    }
+}
+
+impl EdwardsPoint {
+    /// The neutral point.
+    pub fn neutral() -> Self
+        ensures { result ≡ neutral }
+    {
+        EdwardsPoint {
+            x: Residue::zero(),
+            y: Residue::one(),
+            z: Residue::one(),
+            t: Residue::zero(),
+        }
+    }
+
+    /// The point with these coordinates.
+    pub fn affine(x: &Residue<Prime25519>, y: &Residue<Prime25519>) -> Self
+        ensures { result ≡ affine x.now y.now }
+    {
+        EdwardsPoint {
+            x: x.copy(),
+            y: y.copy(),
+            z: Residue::one(),
+            t: x.product(y),
+        }
+    }
+
+    /// The base point.
+    pub fn base() -> Self
+        ensures { result ≡ base }
+    {
+        Self::affine(&Residue::from_limbs(&BASE_X), &Residue::from_limbs(&BASE_Y))
+    }
+
+    /// The double.
+    pub fn double(&self) -> Self
+        ensures { result ≡ double self.now }
+    {
+        let a = self.x.product(&self.x);
+        let b = self.y.product(&self.y);
+        let zz = self.z.product(&self.z);
+        let h = a.sum(&b);
+        let s = self.x.sum(&self.y);
+        let g = a.difference(&b);
+        let c = zz.sum(&zz);
+        let square = s.product(&s);
+        let e = h.difference(&square);
+        let f = c.sum(&g);
+        completed(&e, &f, &g, &h)
+    }
+
+    /// What of the point is computed once where it is added.
+    pub fn addend(&self) -> Addend
+        ensures { result ≡ addend_of self.now }
+    {
+        let d = Residue::from_limbs(&D);
+        let twice_d = d.sum(&d);
+        Addend {
+            low: self.y.difference(&self.x),
+            high: self.y.sum(&self.x),
+            scaled: twice_d.product(&self.t),
+            twice: self.z.sum(&self.z),
+        }
+    }
+
+    /// The sum.
+    pub fn sum(&self, other: &Addend) -> Self
+        ensures { result ≡ sum_by self.now other.now }
+    {
+        let y_less = self.y.difference(&self.x);
+        let y_more = self.y.sum(&self.x);
+        let a = y_less.product(&other.low);
+        let b = y_more.product(&other.high);
+        let c = self.t.product(&other.scaled);
+        let m = self.z.product(&other.twice);
+        let e = b.difference(&a);
+        let f = m.difference(&c);
+        let g = m.sum(&c);
+        let h = b.sum(&a);
+        completed(&e, &f, &g, &h)
+    }
+
+    /// The double, and the sum of it and a point where `is_odd`.
+    fn step(&self, addend: &Addend, is_odd: bool) -> Self
+        ensures even { is_odd ≡ false → result ≡ double self.now }
+        ensures odd { is_odd ≡ true → result ≡ sum_by (double self.now) addend.now }
+    {
+        let twice = self.double();
+        if is_odd { twice.sum(addend) } else { twice }
+    }
+
+    /// The multiple.
+    pub fn multiple(&self, k: &Limbs4) -> Self
+        ensures { result ≡ multiple 256 (number4 k.now) self.now }
+    {
+        let addend = self.addend();
+        let mut rest = *k;
+        let mut total = Self::neutral();
+        for _i in 0..Limbs4::BITS {
+            let (next, bit) = Limbs4::doubled(&rest);
+            rest = next;
+            total = total.step(&addend, bit == 1);
+        }
+        total
+    }
+
+    /// Whether two points are equal (RFC 8032 6, point_equal).
+    #[tactic(auto, unfolding(crate::specs::Tests::are_equal))]
+    pub fn is_equal(&self, other: &Self) -> bool
+        ensures { result ≡ are_equal self.now other.now }
+    {
+        let x = self.x.product(&other.z);
+        let other_x = other.x.product(&self.z);
+        if !x.is_equal(&other_x) {
+            return false;
+        }
+        let y = self.y.product(&other.z);
+        let other_y = other.y.product(&self.z);
+        y.is_equal(&other_y)
+    }
+}
