@@ -1,6 +1,7 @@
 //! The frames that a carrier writes and reads.
 
 use std::alloc::Global;
+use ts_serve::MAX_WAITING;
 use ts_store::Command;
 use ts_synod::Message;
 use ts_wire::{Feed, Frame, write_frame};
@@ -19,17 +20,18 @@ pub(crate) fn first_of(alloc: Global, octets: &[u8]) -> Option<Frame> {
     feed.take().ok()?
 }
 
-/// The messages among the frames that octets are, up to the first that can't be read.
+/// The messages that octets begin with, as a server gives them: at most so many as wait at a node.
 pub(crate) fn messages_in(alloc: Global, octets: &[u8]) -> Vec<Message<Command>> {
     let mut messages = Vec::new(alloc);
     let mut feed = Feed::new(alloc);
     if feed.push(octets).is_err() {
         return messages;
     }
-    while let Ok(Some(frame)) = feed.take() {
-        if let Frame::Peer(message) = frame {
-            let _pushed = messages.push(message);
-        }
+    for _frame in 0..MAX_WAITING {
+        let Ok(Some(Frame::Peer(message))) = feed.take() else {
+            return messages;
+        };
+        let _pushed = messages.push(message);
     }
     messages
 }

@@ -185,7 +185,7 @@ impl Line {
         if self.answers.push(octets).is_err() {
             return false;
         }
-        loop {
+        for _answer in 0..PIECE {
             match self.answers.take() {
                 Ok(Some(Frame::Prefix { prefix })) => self.prefix = prefix,
                 Ok(Some(Frame::Done { .. } | Frame::NodeFault { .. })) => {}
@@ -193,6 +193,7 @@ impl Line {
                 Ok(Some(_)) | Err(_) => return false,
             }
         }
+        true
     }
 
     /// Reads what has come. `false` where the connection is over.

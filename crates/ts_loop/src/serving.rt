@@ -81,7 +81,7 @@ fn places(alloc: Global, slots: usize) -> Result<Vec<Option<Door>>, LoopFault> {
 fn seed_of<R: Clock>(rt: &R) -> Option<u64> {
     let now = SystemTime::now(rt).ok()?;
     let past = now.duration_since(UNIX_EPOCH).ok()?;
-    Some(past.as_nanos() as u64)
+    Some(u64::from(past.subsec_nanos()))
 }
 
 /// The carrier of a group, whose peers' addresses are looked up once.

@@ -12,3 +12,7 @@ returns-then-not-write_once-clause-reached g c =
 pub returns-clause-reached : goal.returns-clause-reached
 returns-clause-reached g c =
     then_quiet g.S.Service.turn _ _ _ _ _ (reached_then g.S.Service.turn _ _ _ _ _ _ (reached_quiet g.S.Service.turn _ _ _ c.read_once.ensures) c.take_turns-taken.ensures.reached) c.write_once.ensures
+
+pub returns-then-holds_back-clause-reached : goal.returns-then-holds_back-clause-reached
+returns-then-holds_back-clause-reached g c =
+    then_quiet g.S.Service.turn _ _ _ _ _ (reached_then g.S.Service.turn _ _ _ _ _ _ (reached_quiet g.S.Service.turn _ _ _ c.read_once.ensures) c.take_turns-taken.ensures.reached) c.write_once.ensures
