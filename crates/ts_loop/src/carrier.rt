@@ -296,7 +296,8 @@ impl Carrier {
         ensures ready { S.is_ready service.new }
     {
         if self.is_over(table, service, now) {
-            self.gate.end(self.rest_until(now));
+            let until = self.rest_until(now);
+            self.gate.end(until);
             self.more = true;
             return;
         }
@@ -379,7 +380,9 @@ impl Carrier {
         self.tell_prefix(rt);
         for place in 0..self.lines.len() {
             let chance = self.chances.next_u64();
-            let line = &mut self.lines[place];
+            let Some(line) = self.lines.get_mut(place) else {
+                return;
+            };
             let token = Token(PEERS.saturating_add(place));
             let change = line.tend(rt, registry, token, buffer, now, chance);
             if self.tells {
