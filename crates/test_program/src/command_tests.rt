@@ -57,7 +57,10 @@ const LINES: &[(&str, &str)] = &[
     ("serve r --listen :1", "Value(Address)"),
     ("serve r --listen a", "Value(Address)"),
     ("serve r --listen a:1 --connections 0", "Value(Connections)"),
-    ("submit a:1 f", "Submit { address: \"a:1\", file: \"f\", wait: 0 }"),
+    (
+        "submit a:1 f",
+        "Submit { address: \"a:1\", file: \"f\", wait: 0 }",
+    ),
     ("ask a:1 f", "Ask { address: \"a:1\", file: \"f\" }"),
     ("ask a:1", "Wrong"),
     ("ask a f", "Value(Address)"),

@@ -113,6 +113,18 @@ pub fn say(rt: &impl Print, line: &str) -> Result<(), Fault> {
     }
 }
 
+/// Says on standard error which server was not reached, where one was not. The same result.
+pub(crate) fn told<T: Drop>(
+    rt: &impl Eprint,
+    address: &str,
+    result: Result<T, Fault>,
+) -> Result<T, Fault> {
+    if let Err(Fault::Write) = &result {
+        let _ = eprintln!(rt; "trustd: {address}: can't be reached, or ended the connection");
+    }
+    result
+}
+
 /// The server at an address.
 pub fn server_at<'a, R: Net>(
     rt: &'a R,
@@ -160,11 +172,11 @@ pub fn submit_file(
         return Err(Fault::Field);
     };
     let line = if wait == 0 {
-        submit(alloc, &mut server_at(rt, alloc, address)?, command)?
+        submit(alloc, &mut server_at(rt, alloc, address)?, command)
     } else {
-        submit_for(rt, alloc, address, command, wait)?
+        submit_for(rt, alloc, address, command, wait)
     };
-    say(rt, line.as_str())
+    say(rt, told(rt, address, line)?.as_str())
 }
 
 /// Asks the server at an address the question that a file holds, and prints the answer.
@@ -182,8 +194,8 @@ pub fn ask_file(
     let Some(question) = Question::read(alloc, &octets)? else {
         return Err(Fault::Field);
     };
-    let line = ask(alloc, &mut server_at(rt, alloc, address)?, question)?;
-    say(rt, line.as_str())
+    let line = ask(alloc, &mut server_at(rt, alloc, address)?, question);
+    say(rt, told(rt, address, line)?.as_str())
 }
 
 /// Carries messages between the servers at these addresses, the first being node 1, for so many

@@ -2,7 +2,7 @@
 //! record is rewritten.
 
 use crate::fault::Fault;
-use crate::requests::{answer_of, say, server_at};
+use crate::requests::{answer_of, say, server_at, told};
 use std::alloc::Global;
 use std::io::Print;
 use std::net::Net;
@@ -71,11 +71,11 @@ pub fn tend<P: Peer>(alloc: Global, peer: &mut P, upkeep: Upkeep) -> Result<Stri
 ///
 /// Those of [`tend`]; `Write`.
 pub fn tend_server(
-    rt: &(impl AllocGlobal + Net + Print),
+    rt: &(impl AllocGlobal + Net + Print + Eprint),
     address: &str,
     upkeep: Upkeep,
 ) -> Result<(), Fault> {
     let alloc = rt.alloc();
-    let line = tend(alloc, &mut server_at(rt, alloc, address)?, upkeep)?;
-    say(rt, line.as_str())
+    let line = tend(alloc, &mut server_at(rt, alloc, address)?, upkeep);
+    say(rt, told(rt, address, line)?.as_str())
 }

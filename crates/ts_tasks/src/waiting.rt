@@ -68,7 +68,7 @@ pub(crate) fn submit_and_wait<P: Peer, R: Net + Clock>(
             return Ok(answer);
         }
         wait_for(rt, alloc, millis.min(left))?;
-        millis = (millis * 2).min(LONGEST);
+        millis = millis.saturating_mul(2).min(LONGEST);
         let next = if look % LOOKS == 0 { &request } else { &asked };
         answer = answer_of(alloc, peer, next)?;
     }
