@@ -113,16 +113,16 @@ pub fn say(rt: &impl Print, line: &str) -> Result<(), Fault> {
     }
 }
 
-/// Says on standard error which server was not reached, where one was not. The same result.
+/// Says on standard error which server was not reached, where one was not. What it is given.
 pub(crate) fn told<T: Drop>(
     rt: &impl Eprint,
     address: &str,
-    result: Result<T, Fault>,
+    ended: Result<T, Fault>,
 ) -> Result<T, Fault> {
-    if let Err(Fault::Write) = &result {
+    if let Err(Fault::Write) = &ended {
         let _ = eprintln!(rt; "trustd: {address}: can't be reached, or ended the connection");
     }
-    result
+    ended
 }
 
 /// The server at an address.

@@ -7,7 +7,7 @@ use std::net::Net;
 use std::rt::Clock;
 use std::time::{Duration, Instant};
 use ts_loop::{LoopFault, pause};
-use ts_serve::Peer;
+use ts_serve::TcpPeer;
 use ts_store::Command;
 use ts_wire::Frame;
 
@@ -45,22 +45,19 @@ fn left<R: Clock>(rt: &R, start: Instant, longest: Duration) -> Result<u64, Faul
 /// # Errors
 ///
 /// Those of an exchange; `Clock`.
-pub(crate) fn submit_and_wait<P: Peer, R: Net + Clock>(
+pub(crate) fn submit_and_wait<R: Net + Clock>(
     rt: &R,
     alloc: Global,
-    peer: &mut P,
+    server: &mut TcpPeer<'_, R>,
     command: Command,
     longest: Duration,
-) -> Result<Frame, Fault>
-    requires { P.is_ready peer.old }
-    ensures { P.is_ready peer.new }
-{
+) -> Result<Frame, Fault> {
     let Ok(start) = Instant::now(rt) else {
         return Err(Fault::Clock);
     };
     let asked = Frame::Outcome { id: command.id() };
     let request = Frame::Submit { command };
-    let mut answer = answer_of(alloc, peer, &request)?;
+    let mut answer = answer_of(alloc, server, &request)?;
     let mut millis = FIRST;
     for look in 1..u32::MAX {
         let left = left(rt, start, longest)?;
@@ -70,7 +67,7 @@ pub(crate) fn submit_and_wait<P: Peer, R: Net + Clock>(
         wait_for(rt, alloc, millis.min(left))?;
         millis = millis.saturating_mul(2).min(LONGEST);
         let next = if look % LOOKS == 0 { &request } else { &asked };
-        answer = answer_of(alloc, peer, next)?;
+        answer = answer_of(alloc, server, next)?;
     }
     Ok(answer)
 }
