@@ -34,13 +34,24 @@ const LINES: &[(&str, &str)] = &[
     ("migrate o", "Wrong"),
     (
         "serve r --listen a:0",
-        "Serve(ServeWords { file: \"r\", listen: \"a:0\", table: None, stand_in: false, idle: 30, request: 5, at_once: 512, connections: 1000000 })",
+        "Serve(ServeWords { file: \"r\", listen: \"a:0\", table: None, stand_in: false, peers: [], quiet: false, idle: 30, request: 5, at_once: 512, connections: 1000000 })",
     ),
     (
         "serve r --listen a:65535 --table t --idle 3600 --request 1 --connections-at-once 4096 --connections 1",
-        "Serve(ServeWords { file: \"r\", listen: \"a:65535\", table: Some(\"t\"), stand_in: false, idle: 3600, request: 1, at_once: 4096, connections: 1 })",
+        "Serve(ServeWords { file: \"r\", listen: \"a:65535\", table: Some(\"t\"), stand_in: false, peers: [], quiet: false, idle: 3600, request: 1, at_once: 4096, connections: 1 })",
     ),
     ("serve r --listen a:1 --table t --stand-in", "Value(Check)"),
+    (
+        "serve r --listen a:1 --peer 2=b:2 --quiet --peer 3=c:3",
+        "Serve(ServeWords { file: \"r\", listen: \"a:1\", table: None, stand_in: false, peers: [\"2=b:2\", \"3=c:3\"], quiet: true, idle: 30, request: 5, at_once: 512, connections: 1000000 })",
+    ),
+    ("serve r --listen a:1 --peer 0=b:2", "Value(Peer)"),
+    ("serve r --listen a:1 --peer b:2", "Value(Peer)"),
+    (
+        "submit a:1 f --wait 3600",
+        "Submit { address: \"a:1\", file: \"f\", wait: 3600 }",
+    ),
+    ("submit a:1 f --wait 0", "Value(Wait)"),
     ("serve r --listen a:1 --idle 3601", "Value(Seconds)"),
     (
         "serve r --listen a:1 --connections-at-once 0",
