@@ -83,7 +83,9 @@ impl Gate {
     }
 
     /// The command that is under way.
-    pub fn wanted(&self) -> Option<&Wanted> {
+    pub fn wanted(&self) -> Option<&Wanted>
+        ensures { option_map (λ wanted. wanted.now) result ≡ self.now.wanted }
+    {
         self.wanted.as_ref()
     }
 
@@ -97,12 +99,13 @@ impl Gate {
 
     /// A command was submitted by this frame.
     pub fn begin(&mut self, frame: Vec<u8>, now: u64, chance: u64)
-        ensures { self.new.wanted ≡ Some (record {
+        ensures wanted { self.new.wanted ≡ Some (record {
           frame = frame;
           since = now;
           tries = 1;
           again = again_after 1 now chance;
         }) }
+        ensures rests { self.new.rests ≡ self.old.rests }
     {
         self.wanted = Some(Wanted {
             frame,
@@ -125,7 +128,8 @@ impl Gate {
     /// A round of the command was refused, since another node has begun one: it is proposed again
     /// soon, by chance not at the moment when the other node does so.
     pub fn hurry(&mut self, now: u64, chance: u64)
-        ensures { self.new.wanted ≡ hurried self.old.wanted now chance }
+        ensures wanted { self.new.wanted ≡ hurried self.old.wanted now chance }
+        ensures rests { self.new.rests ≡ self.old.rests }
     {
         let Some(wanted) = self.wanted.take() else {
             return;
@@ -141,7 +145,8 @@ impl Gate {
 
     /// The command was proposed again: it is given more time, or given up after [`LONGEST_WAY`].
     pub fn tried(&mut self, now: u64, chance: u64)
-        ensures { self.new.wanted ≡ after_try self.old.wanted now chance }
+        ensures wanted { self.new.wanted ≡ after_try self.old.wanted now chance }
+        ensures rests { self.new.rests ≡ self.old.rests }
     {
         let Some(wanted) = self.wanted.take() else {
             return;

@@ -1,5 +1,5 @@
-//! What a node's carrier keeps, as values: the frames that wait to be sent to a peer, when to connect
-//! to it, and the command of a client that is under way. No socket is in it; moments, in
+//! What a node's carrier keeps, as values: the frames that wait to be sent to a peer, when to
+//! connect to it, and the command of a client that is under way. No socket is in it; moments, in
 //! milliseconds, and chances are arguments.
 //!
 //! ```text
@@ -20,15 +20,16 @@
 //! What is proved:
 //!
 //! - [`Mailbox`]: `put`: the frame is behind the others, of which the first has gone where there
-//!   were 256; `fill`: no octet is lost, doubled or moved; `sent`: so many have gone at the front;
-//!   `cut`: what was being sent has gone, and whole frames stay.
-//!   frames that were put, in their order, until it breaks ([`laws::carries_what_was_put`]).
+//!   were 256; where memory is refused, it alone is lost. `fill`: frames are made ready one after
+//!   another until 16,384 octets are, and no octet is lost, doubled or moved, whatever memory there
+//!   is. `sent`: so many have gone at the front. `cut`: what was being sent is lost, and whole frames
+//!   wait on (`specs/Mailbox`).
 //! - [`Dial`]: each call leaves the state of `specs/Dial`: the next try is after the delay and at
 //!   most half of it more; the delay is 50 ms, doubled at each failure up to 5 s, and 50 ms again
 //!   after a connection that lasted a second.
 //! - [`Gate`]: `holds_back`: exactly where a command is under way, or was a short while ago, and
-//!   a whole Submit begins here; `due`, `tried`, `hurry`: when the command is proposed again, and that it is given up
-//!   after ten seconds (`specs/Gate`).
+//!   a whole Submit begins here; `due`, `tried`, `hurry`, `renew`: when the command is proposed
+//!   again, and that it is given up ten seconds after it was submitted or renewed (`specs/Gate`).
 //!
 //! # Not promised
 //!

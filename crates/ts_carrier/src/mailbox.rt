@@ -1,7 +1,9 @@
 //! Frames that wait to be sent to a peer.
 
-ghost use Rattle.std.specs.Prelude.{◌≡◌, ◌≤◌, ◌<◌, ◌∷◌, ◌++◌, [], length, drop, OnOk, OnErr};
-ghost use Rattle.ts_carrier.specs.Mailbox.{octets_in, with_frame};
+ghost use Rattle.std.specs.Prelude.{◌≡◌, ◌≤◌, ◌<◌, ◌∷◌, ◌++◌, [], length, drop, nat_le};
+ghost use Rattle.std.specs.Prelude.{IfOk, OnOk, OnErr};
+ghost use Rattle.ts_carrier.specs.Mailbox.{OneReady, Same, filled, octets_in, with_frame};
+ghost use Rattle.ts_carrier.specs.Mailbox.{with_room};
 
 use std::alloc::{AllocError, Global};
 use std::collections::VecDeque;
@@ -45,9 +47,11 @@ impl Mailbox {
     ///
     /// # Errors
     ///
-    /// Memory that is refused. The frame is lost then.
+    /// Memory that is refused. The frame is lost then, and so is the oldest where one had to go.
     pub fn put(&mut self, frame: Vec<u8>) -> Result<bool, AllocError>
         ensures put { OnOk result (self.new.frames.items ≡ with_frame self.old.frames.items frame) }
+        ensures gone { IfOk result (λ gone. gone ≡ nat_le 256 (length self.old.frames.items)) }
+        ensures lost { OnErr result (self.new.frames.items ≡ with_room self.old.frames.items) }
         ensures ready { self.new.ready ≡ self.old.ready }
     {
         let is_full = self.frames.len() >= MAX_FRAMES;
@@ -58,29 +62,35 @@ impl Mailbox {
         Ok(is_full)
     }
 
-    /// Makes the first frame that waits ready to be sent. `false` where none waits.
-    fn ready_one(&mut self) -> Result<bool, AllocError>
-        ensures same { OnOk result (octets_in self.new ≡ octets_in self.old) }
-    {
-        let Some(frame) = self.frames.pop_front() else {
-            return Ok(false);
-        };
-        self.ready.push(&frame)?;
-        Ok(true)
-    }
-
-    /// Makes octets ready to be sent, if some wait.
+    /// Makes the first frame that waits ready to be sent.
     ///
     /// # Errors
     ///
-    /// Memory that is refused. A frame is lost then, as a whole.
-    pub fn fill(&mut self) -> Result<(), AllocError>
-        ensures same { OnOk result (octets_in self.new ≡ octets_in self.old) }
+    /// Memory that is refused. Nothing changes then.
+    fn ready_one(&mut self) -> Result<(), AllocError>
+        ensures one { OnOk result (OneReady self.old self.new) }
+        ensures unchanged { OnErr result (Same self.old self.new) }
     {
-        for _frame in 0..MAX_FRAMES {
-            if self.ready.len() >= READY || !self.ready_one()? {
-                return Ok(());
-            }
+        let Some(frame) = self.frames.front() else {
+            return Ok(());
+        };
+        self.ready.push(frame)?;
+        let _ready = self.frames.pop_front();
+        Ok(())
+    }
+
+    /// Makes frames ready to be sent, one after another, until [`READY`] octets are or none waits.
+    ///
+    /// # Errors
+    ///
+    /// Memory that is refused. The frame and those behind it wait on.
+    pub fn fill(&mut self) -> Result<(), AllocError>
+        ensures filled { OnOk result (filled self.old.ready self.old.frames.items
+            ≡ (self.new.ready, self.new.frames.items)) }
+        ensures same { octets_in self.new ≡ octets_in self.old }
+    {
+        while self.ready.len() < READY && !self.frames.is_empty() {
+            self.ready_one()?;
         }
         Ok(())
     }

@@ -14,6 +14,8 @@ use rand_core::{Rng, SeedableRng};
 use rand_xoshiro::SplitMix64;
 use std::alloc::Global;
 use std::net::{Net, SocketAddr};
+use std::random::RandomSource;
+use ts_access::Key;
 use ts_carrier::Gate;
 use ts_links::{Connections, Service};
 use ts_synod::Body;
@@ -74,6 +76,8 @@ pub(crate) struct Carrier {
     pace: u64,
     /// When another node was last seen to propose.
     rivals: u64,
+    /// The slot of the client whose command was taken last.
+    last: usize,
     /// How many requests clients had made when it was last looked after.
     taken: u64,
     /// There is more to do at once.
@@ -95,6 +99,7 @@ impl Carrier {
             grown: 0,
             pace: 0,
             rivals: 0,
+            last: 0,
             taken: 0,
             more: carries,
             chances: SplitMix64::seed_from_u64(seed),
@@ -115,14 +120,22 @@ impl Carrier {
         }
     }
 
-    /// The frame that begins here is taken next: it may be a client's command, or say that a round
-    /// of the one that is under way was refused.
-    pub fn see(&mut self, held: &[u8], now: u64) {
+    /// The slot behind that of the client whose command was taken last.
+    pub fn next_slot(&self) -> usize {
+        self.last.wrapping_add(1)
+    }
+
+    /// The frame that begins here is taken next of a slot: it may be a client's command, or say
+    /// that a round of the one that is under way was refused.
+    pub fn see(&mut self, held: &[u8], slot: usize, now: u64) {
         if !self.carries {
             return;
         }
         match held.get(KIND) {
-            Some(&SUBMIT) => self.begin(held, now),
+            Some(&SUBMIT) => {
+                self.last = slot;
+                self.begin(held, now);
+            }
             Some(&PREPARE) => self.rivals = now,
             Some(&BUSY) => self.hurry(now),
             _ => {}
@@ -370,10 +383,11 @@ impl Carrier {
 
     /// One round of the lines to the peers. Standard error is told of those reached and lost, and of
     /// commands that were chosen.
-    pub fn tend<R: Net + Eprint>(
+    pub fn tend<R: Net + Eprint + RandomSource>(
         &mut self,
         rt: &R,
         registry: &Registry,
+        own: &Option<Key>,
         buffer: &mut [u8; PIECE],
         now: u64,
     ) {
@@ -384,7 +398,7 @@ impl Carrier {
                 return;
             };
             let token = Token(PEERS.saturating_add(place));
-            let change = line.tend(rt, registry, token, buffer, now, chance);
+            let change = line.tend(rt, registry, token, own, buffer, now, chance);
             if self.tells {
                 tell(rt, line.node, change);
             }
@@ -398,5 +412,8 @@ fn tell(rt: &impl Eprint, node: u8, change: Change) {
         Change::None => Ok(()),
         Change::Reached => eprintln!(rt; "trustd: peer {node} is reached"),
         Change::Lost => eprintln!(rt; "trustd: peer {node} is lost"),
+        Change::Refused => eprintln!(rt;
+            "trustd: peer {node} ended the connection before it answered: does it know this key?"
+        ),
     };
 }

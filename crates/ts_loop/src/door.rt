@@ -3,9 +3,11 @@
 ghost use Rattle.std.specs.Prelude.{◌≤◌, IfSome};
 ghost use Rattle.ts_links.specs.Calls.{IsQuiet};
 
+use crate::lock::Lock;
 use mio::net::TcpStream;
 use std::io::{ErrorKind, Read, Write};
 use std::net::Shutdown;
+use ts_access::Key;
 use ts_links::reaching::{arrive, leave};
 use ts_links::{Connections, Stage};
 
@@ -27,11 +29,13 @@ pub(crate) struct Door {
     pub shut: bool,
     /// It is to be looked at in this round.
     pub hot: bool,
+    /// What keys are wanted for.
+    pub lock: Option<Lock>,
 }
 
 impl Door {
     /// The door of a new connection.
-    pub fn new(stream: TcpStream) -> Door {
+    pub fn new(stream: TcpStream, lock: Option<Lock>) -> Door {
         Door {
             stream,
             readable: true,
@@ -39,7 +43,17 @@ impl Door {
             ended: false,
             shut: false,
             hot: true,
+            lock,
         }
+    }
+
+    /// Whether something waits to be written.
+    pub fn waits(&self, table: &Connections, slot: usize) -> bool {
+        let is_ready = match &self.lock {
+            Some(lock) => lock.waits(),
+            None => false,
+        };
+        is_ready || !table.waiting(slot).is_empty()
     }
 }
 
@@ -74,34 +88,54 @@ fn may_read(table: &Connections, door: &Door, slot: usize) -> bool {
     }
 }
 
-/// Reads once, if there is room. `false` where the connection failed.
+/// Hands on octets that came: as they are, or as the lock of the door lets them through. `false`
+/// where the connection failed.
+fn take_in(
+    table: &mut Connections,
+    door: &mut Door,
+    keys: &[Key],
+    slot: usize,
+    piece: &[u8],
+    now: u64,
+) -> bool
+    ensures { IsQuiet table.old table.new }
+{
+    match &mut door.lock {
+        Some(lock) => lock.push(piece) && lock.hand_on(table, keys, slot, now),
+        None => piece.is_empty() || arrive(table, slot, piece, now),
+    }
+}
+
+/// Reads once, if there is room, and hands on what has come. `false` where the connection failed.
 pub(crate) fn read_once(
     table: &mut Connections,
     door: &mut Door,
+    keys: &[Key],
     slot: usize,
     buffer: &mut [u8; PIECE],
     now: u64,
 ) -> bool
     ensures { IsQuiet table.old table.new }
 {
-    if !may_read(table, door, slot) {
+    let mut count = 0;
+    if may_read(table, door, slot) {
+        let Some(read) = read_some(door, buffer) else {
+            return false;
+        };
+        count = read;
+    }
+    if table.stage(slot) == Stage::Refused {
         return true;
     }
-    let Some(count) = read_some(door, buffer) else {
-        return false;
-    };
-    if count == 0 || table.stage(slot) == Stage::Refused {
-        return true;
-    }
-    arrive(table, slot, &buffer[..count], now)
+    take_in(table, door, keys, slot, &buffer[..count], now)
 }
 
-/// Writes once what waits on a slot. How much was taken, and `None` where the connection failed.
-fn write_some(table: &Connections, door: &mut Door, slot: usize) -> Option<usize> {
-    match door.stream.write(table.waiting(slot)) {
+/// Writes octets once. How many were taken, and `None` where the connection failed.
+fn write_some(stream: &mut TcpStream, writable: &mut bool, octets: &[u8]) -> Option<usize> {
+    match stream.write(octets) {
         Ok(count) => Some(count),
         Err(error) if error.kind() == ErrorKind::WouldBlock => {
-            door.writable = false;
+            *writable = false;
             Some(0)
         }
         Err(error) if error.kind() == ErrorKind::Interrupted => Some(0),
@@ -109,23 +143,68 @@ fn write_some(table: &Connections, door: &mut Door, slot: usize) -> Option<usize
     }
 }
 
+/// Writes once what waits on a slot. `false` where the connection failed.
+fn write_plain(table: &mut Connections, door: &mut Door, slot: usize, now: u64) -> bool
+    ensures { IsQuiet table.old table.new }
+{
+    if table.waiting(slot).is_empty() {
+        return true;
+    }
+    match write_some(&mut door.stream, &mut door.writable, table.waiting(slot)) {
+        Some(count) => leave(table, slot, count, now),
+        None => false,
+    }
+}
+
+/// Writes once what is ready in the lock of a door.
+fn write_ready(door: &mut Door) -> bool {
+    let Some(lock) = &mut door.lock else {
+        return true;
+    };
+    if !lock.waits() {
+        return true;
+    }
+    match write_some(&mut door.stream, &mut door.writable, lock.octets()) {
+        Some(count) => {
+            lock.written(count);
+            true
+        }
+        None => false,
+    }
+}
+
+/// Seals what waits on a slot. `false` where it can't be.
+fn seal_some(table: &mut Connections, door: &mut Door, slot: usize, now: u64) -> bool
+    ensures { IsQuiet table.old table.new }
+{
+    match &mut door.lock {
+        Some(lock) => lock.seal(table, slot, now),
+        None => true,
+    }
+}
+
 /// Writes once, if something waits. `false` where the connection failed.
 pub(crate) fn write_once(table: &mut Connections, door: &mut Door, slot: usize, now: u64) -> bool
     ensures { IsQuiet table.old table.new }
 {
-    if !door.writable || table.waiting(slot).is_empty() {
+    if !door.writable {
         return true;
     }
-    let Some(count) = write_some(table, door, slot) else {
-        return false;
-    };
-    leave(table, slot, count, now)
+    if door.lock.is_none() {
+        return write_plain(table, door, slot, now);
+    }
+    seal_some(table, door, slot, now) && write_ready(door)
+}
+
+/// Writes what a lock has ready, before a connection is closed that failed: why no key was taken.
+pub(crate) fn write_last(door: &mut Door) {
+    let _written = write_ready(door);
 }
 
 /// Ends what is written on a connection that was refused, once all has left. The system would else
 /// take the fault's answer away where the client has sent more.
 pub(crate) fn shut_if_done(table: &Connections, door: &mut Door, slot: usize) {
-    if door.shut || table.stage(slot) != Stage::Refused || !table.waiting(slot).is_empty() {
+    if door.shut || table.stage(slot) != Stage::Refused || door.waits(table, slot) {
         return;
     }
     door.shut = true;

@@ -7,6 +7,8 @@ use std::alloc::AllocError;
 pub enum LoopFault {
     /// The address can't be listened at.
     Listen,
+    /// Other machines reach the address, and no keys are wanted.
+    Unprotected,
     /// The address of this peer can't be found.
     Peer(u8),
     /// The system gives no events.

@@ -3,12 +3,15 @@
 ghost use Rattle.std.specs.Prelude.{◌≤◌, IfSome};
 
 use crate::door::PIECE;
+use crate::seal::Seal;
 use mio::event::Event;
 use mio::net::TcpStream;
 use mio::{Interest, Registry, Token};
 use std::alloc::Global;
 use std::io::{ErrorKind, Read, Write};
 use std::net::{Net, SocketAddr};
+use std::random::RandomSource;
+use ts_access::Key;
 use ts_carrier::{Dial, Mailbox, Phase};
 use ts_wire::{Feed, Frame};
 
@@ -33,6 +36,8 @@ pub(crate) enum Change {
     Reached,
     /// The peer was lost.
     Lost,
+    /// The peer ended the connection before it answered.
+    Refused,
 }
 
 /// The line to a peer.
@@ -45,6 +50,7 @@ pub(crate) struct Line {
     mailbox: Mailbox,
     dial: Dial,
     stream: Option<TcpStream>,
+    seal: Option<Seal>,
     answers: Feed,
     readable: bool,
     writable: bool,
@@ -52,6 +58,10 @@ pub(crate) struct Line {
     asked: u64,
     /// When something was last heard of it.
     heard: u64,
+    /// Whether it has answered on this connection.
+    is_known: bool,
+    /// Whether it was said that it ended a connection before it answered.
+    is_told: bool,
     /// How many commands it has said that it knows.
     pub prefix: u32,
     /// How many messages to it were dropped.
@@ -68,11 +78,14 @@ impl Line {
             mailbox: Mailbox::new(alloc),
             dial: Dial::new(),
             stream: None,
+            seal: None,
             answers: Feed::new(alloc),
             readable: false,
             writable: false,
             asked: 0,
             heard: 0,
+            is_known: false,
+            is_told: false,
             prefix: 0,
             dropped: 0,
         }
@@ -100,10 +113,19 @@ impl Line {
     fn lose(&mut self, now: u64, chance: u64) -> Change {
         let was_up = matches!(self.dial.phase, Phase::Up { .. });
         self.stream = None;
+        self.seal = None;
         self.mailbox.cut();
         self.answers = Feed::new(self.alloc);
         self.dial.lose(now, chance);
-        if was_up { Change::Lost } else { Change::None }
+        if self.is_known {
+            self.is_known = false;
+            return Change::Lost;
+        }
+        if !was_up || self.is_told {
+            return Change::None;
+        }
+        self.is_told = true;
+        Change::Refused
     }
 
     /// Begins to connect.
@@ -139,7 +161,14 @@ impl Line {
     }
 
     /// Looks after a connection that is being made.
-    fn finish(&mut self, since: u64, now: u64, chance: u64) -> Change {
+    fn finish(
+        &mut self,
+        source: &impl RandomSource,
+        own: &Option<Key>,
+        since: u64,
+        now: u64,
+        chance: u64,
+    ) -> Change {
         if !self.writable {
             if now.saturating_sub(since) < SILENCE {
                 return Change::None;
@@ -149,10 +178,16 @@ impl Line {
         if !self.is_made() {
             return self.lose(now, chance);
         }
+        if let Some(key) = own {
+            self.seal = Seal::new(source, self.alloc, key);
+            if self.seal.is_none() {
+                return self.lose(now, chance);
+            }
+        }
         self.dial.reach(now);
         self.heard = now;
         self.ask_prefix(now);
-        Change::Reached
+        Change::None
     }
 
     /// Asks the peer how many commands it knows.
@@ -187,10 +222,39 @@ impl Line {
         }
         for _answer in 0..PIECE {
             match self.answers.take() {
-                Ok(Some(Frame::Prefix { prefix })) => self.prefix = prefix,
+                Ok(Some(Frame::Prefix { prefix })) => {
+                    self.prefix = prefix;
+                    self.is_known = true;
+                }
                 Ok(Some(Frame::Done { .. } | Frame::NodeFault { .. })) => {}
                 Ok(None) => return true,
                 Ok(Some(_)) | Err(_) => return false,
+            }
+        }
+        true
+    }
+
+    /// Takes the octets that came: as they are, or as the seal opens them. `false` where the
+    /// connection is over.
+    fn take_in(&mut self, piece: &[u8]) -> bool {
+        let Some(seal) = &mut self.seal else {
+            return self.take_answers(piece);
+        };
+        if !seal.push(piece) {
+            return false;
+        }
+        for _record in 0..PIECE {
+            let Some(seal) = &mut self.seal else {
+                return false;
+            };
+            match seal.take() {
+                Ok(Some(octets)) => {
+                    if !self.take_answers(&octets) {
+                        return false;
+                    }
+                }
+                Ok(None) => return true,
+                Err(_) => return false,
             }
         }
         true
@@ -207,7 +271,7 @@ impl Line {
             };
             if count > 0 {
                 self.heard = now;
-                if !self.take_answers(&buffer[..count]) {
+                if !self.take_in(&buffer[..count]) {
                     return false;
                 }
             }
@@ -215,36 +279,65 @@ impl Line {
         true
     }
 
-    /// Writes once. `false` where the connection is over.
-    fn write_once(&mut self) -> bool {
-        let Some(stream) = &mut self.stream else {
+    /// Makes octets ready to be written. `false` where they can't be.
+    fn make_ready(&mut self) -> bool {
+        if self.mailbox.fill().is_err() {
             return false;
+        }
+        match &mut self.seal {
+            Some(seal) => seal.seal(&mut self.mailbox),
+            None => true,
+        }
+    }
+
+    /// What is ready to be written.
+    fn ready(&self) -> &[u8] {
+        match &self.seal {
+            Some(seal) => seal.out.octets(),
+            None => self.mailbox.octets(),
+        }
+    }
+
+    /// So many of the octets that were ready are written.
+    fn written(&mut self, count: usize) {
+        match &mut self.seal {
+            Some(seal) if count <= seal.out.len() => seal.out.skip(count),
+            None if count <= self.mailbox.octets().len() => self.mailbox.sent(count),
+            _ => {}
+        }
+    }
+
+    /// Writes once. How many octets were taken, and `None` where the connection is over.
+    fn write_once(&mut self) -> Option<usize> {
+        let octets = match &self.seal {
+            Some(seal) => seal.out.octets(),
+            None => self.mailbox.octets(),
         };
-        match stream.write(self.mailbox.octets()) {
-            Ok(count) => {
-                self.mailbox.sent(count);
-                true
-            }
+        let stream = self.stream.as_mut()?;
+        match stream.write(octets) {
+            Ok(count) => Some(count),
             Err(error) if error.kind() == ErrorKind::WouldBlock => {
                 self.writable = false;
-                true
+                Some(0)
             }
-            Err(error) => error.kind() == ErrorKind::Interrupted,
+            Err(error) if error.kind() == ErrorKind::Interrupted => Some(0),
+            Err(_) => None,
         }
     }
 
     /// Writes what waits. `false` where the connection is over.
     fn write_all(&mut self) -> bool {
         for _write in 0..CALLS {
-            if self.mailbox.fill().is_err() {
+            if !self.make_ready() {
                 return false;
             }
-            if !self.writable || self.mailbox.octets().is_empty() {
+            if !self.writable || self.ready().is_empty() {
                 return true;
             }
-            if !self.write_once() {
+            let Some(count) = self.write_once() else {
                 return false;
-            }
+            };
+            self.written(count);
         }
         true
     }
@@ -255,18 +348,24 @@ impl Line {
             self.ask_prefix(now);
         }
         let is_silent = now.saturating_sub(self.heard) >= SILENCE;
+        let was_known = self.is_known;
         if is_silent || !self.read_all(buffer, now) || !self.write_all() {
             return self.lose(now, chance);
+        }
+        if self.is_known && !was_known {
+            self.is_told = false;
+            return Change::Reached;
         }
         Change::None
     }
 
     /// One round of the line: it is dialed, looked after, read and written. `chance` is any number.
-    pub fn tend<N: Net>(
+    pub fn tend<N: Net + RandomSource>(
         &mut self,
         net: &N,
         registry: &Registry,
         token: Token,
+        own: &Option<Key>,
         buffer: &mut [u8; PIECE],
         now: u64,
         chance: u64,
@@ -276,7 +375,7 @@ impl Line {
                 self.dial(net, registry, token, now, chance)
             }
             Phase::Down { .. } => Change::None,
-            Phase::Dialing { since } => self.finish(since, now, chance),
+            Phase::Dialing { since } => self.finish(net, own, since, now, chance),
             Phase::Up { .. } => self.exchange(buffer, now, chance),
         }
     }

@@ -3,7 +3,8 @@
 ghost use Rattle.ts_links.specs.Calls.{HasReached};
 
 use crate::carrier::Carrier;
-use crate::door::{Door, PIECE, read_once, shut_if_done, write_once};
+use crate::door::{Door, PIECE, read_once, shut_if_done, write_last, write_once};
+use ts_access::Key;
 use ts_links::reaching::take_some;
 use ts_links::{Connections, Service, Stage};
 
@@ -27,7 +28,7 @@ pub(crate) enum Pumped {
 
 /// What is left to do on an open connection of which so many requests were taken.
 fn left_open(table: &Connections, door: &Door, slot: usize, taken: u32) -> Pumped {
-    let waits = !table.waiting(slot).is_empty();
+    let waits = door.waits(table, slot);
     let reads = door.readable && !door.ended && table.reads(slot);
     if taken == TURNS || reads || (waits && door.writable) {
         return Pumped::More;
@@ -74,7 +75,7 @@ fn take_one<S: Service>(
     if carrier.gate.holds_back(table.held(slot), now) {
         return (0, true);
     }
-    carrier.see(table.held(slot), now);
+    carrier.see(table.held(slot), slot, now);
     take_some(table, slot, service, 1, now)
 }
 
@@ -106,6 +107,7 @@ pub(crate) fn pump<S: Service>(
     service: &mut S,
     carrier: &mut Carrier,
     door: &mut Door,
+    keys: &[Key],
     slot: usize,
     buffer: &mut [u8; PIECE],
     now: u64,
@@ -114,7 +116,8 @@ pub(crate) fn pump<S: Service>(
     ensures reached { HasReached S.turn service.old table.old service.new table.new }
     ensures ready { S.is_ready service.new }
 {
-    if !read_once(table, door, slot, buffer, now) {
+    if !read_once(table, door, keys, slot, buffer, now) {
+        write_last(door);
         return (0, Pumped::Failed);
     }
     let (taken, good) = take_turns(table, service, carrier, slot, now);

@@ -7,6 +7,7 @@ use crate::counts::{Counts, Why};
 use crate::door::{Door, PIECE, write_once};
 use crate::pumping::{Pumped, pump};
 use mio::{Events, Token};
+use ts_access::Key;
 use ts_links::reaching::close;
 use ts_links::{Connections, Deadlines, Service};
 
@@ -92,6 +93,7 @@ fn pump_slot<S: Service>(
     service: &mut S,
     carrier: &mut Carrier,
     place: &mut Option<Door>,
+    keys: &[Key],
     slot: usize,
     buffer: &mut [u8; PIECE],
     now: u64,
@@ -107,18 +109,19 @@ fn pump_slot<S: Service>(
     if !door.hot {
         return false;
     }
-    let (taken, pumped) = pump(table, service, carrier, door, slot, buffer, now);
+    let (taken, pumped) = pump(table, service, carrier, door, keys, slot, buffer, now);
     counts.taken = counts.taken.saturating_add(u64::from(taken));
     settle(table, place, slot, pumped, counts)
 }
 
-/// One round of all doors that are to be looked at, from a slot on. Whether one could do more.
+/// One round of all doors that are to be looked at, from the one on that is behind the slot whose
+/// command was taken last, so that each client's command has its turn. Whether one could do more.
 pub(crate) fn pump_all<S: Service>(
     table: &mut Connections,
     service: &mut S,
     carrier: &mut Carrier,
     doors: &mut [Option<Door>],
-    first: usize,
+    keys: &[Key],
     buffer: &mut [u8; PIECE],
     now: u64,
     counts: &mut Counts,
@@ -128,15 +131,26 @@ pub(crate) fn pump_all<S: Service>(
     ensures ready { S.is_ready service.new }
 {
     let slots = doors.len();
+    let first = carrier.next_slot();
     let mut more = false;
     for step in 0..slots {
         let slot = first.wrapping_add(step) % slots;
         let place = &mut doors[slot];
-        if pump_slot(table, service, carrier, place, slot, buffer, now, counts) {
+        if pump_slot(table, service, carrier, place, keys, slot, buffer, now, counts) {
             more = true;
         }
     }
     more
+}
+
+/// Whether a connection has shown no key for as long as a request may take.
+fn is_unknown(place: &Option<Door>, deadlines: &Deadlines, now: u64) -> bool {
+    match place {
+        Some(Door {
+            lock: Some(lock), ..
+        }) => lock.is_unknown(deadlines.request_ms, now),
+        _ => false,
+    }
 }
 
 /// Closes the connection of a slot if its time is over. A request that has to wait is not late.
@@ -151,7 +165,9 @@ fn sweep_slot(
 )
     ensures { IsQuiet table.old table.new }
 {
-    if !table.is_late(slot, deadlines, now) || carrier.gate.holds_back(table.held(slot), now) {
+    let is_late = table.is_late(slot, deadlines, now)
+        && !carrier.gate.holds_back(table.held(slot), now);
+    if !is_late && !is_unknown(place, deadlines, now) {
         return;
     }
     close_slot(table, place, slot, Why::Late, counts);
@@ -201,7 +217,7 @@ fn write_slot(
         return false;
     };
     if write_once(table, door, slot, now) {
-        return !table.waiting(slot).is_empty();
+        return door.waits(table, slot);
     }
     close_slot(table, place, slot, Why::Failed, counts);
     false

@@ -9,7 +9,8 @@ ghost use Rattle.ts_serve.specs.Turn.{Turn};
 ghost use Rattle.ts_links.specs.Calls.{HasReached, IsQuiet};
 ghost use Rattle.ts_links.specs.Turns.{Served};
 
-use crate::accepting::{Accepts, accept_some};
+use crate::accepting::{Accepts, Entry, accept_some};
+use crate::access::Access;
 use crate::carrier::Carrier;
 use crate::counts::Counts;
 use crate::door::{Door, PIECE};
@@ -21,8 +22,10 @@ use mio::net::TcpListener;
 use mio::{Events, Interest, Poll};
 use std::alloc::Global;
 use std::net::{Net, ToSocketAddrs};
+use std::random::RandomSource;
 use std::rt::Clock;
 use std::time::{Duration, Instant, SystemTime, UNIX_EPOCH};
+use ts_access::Key;
 use ts_disk::Disk;
 use ts_links::{Connections, Service};
 use ts_node::Machine;
@@ -39,6 +42,7 @@ const EVENTS: usize = 1024;
 /// The sockets, and what is known of them.
 #[derive(Drop)]
 struct Edge {
+    alloc: Global,
     poll: Poll,
     events: Events,
     listener: TcpListener,
@@ -48,17 +52,24 @@ struct Edge {
     counts: Counts,
     start: Instant,
     swept: u64,
-    first: usize,
     /// A connection could do more.
     more: bool,
 }
 
-/// The listener at an address, whose calls don't wait. `mio` asks for the longest backlog.
-fn listener_at<R: Net>(rt: &R, address: &str) -> Result<TcpListener, LoopFault> {
+/// The listener at an address, whose calls don't wait. `mio` asks for the longest backlog. Without
+/// keys it is one that this machine alone reaches, unless any is allowed.
+fn listener_at<R: Net>(
+    rt: &R,
+    address: &str,
+    access: &Access,
+) -> Result<TcpListener, LoopFault> {
     let Ok(found) = address.to_socket_addrs(rt) else {
         return Err(LoopFault::Listen);
     };
     for place in found {
+        if !access.is_locked() && !access.open && !place.ip().is_loopback() {
+            return Err(LoopFault::Unprotected);
+        }
         if let Ok(listener) = TcpListener::bind(rt, place) {
             return Ok(listener);
         }
@@ -112,8 +123,9 @@ impl Edge {
         address: &str,
         slots: usize,
         group: &Group,
+        access: &Access,
     ) -> Result<Edge, LoopFault> {
-        let mut listener = listener_at(rt, address)?;
+        let mut listener = listener_at(rt, address, access)?;
         let Ok(poll) = Poll::new(rt) else {
             return Err(LoopFault::Poll);
         };
@@ -129,6 +141,7 @@ impl Edge {
             return Err(LoopFault::Clock);
         };
         Ok(Edge {
+            alloc,
             poll,
             events,
             listener,
@@ -138,7 +151,6 @@ impl Edge {
             counts: Counts::new(),
             start,
             swept: 0,
-            first: 0,
             more: false,
         })
     }
@@ -158,28 +170,42 @@ impl Edge {
     }
 
     /// Accepts connections, if it is time.
-    fn accept(&mut self, table: &mut Connections, event: bool, now: u64)
+    fn accept<R: RandomSource>(
+        &mut self,
+        rt: &R,
+        table: &mut Connections,
+        access: &Access,
+        event: bool,
+        now: u64,
+    )
         ensures { IsQuiet table.old table.new }
     {
         if !self.accepts.is_due(event, now) {
             return;
         }
+        let entry = Entry {
+            rt,
+            alloc: self.alloc,
+            registry: self.poll.registry(),
+            access,
+        };
         self.accepts = accept_some(
             table,
             &mut self.doors,
             &self.listener,
-            self.poll.registry(),
+            &entry,
             now,
             &mut self.counts,
         );
     }
 
     /// Looks after what is carried: what the node has made, and the lines to its peers.
-    fn carry<S: Service, R: Net + Eprint>(
+    fn carry<S: Service, R: Net + Eprint + RandomSource>(
         &mut self,
         rt: &R,
         table: &mut Connections,
         service: &mut S,
+        own: &Option<Key>,
         buffer: &mut [u8; PIECE],
         now: u64,
     )
@@ -188,17 +214,19 @@ impl Edge {
         ensures ready { S.is_ready service.new }
     {
         self.carrier.carry(table, service, self.counts.taken, now);
-        self.carrier.tend(rt, self.poll.registry(), buffer, now);
+        self.carrier
+            .tend(rt, self.poll.registry(), own, buffer, now);
     }
 
     /// One round. The milliseconds since the start.
-    fn round<S: Service, R: Net + Clock + Eprint>(
+    fn round<S: Service, R: Net + Clock + Eprint + RandomSource>(
         &mut self,
         rt: &R,
         table: &mut Connections,
         service: &mut S,
         buffer: &mut [u8; PIECE],
         limits: &Limits,
+        access: &Access,
     ) -> Result<u64, LoopFault>
         requires { S.is_ready service.old }
         ensures reached { HasReached S.turn service.old table.old service.new table.new }
@@ -206,19 +234,18 @@ impl Edge {
     {
         let goes_on = self.more || self.carrier.has_more() || self.accepts == Accepts::Now;
         let (event, now) = self.wait(rt, if goes_on { 0 } else { ROUND })?;
-        self.accept(table, event, now);
+        self.accept(rt, table, access, event, now);
         self.more = pump_all(
             table,
             service,
             &mut self.carrier,
             &mut self.doors,
-            self.first,
+            access.keys_of(),
             buffer,
             now,
             &mut self.counts,
         );
-        self.first = self.first.wrapping_add(1);
-        self.carry(rt, table, service, buffer, now);
+        self.carry(rt, table, service, &access.own, buffer, now);
         self.swept = sweep(
             table,
             &self.carrier,
@@ -275,31 +302,33 @@ impl Edge {
     }
 
     /// One round, and how the loop ends after it, if it does.
-    fn step<S: Service, R: Net + Clock + Eprint>(
+    fn step<S: Service, R: Net + Clock + Eprint + RandomSource>(
         &mut self,
         rt: &R,
         table: &mut Connections,
         service: &mut S,
         buffer: &mut [u8; PIECE],
         limits: &Limits,
+        access: &Access,
     ) -> Option<Result<(), LoopFault>>
         requires { S.is_ready service.old }
         ensures reached { HasReached S.turn service.old table.old service.new table.new }
         ensures ready { S.is_ready service.new }
     {
-        match self.round(rt, table, service, buffer, limits) {
+        match self.round(rt, table, service, buffer, limits, access) {
             Ok(now) => self.end_after(rt, table, service.has_failed(), now, limits),
             Err(fault) => Some(Err(fault)),
         }
     }
 
     /// Rounds, until so many connections are over or the service has failed.
-    fn serve<S: Service, R: Net + Clock + Eprint>(
+    fn serve<S: Service, R: Net + Clock + Eprint + RandomSource>(
         &mut self,
         rt: &R,
         table: &mut Connections,
         service: &mut S,
         limits: &Limits,
+        access: &Access,
     ) -> Result<(), LoopFault>
         requires { S.is_ready service.old }
         ensures reached { HasReached S.turn service.old table.old service.new table.new }
@@ -311,7 +340,7 @@ impl Edge {
             if let Some(result) = end {
                 return result;
             }
-            end = self.step(rt, table, service, &mut buffer, limits);
+            end = self.step(rt, table, service, &mut buffer, limits, access);
         }
         Ok(())
     }
@@ -321,12 +350,14 @@ impl Edge {
 /// and a connection that is slow, silent or reads nothing keeps no other from being answered. A
 /// connection's own fault ends it alone. Where the group says so messages are carried: the node's
 /// to itself at once, those to peers on a connection to each, which is made again where it breaks.
-/// While a command is under way no other is taken from a client.
+/// While a command is under way no other is taken from a client. Where keys are wanted, what comes
+/// is handed on as `ts_access` lets it through.
 ///
 /// # Errors
 ///
 /// `Listen`, `Peer`, `Poll`, `Clock` and `Memory` where the system gives no listener, no address of
-/// a peer, no events, time or memory; `NodeFailed` once a device of the node has failed, after what was answered.
+/// a peer, no events, time or memory; `Unprotected` where there are no keys and other machines
+/// reach the address; `NodeFailed` once a device of the node has failed, after what was answered.
 pub fn serve_all<R, D, M>(
     rt: &R,
     alloc: Global,
@@ -334,9 +365,10 @@ pub fn serve_all<R, D, M>(
     address: &str,
     limits: &Limits,
     group: &Group,
+    access: &Access,
 ) -> Result<Counts, LoopFault>
 where
-    R: Net + Clock + Eprint,
+    R: Net + Clock + Eprint + RandomSource,
     D: Disk,
     M: Machine<Command, Outcome = Outcome, Question = Question, Answer = Answer>,
     requires { IsSound D.state octets_of M.commands server.old.node }
@@ -349,7 +381,7 @@ where
     let slots = limits.connections_at_once;
     // One slot more is for what the loop asks of its own node.
     let mut table = Connections::new(alloc, slots.saturating_add(1))?;
-    let mut edge = Edge::new(rt, alloc, address, slots, group)?;
-    edge.serve(rt, &mut table, server, limits)?;
+    let mut edge = Edge::new(rt, alloc, address, slots, group, access)?;
+    edge.serve(rt, &mut table, server, limits, access)?;
     Ok(edge.counts)
 }

@@ -1,7 +1,13 @@
--- All octets that wait are there.
-use Rattle.std.proofs.Common.{◌≡◌}
-use Rattle.ts_carrier.specs.Mailbox.{octets_in}
+-- What would be ready and wait in the end, and all octets that wait, stay; each round fewer frames
+-- wait.
+use Rattle.std.proofs.Common.{◌≡◌, ℕ, length}
+use Rattle.ts_carrier.specs.Mailbox.{filled, octets_in}
 use Rattle.ts_carrier.proofs.mailbox.Mailbox.fill.Given as goal
 
-abbrev pub invariant-loop-frame : goal.invariant-loop-frame
-invariant-loop-frame l = octets_in l.self ≡ octets_in l.initial.self
+abbrev pub invariant-loop-self : goal.invariant-loop-self
+invariant-loop-self l = (filled l.self.ready l.self.frames.items
+    ≡ filled l.initial.self.ready l.initial.self.frames.items)
+    × (octets_in l.self ≡ octets_in l.initial.self)
+
+abbrev pub decreases-loop-self : goal.decreases-loop-self
+decreases-loop-self l = length l.self.frames.items

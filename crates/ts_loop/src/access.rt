@@ -1,0 +1,41 @@
+//! Who may ask a node, and what it shows its peers.
+
+use ts_access::Key;
+
+/// Who may ask a node, and the key that it shows its peers.
+#[derive(Drop)]
+pub struct Access {
+    /// The number of the node.
+    pub node: u8,
+    /// The keys of those who may ask. `None`: whoever reaches the address may ask anything.
+    pub keys: Option<Vec<Key>>,
+    /// The key that the node shows its peers.
+    pub own: Option<Key>,
+    /// Whether an address may be listened at without keys that other machines reach.
+    pub open: bool,
+}
+
+impl Access {
+    /// Whoever reaches the node may ask anything: for tests.
+    pub fn open(node: u8) -> Access {
+        Access {
+            node,
+            keys: None,
+            own: None,
+            open: true,
+        }
+    }
+
+    /// The keys of those who may ask.
+    pub(crate) fn keys_of(&self) -> &[Key] {
+        match &self.keys {
+            Some(keys) => keys,
+            None => &[],
+        }
+    }
+
+    /// Whether keys are wanted.
+    pub(crate) fn is_locked(&self) -> bool {
+        self.keys.is_some()
+    }
+}

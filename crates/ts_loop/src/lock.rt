@@ -1,0 +1,147 @@
+//! The lock of a slot: what comes on its socket is opened, and what leaves is sealed.
+
+ghost use Rattle.ts_links.specs.Calls.{IsQuiet};
+
+use std::alloc::Global;
+use std::random::RandomSource;
+use ts_access::{Entrance, EntranceFault, Key};
+use ts_guard::MAX_CONTENT;
+use ts_links::Connections;
+use ts_links::reaching::{arrive, leave};
+use ts_queue::Queue;
+use ts_serve::refusal;
+use ts_wire::FrameFault;
+
+/// The most records of one connection that are opened before the others have their turn.
+const RECORDS: u32 = 64;
+
+/// What stands between the socket of a slot and its connection, where keys are wanted.
+#[derive(Drop)]
+pub(crate) struct Lock {
+    alloc: Global,
+    entrance: Entrance,
+    /// What is ready to be written: the challenge, and sealed records.
+    out: Queue,
+    /// When the connection was accepted.
+    since: u64,
+}
+
+/// Thirty-two octets that nobody else draws.
+pub(crate) fn draw(source: &impl RandomSource) -> Option<[u8; 32]> {
+    let mut octets = [0; 32];
+    source.fill_bytes(&mut octets).ok()?;
+    Some(octets)
+}
+
+impl Lock {
+    /// The lock of a new connection to a node, whose challenge is ready to be written. `None` where
+    /// the system gives no random octets, or no memory.
+    pub fn new(source: &impl RandomSource, alloc: Global, node: u8, now: u64) -> Option<Lock> {
+        let entrance = Entrance::new(alloc, node, draw(source)?);
+        let mut out = Queue::new(alloc);
+        out.push(&entrance.hello()).ok()?;
+        Some(Lock {
+            alloc,
+            entrance,
+            out,
+            since: now,
+        })
+    }
+
+    /// Octets came on the socket. `false` where memory was refused.
+    pub fn push(&mut self, piece: &[u8]) -> bool {
+        self.entrance.push(piece).is_ok()
+    }
+
+    /// Whether no key was shown for so many milliseconds.
+    pub fn is_unknown(&self, millis: u64, now: u64) -> bool {
+        !self.entrance.has_begun() && millis <= now.saturating_sub(self.since)
+    }
+
+    /// When the connection was accepted, if no key was shown since.
+    pub fn unknown_since(&self) -> Option<u64> {
+        if self.entrance.has_begun() {
+            return None;
+        }
+        Some(self.since)
+    }
+
+    /// What is ready to be written.
+    pub fn octets(&self) -> &[u8] {
+        self.out.octets()
+    }
+
+    /// Whether something is ready to be written.
+    pub fn waits(&self) -> bool {
+        self.out.len() > 0
+    }
+
+    /// So many of the octets that were ready are written.
+    pub fn written(&mut self, count: usize) {
+        if count <= self.out.len() {
+            self.out.skip(count);
+        }
+    }
+
+    /// Answers octets that are no greeting as servers without keys answer a frame of another
+    /// version, so that a client without a key learns why it is not served.
+    fn turn_away(&mut self, fault: EntranceFault) {
+        if !matches!(fault, EntranceFault::Hello(_)) {
+            return;
+        }
+        if let Ok(octets) = refusal(self.alloc, FrameFault::Version) {
+            let _pushed = self.out.push(&octets);
+        }
+    }
+
+    /// Hands on what is let through, while the connection has room. `false` where nothing more is
+    /// let through.
+    pub fn hand_on(
+        &mut self,
+        table: &mut Connections,
+        keys: &[Key],
+        slot: usize,
+        now: u64,
+    ) -> bool
+        ensures { IsQuiet table.old table.new }
+    {
+        for _record in 0..RECORDS {
+            if !table.reads(slot) {
+                return true;
+            }
+            match self.entrance.take(keys) {
+                Ok(Some(octets)) => {
+                    if !arrive(table, slot, &octets, now) {
+                        return false;
+                    }
+                }
+                Ok(None) => return true,
+                Err(fault) => {
+                    self.turn_away(fault);
+                    return false;
+                }
+            }
+        }
+        true
+    }
+
+    /// Seals what waits to leave a slot, if nothing is ready to be written yet: at most one record.
+    /// `false` where it can't be sealed.
+    pub fn seal(&mut self, table: &mut Connections, slot: usize, now: u64) -> bool
+        ensures { IsQuiet table.old table.new }
+    {
+        let count = table.waiting(slot).len().min(MAX_CONTENT);
+        if count == 0 || self.waits() {
+            return true;
+        }
+        let mut record = Vec::new(self.alloc);
+        match self.entrance.seal(&table.waiting(slot)[..count], &mut record) {
+            Ok(true) => {}
+            Ok(false) | Err(_) => return false,
+        }
+        if self.out.push(&record).is_err() {
+            return false;
+        }
+        leave(table, slot, count, now)
+    }
+}
