@@ -58,6 +58,13 @@ impl Greeter {
         self.held.push(piece)
     }
 
+    /// How many octets are held, of the challenge and behind it.
+    pub fn held_count(&self) -> usize
+        ensures { result ≡ length self.now.held }
+    {
+        self.held.len()
+    }
+
     /// What the server says first; `None` where it is not whole yet.
     ///
     /// # Errors

@@ -53,9 +53,6 @@
 //! - [`laws::front_of_what_was_sealed`]: if nobody else makes a key's tags, what is let through is
 //!   a front of what was sealed on this connection in this direction.
 //!
-//! A client that has nothing to say yet shows its key by a record of one octet, which its server
-//! drops.
-//!
 //! Not promised: that octets come at all, secrecy (contents are not encrypted), that the 32 octets
 //! are random or the keys secret, and how long a call takes. That nobody makes a tag without the
 //! key is what HMAC-SHA256 is trusted for; the law on what was sealed has it as its premise.
