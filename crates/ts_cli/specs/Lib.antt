@@ -5,3 +5,4 @@ pub mod Says
 pub mod Values
 pub mod Serving
 pub mod Verifying
+pub mod Reaching

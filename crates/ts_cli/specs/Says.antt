@@ -7,6 +7,8 @@ use Rattle.clap.specs.Simple.{App, matches_of, subcommand_of}
 use Rattle.ts_cli.specs.CommandLine.{app_in, group_of, words_in}
 use Rattle.ts_cli.specs.Values.{IsAddressed, IsNumberIn, IsHex, IsDotted, AsWritten, written}
 use Rattle.ts_cli.specs.Serving.{IsServe, IsServable}
+use Rattle.ts_cli.specs.Reaching.{IsReach, IsRole}
+use Rattle.ts_cli.specs.declared.reach.Reach.{Reach}
 use Rattle.ts_cli.specs.Verifying.{IsVerify}
 use Rattle.ts_cli.specs.Given.{IsAt, IsNumberAt, IsNumberOr, IsDigestAt, IsMomentAt, all_at}
 use Rattle.ts_cli.specs.Given.{is_set}
@@ -22,7 +24,7 @@ use Rattle.ts_cli.specs.declared.question_words.Subject.TheVariants.{Chain, Sear
 use Rattle.ts_cli.specs.declared.task.Task.{Task}
 use Rattle.ts_cli.specs.declared.task.Task.TheVariants.{Lab, Format, Migrate, Serve, Verify, Submit}
 use Rattle.ts_cli.specs.declared.task.Task.TheVariants.{Ask, Carry, Status, CatchUp, Compact, Command}
-use Rattle.ts_cli.specs.declared.task.Task.TheVariants.{Question, Id, Show}
+use Rattle.ts_cli.specs.declared.task.Task.TheVariants.{Question, Id, Show, Keygen}
 
 pub record IsFormat (name : Text) (rows : List Row) (file : Text) (id nodes : ℕ) : Type 0 where
   pub name_is : name ≡ codes "format"
@@ -36,10 +38,10 @@ pub record IsMigration (name : Text) (rows : List Row) (old new : Text) : Type 0
   pub new_is : IsAt (codes "new") rows new
 
 -- `submit` and `ask`, by their names
-pub record IsSending (name expected : Text) (rows : List Row) (address file : Text) : Type 0 where
+pub record IsSending (name expected : Text) (rows : List Row) (reach : Reach)
+    (file : Text) : Type 0 where
   pub name_is : name ≡ expected
-  pub address_is : IsAt (codes "address") rows address
-  pub address_form : IsAddressed address
+  pub reach_is : IsReach rows reach
   pub file_is : IsAt (codes "file") rows file
 
 pub record IsCarry (name : Text) (rows : List Row) (addresses : List Text)
@@ -52,10 +54,9 @@ pub record IsCarry (name : Text) (rows : List Row) (addresses : List Text)
   pub rounds_is : IsNumberAt (codes "rounds") rows 1 1000000 rounds
 
 -- `status`, `catchup` and `compact`, by their names
-pub record IsReaching (name expected : Text) (rows : List Row) (address : Text) : Type 0 where
+pub record IsReaching (name expected : Text) (rows : List Row) (reach : Reach) : Type 0 where
   pub name_is : name ≡ expected
-  pub address_is : IsAt (codes "address") rows address
-  pub address_form : IsAddressed address
+  pub reach_is : IsReach rows reach
 
 -- `id` and `show`, by their names
 pub record IsReading (name expected : Text) (rows : List Row) (file : Text) : Type 0 where
@@ -160,16 +161,17 @@ SaysTask name rows (Format file id nodes) = IsFormat name rows (string_bytes fil
 SaysTask name rows (Migrate old new) = IsMigration name rows (string_bytes old) (string_bytes new)
 SaysTask name rows (Serve words) = (name ≡ codes "serve") × IsServe rows words
 SaysTask name rows (Verify words) = (name ≡ codes "verify") × IsVerify rows words
-SaysTask name rows (Submit address file wait) =
-    IsSending name (codes "submit") rows (string_bytes address) (string_bytes file)
+SaysTask name rows (Submit reach file wait) =
+    IsSending name (codes "submit") rows reach (string_bytes file)
     × IsNumberOr (codes "wait") rows 1 3600 0 wait
-SaysTask name rows (Ask address file) =
-    IsSending name (codes "ask") rows (string_bytes address) (string_bytes file)
+SaysTask name rows (Ask reach file) =
+    IsSending name (codes "ask") rows reach (string_bytes file)
 SaysTask name rows (Carry addresses rounds) =
     IsCarry name rows (map string_bytes addresses.items) rounds
-SaysTask name rows (Status address) = IsReaching name (codes "status") rows (string_bytes address)
-SaysTask name rows (CatchUp address) = IsReaching name (codes "catchup") rows (string_bytes address)
-SaysTask name rows (Compact address) = IsReaching name (codes "compact") rows (string_bytes address)
+SaysTask name rows (Status reach) = IsReaching name (codes "status") rows reach
+SaysTask name rows (CatchUp reach) = IsReaching name (codes "catchup") rows reach
+SaysTask name rows (Compact reach) = IsReaching name (codes "compact") rows reach
+SaysTask name rows (Keygen role) = (name ≡ codes "keygen") × IsRole rows role
 SaysTask name rows (Id file) = IsReading name (codes "id") rows (string_bytes file)
 SaysTask name rows (Show file) = IsReading name (codes "show") rows (string_bytes file)
 SaysTask name rows (Command words) = ⊥
@@ -184,12 +186,13 @@ SaysAny own name rows (Format file id nodes) = SaysTask name rows (Format file i
 SaysAny own name rows (Migrate old new) = SaysTask name rows (Migrate old new)
 SaysAny own name rows (Serve words) = SaysTask name rows (Serve words)
 SaysAny own name rows (Verify words) = SaysTask name rows (Verify words)
-SaysAny own name rows (Submit address file wait) = SaysTask name rows (Submit address file wait)
-SaysAny own name rows (Ask address file) = SaysTask name rows (Ask address file)
+SaysAny own name rows (Submit reach file wait) = SaysTask name rows (Submit reach file wait)
+SaysAny own name rows (Ask reach file) = SaysTask name rows (Ask reach file)
 SaysAny own name rows (Carry addresses rounds) = SaysTask name rows (Carry addresses rounds)
-SaysAny own name rows (Status address) = SaysTask name rows (Status address)
-SaysAny own name rows (CatchUp address) = SaysTask name rows (CatchUp address)
-SaysAny own name rows (Compact address) = SaysTask name rows (Compact address)
+SaysAny own name rows (Status reach) = SaysTask name rows (Status reach)
+SaysAny own name rows (CatchUp reach) = SaysTask name rows (CatchUp reach)
+SaysAny own name rows (Compact reach) = SaysTask name rows (Compact reach)
+SaysAny own name rows (Keygen role) = SaysTask name rows (Keygen role)
 SaysAny own name rows (Id file) = SaysTask name rows (Id file)
 SaysAny own name rows (Show file) = SaysTask name rows (Show file)
 
@@ -213,12 +216,13 @@ IsInRange (Carry addresses rounds) =
     (1 ≤ length addresses.items) × (length addresses.items ≤ 9) × (1 ≤ rounds) × (rounds ≤ 1000000)
 IsInRange Lab = Unit {0}
 IsInRange (Migrate old new) = Unit {0}
-IsInRange (Submit address file wait) = wait ≤ 3600
-IsInRange (Ask address file) = Unit {0}
+IsInRange (Submit reach file wait) = wait ≤ 3600
+IsInRange (Ask reach file) = Unit {0}
 IsInRange (Command words) = Unit {0}
 IsInRange (Question words) = Unit {0}
-IsInRange (Status address) = Unit {0}
-IsInRange (CatchUp address) = Unit {0}
-IsInRange (Compact address) = Unit {0}
+IsInRange (Status reach) = Unit {0}
+IsInRange (CatchUp reach) = Unit {0}
+IsInRange (Compact reach) = Unit {0}
+IsInRange (Keygen role) = Unit {0}
 IsInRange (Id file) = Unit {0}
 IsInRange (Show file) = Unit {0}

@@ -19,6 +19,9 @@ pub record IsServe (rows : List Row) (words : ServeWords) : Type 0 where
   pub stand_in_is : words.stand_in ≡ is_set (codes "stand-in") rows
   pub peers_are : ArePeers rows (map string_bytes words.peers.items)
   pub quiet_is : words.quiet ≡ is_set (codes "quiet") rows
+  pub keys_is : first_of (codes "keys") rows ≡ option_map string_bytes words.keys
+  pub key_is : first_of (codes "key") rows ≡ option_map string_bytes words.key
+  pub open_is : words.open ≡ is_set (codes "open") rows
   pub idle_is : IsNumberOr (codes "idle") rows 1 3600 30 words.idle
   pub request_is : IsNumberOr (codes "request") rows 1 3600 5 words.request
   pub at_once_is : IsNumberOr (codes "connections-at-once") rows 1 4096 512 words.at_once

@@ -29,6 +29,8 @@ pub enum WrongValue {
     Peer,
     /// No number of seconds to wait.
     Wait,
+    /// No role.
+    Role,
     /// No number of rounds.
     Rounds,
     /// No address.
@@ -68,6 +70,7 @@ impl fmt::Display for WrongValue {
             WrongValue::AtOnce => "--connections-at-once is a number from 1 to 4096",
             WrongValue::Peer => "--peer is the number of a node, 1 to 9, = and its address",
             WrongValue::Wait => "--wait is a number of seconds from 1 to 3600",
+            WrongValue::Role => "a role is admin, reader, or peer with --node from 1 to 9",
             WrongValue::Rounds => "--rounds is a number from 1 to 1000000",
             WrongValue::Address => "an address is a host, a colon and a port from 0 to 65535",
             WrongValue::Addresses => "there are at most nine addresses",

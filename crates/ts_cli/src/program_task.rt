@@ -7,7 +7,8 @@ ghost use Rattle.ts_cli.specs.Says.{SaysTask};
 ghost use Rattle.ts_cli.specs.declared.task.Task.TheVariants.{Lab};
 
 use crate::fault::{CommandFault, WrongValue};
-use crate::matched::{address_at, are_addresses, number_at, number_or, string_at, strings_at};
+use crate::matched::{are_addresses, number_at, number_or, string_at, strings_at};
+use crate::reach::{reach_at, role_at};
 use crate::serve_words::serve_words;
 use crate::task::Task;
 use crate::verify_words::verify_words;
@@ -45,7 +46,7 @@ fn submit(alloc: Global, matches: &ArgMatches<'_>) -> Result<Task, CommandFault>
     ensures { IfOk result (SaysTask (codes "submit") (rows_of (found_of matches.now))) }
 {
     Ok(Task::Submit {
-        address: address_at(alloc, matches, "address")?,
+        reach: reach_at(alloc, matches)?,
         file: string_at(alloc, matches, "file")?,
         wait: number_or(matches, "wait", 1, 3600, 0, WrongValue::Wait)?,
     })
@@ -55,7 +56,7 @@ fn ask(alloc: Global, matches: &ArgMatches<'_>) -> Result<Task, CommandFault>
     ensures { IfOk result (SaysTask (codes "ask") (rows_of (found_of matches.now))) }
 {
     Ok(Task::Ask {
-        address: address_at(alloc, matches, "address")?,
+        reach: reach_at(alloc, matches)?,
         file: string_at(alloc, matches, "file")?,
     })
 }
@@ -93,13 +94,16 @@ pub(crate) fn task_named(
         "ask" => ask(alloc, matches),
         "carry" => carry(alloc, matches),
         "status" => Ok(Task::Status {
-            address: address_at(alloc, matches, "address")?,
+            reach: reach_at(alloc, matches)?,
         }),
         "catchup" => Ok(Task::CatchUp {
-            address: address_at(alloc, matches, "address")?,
+            reach: reach_at(alloc, matches)?,
         }),
         "compact" => Ok(Task::Compact {
-            address: address_at(alloc, matches, "address")?,
+            reach: reach_at(alloc, matches)?,
+        }),
+        "keygen" => Ok(Task::Keygen {
+            role: role_at(matches)?,
         }),
         "id" => Ok(Task::Id {
             file: string_at(alloc, matches, "file")?,

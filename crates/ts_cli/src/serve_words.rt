@@ -27,6 +27,12 @@ pub struct ServeWords {
     pub peers: Vec<String>,
     /// Whether standard error is not told what happens.
     pub quiet: bool,
+    /// The file of the keys of those who may ask. Anybody may where there is none.
+    pub keys: Option<String>,
+    /// The file of the key that the node shows its peers.
+    pub key: Option<String>,
+    /// Whether it is served without keys where other machines reach it.
+    pub open: bool,
     /// How many seconds a silent client is kept.
     pub idle: u32,
     /// How many seconds a client has for a whole request, and to read an answer.
@@ -71,6 +77,9 @@ pub(crate) fn serve_words(
         stand_in,
         peers: peers_at(alloc, matches)?,
         quiet: is_set(matches, "quiet"),
+        keys: optional_string_at(alloc, matches, "keys")?,
+        key: optional_string_at(alloc, matches, "key")?,
+        open: is_set(matches, "open"),
         idle: number_or(matches, "idle", 1, 3600, 30, WrongValue::Seconds)?,
         request: number_or(matches, "request", 1, 3600, 5, WrongValue::Seconds)?,
         at_once: number_or(

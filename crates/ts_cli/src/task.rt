@@ -2,8 +2,10 @@
 
 use crate::command_words::CommandWords;
 use crate::question_words::QuestionWords;
+use crate::reach::Reach;
 use crate::serve_words::ServeWords;
 use crate::verify_words::VerifyWords;
+use ts_access::Role;
 
 /// What the program is to do.
 #[derive(Debug, Drop)]
@@ -32,8 +34,8 @@ pub enum Task {
     Verify(VerifyWords),
     /// Hand a command to a node.
     Submit {
-        /// The address of the node.
-        address: String,
+        /// The node, and the key that it is shown.
+        reach: Reach,
         /// The encoded command.
         file: String,
         /// For how many seconds to wait until it is chosen; 0 to wait for nothing.
@@ -41,8 +43,8 @@ pub enum Task {
     },
     /// Ask a node a question.
     Ask {
-        /// The address of the node.
-        address: String,
+        /// The node, and the key that it is shown.
+        reach: Reach,
         /// The encoded question.
         file: String,
     },
@@ -55,18 +57,23 @@ pub enum Task {
     },
     /// Print how many commands a node knows.
     Status {
-        /// The address of the node.
-        address: String,
+        /// The node, and the key that it is shown.
+        reach: Reach,
     },
     /// Have a node ask others for what it lacks.
     CatchUp {
-        /// The address of the node.
-        address: String,
+        /// The node, and the key that it is shown.
+        reach: Reach,
     },
     /// Have a node make one step of rewriting its record.
     Compact {
-        /// The address of the node.
-        address: String,
+        /// The node, and the key that it is shown.
+        reach: Reach,
+    },
+    /// Print a line of a file of keys, with a new secret.
+    Keygen {
+        /// What its holder is to a node.
+        role: Role,
     },
     /// Write an encoded command.
     Command(CommandWords),

@@ -44,6 +44,7 @@ impl Accepts {
 }
 
 /// What new connections are accepted with.
+#[derive(Drop)]
 pub(crate) struct Entry<'a, R> {
     pub rt: &'a R,
     pub alloc: Global,

@@ -30,6 +30,7 @@
 #![tactic(auto)]
 
 mod accepting;
+mod access;
 mod asking;
 mod carrier;
 mod counts;
@@ -39,11 +40,14 @@ mod frames;
 mod group;
 mod limits;
 mod line;
+mod lock;
 mod pausing;
 mod pumping;
 mod rounds;
+mod seal;
 mod serving;
 
+pub use access::Access;
 pub use counts::Counts;
 pub use fault::LoopFault;
 pub use group::{Group, PeerAddress};

@@ -12,9 +12,6 @@ use ts_queue::Queue;
 use ts_serve::refusal;
 use ts_wire::FrameFault;
 
-/// The most records of one connection that are opened before the others have their turn.
-const RECORDS: u32 = 64;
-
 /// What stands between the socket of a slot and its connection, where keys are wanted.
 #[derive(Drop)]
 pub(crate) struct Lock {
@@ -105,7 +102,7 @@ impl Lock {
     ) -> bool
         ensures { IsQuiet table.old table.new }
     {
-        for _record in 0..RECORDS {
+        for _step in 0..self.entrance.held_count().saturating_add(1) {
             if !table.reads(slot) {
                 return true;
             }

@@ -10,8 +10,8 @@ pub const LONGEST_WAIT: u64 = 60;
 /// How many seconds a connection may take to be made, to each place that an address names.
 pub const LONGEST_DIAL: u64 = 5;
 
-/// A connection to an address.
-pub(crate) fn connect<N: Net>(net: &N, address: &str) -> Option<N::Stream> {
+/// A connection to an address. `None` where none of its places is reached in time.
+pub fn connect<N: Net>(net: &N, address: &str) -> Option<N::Stream> {
     let longest = Duration::from_secs(LONGEST_DIAL);
     for place in address.to_socket_addrs(net).ok()? {
         if let Ok(stream) = TcpStream::connect_timeout(net, &place, longest) {
@@ -24,7 +24,7 @@ pub(crate) fn connect<N: Net>(net: &N, address: &str) -> Option<N::Stream> {
 /// Has the reads and writes of a connection fail where they wait longer than that, and has what is
 /// written sent at once. The system would else hold an answer back until the one before it is
 /// acknowledged, which takes 40 ms where requests come many at a time.
-pub(crate) fn set_up<S: OpenStream>(stream: &S) -> io::Result<()> {
+pub fn set_up<S: OpenStream>(stream: &S) -> io::Result<()> {
     let longest = Some(Duration::from_secs(LONGEST_WAIT));
     stream.set_read_timeout(longest)?;
     stream.set_write_timeout(longest)?;

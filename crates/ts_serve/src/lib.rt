@@ -65,10 +65,11 @@ mod serving;
 
 pub use answering::{AnswerFault, is_request, refusal};
 pub use carrying::carry;
-pub use connection::{LONGEST_DIAL, LONGEST_WAIT};
+pub use connection::{LONGEST_DIAL, LONGEST_WAIT, connect, set_up};
 pub use fault::ServeFault;
 pub use listening::listen;
 pub use outbox::MAX_WAITING;
 pub use peer::{Peer, ServerPeer, TcpPeer};
+pub use sending::write_octets;
 pub use server::Server;
 pub use serving::{READ_LIMIT, serve};

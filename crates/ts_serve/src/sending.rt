@@ -33,7 +33,7 @@ pub(crate) fn octets_of(alloc: Global, frame: &Frame) -> Result<Vec<u8>, ServeFa
 }
 
 /// Writes octets. An interrupted write is tried again.
-pub(crate) fn write_octets<W: Write>(writer: &mut W, octets: &[u8]) -> Result<(), ServeFault>
+pub fn write_octets<W: Write>(writer: &mut W, octets: &[u8]) -> Result<(), ServeFault>
     ensures written { OnOk result (Appends (W.contents writer.old)
         (W.contents writer.new) octets.now) }
     ensures front { OnErr result (AppendsFront (W.contents writer.old)

@@ -33,6 +33,12 @@ pub enum Fault {
     OutOfLimits,
     /// The line of this number, counted from 1, is the first wrong one of a table.
     TableLine(usize),
+    /// The line of this number, counted from 1, is the first wrong one of a file of keys.
+    KeyLine(u32),
+    /// Other machines reach the address of a node that wants no keys.
+    Unprotected,
+    /// The system gives no random octets.
+    Random,
     /// A record can't be opened or made.
     Record(ts_record::Fault),
     /// A connection was not accepted or an address can't be listened on, or a read failed.
@@ -63,6 +69,9 @@ impl fmt::Display for Fault {
             Fault::TooLong => "TooLong",
             Fault::OutOfLimits => "OutOfLimits",
             Fault::TableLine(number) => return write!(f, "TableLine({number})"),
+            Fault::KeyLine(number) => return write!(f, "KeyLine({number})"),
+            Fault::Unprotected => "Unprotected",
+            Fault::Random => "Random",
             Fault::Record(ts_record::Fault::Damaged(offset)) => return write!(
                 f,
                 "Damaged({offset})"

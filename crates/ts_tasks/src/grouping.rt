@@ -2,12 +2,14 @@
 
 use crate::fault::Fault;
 use crate::files::fault_of;
+use crate::keys::{key_in, keys_in};
 use std::alloc::Global;
 use std::fs;
 use std::io::Read;
 use std::rt::Files;
+use ts_access::{Key, Role};
 use ts_cli::{ServeWords, peer_of};
-use ts_loop::{Group, PeerAddress};
+use ts_loop::{Access, Group, PeerAddress};
 
 /// Where a record's header has the number of its node, and behind it how many nodes there are.
 const NODE: usize = 8;
@@ -72,12 +74,58 @@ pub(crate) fn group_of<R: Files + Eprint>(
     })
 }
 
-/// Says on standard error what is served, unless that is not wanted.
-pub(crate) fn say_start(rt: &impl Eprint, words: &ServeWords, group: &Group) {
+/// The key that the words name for this node, if they name one: one of a peer with its number.
+fn own_key<R: Files + Eprint>(
+    rt: &R,
+    alloc: Global,
+    words: &ServeWords,
+    node: u8,
+) -> Result<Option<Key>, Fault> {
+    let Some(key) = key_in(rt, alloc, &words.key)? else {
+        return Ok(None);
+    };
+    if key.role != Role::Peer(node) {
+        let _ = eprintln!(rt; "trustd: the key of --key is not one of peer {node}");
+        return Err(Fault::Field);
+    }
+    Ok(Some(key))
+}
+
+/// Who may ask the node that the record names, and what it shows its peers, as the words say.
+///
+/// # Errors
+///
+/// `Field` where the node's own key is not one of a peer with its number; those of the files.
+pub(crate) fn access_of<R: Files + Eprint>(
+    rt: &R,
+    alloc: Global,
+    words: &ServeWords,
+) -> Result<Access, Fault> {
+    let member = member_of(rt, words.file.as_str())?;
+    let keys = match &words.keys {
+        Some(path) => Some(keys_in(rt, alloc, path.as_str())?),
+        None => None,
+    };
+    Ok(Access {
+        node: member.node,
+        keys,
+        own: own_key(rt, alloc, words, member.node)?,
+        open: words.open,
+    })
+}
+
+/// Says on standard error what is served, and what is not protected, unless that is not wanted.
+pub(crate) fn say_start(rt: &impl Eprint, words: &ServeWords, group: &Group, access: &Access) {
     if words.quiet {
         return;
     }
     let (file, listen) = (words.file.as_str(), words.listen.as_str());
     let peers = group.peers.len();
     let _ = eprintln!(rt; "trustd: serves {file} at {listen}, {peers} peers");
+    if access.keys.is_none() {
+        let _ = eprintln!(rt; "trustd: no --keys: whoever reaches {listen} may change the store");
+    }
+    if access.keys.is_some() && access.own.is_none() && peers > 0 {
+        let _ = eprintln!(rt; "trustd: no --key: peers that want keys refuse this node");
+    }
 }

@@ -20,6 +20,8 @@
 mod fault;
 mod files;
 mod grouping;
+mod keyed;
+mod keys;
 mod locking;
 mod making;
 mod material;

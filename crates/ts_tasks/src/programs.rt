@@ -4,18 +4,19 @@ ghost use Rattle.std.specs.Prelude.{◌≤◌};
 
 use crate::fault::Fault;
 use crate::files::{format_files, migrate_files, open_disks, read_all};
-use crate::grouping::{group_of, say_start};
+use crate::grouping::{access_of, group_of, say_start};
 use crate::locking::RecordLock;
 use std::alloc::Global;
 use std::fs::File;
 use std::io::Print;
 use std::net::{Net, TcpListener, TcpStream};
+use std::random::RandomSource;
 use std::rt::{Clock, Files};
 use ts_answer::Answers;
 use ts_check::ChosenCheck;
 use ts_cli::ServeWords;
 use ts_disk::Disk;
-use ts_loop::{Group, Limits, LoopFault, serve_all};
+use ts_loop::{Access, Group, Limits, LoopFault, serve_all};
 use ts_node::Node;
 use ts_serve::Server;
 use ts_sig::TableCheck;
@@ -101,6 +102,13 @@ fn fault_of_loop(rt: &impl Eprint, words: &ServeWords, fault: LoopFault) -> Faul
             let _ = eprintln!(rt; "trustd: {address}: can't be listened at; is it in use?");
             Fault::Read
         }
+        LoopFault::Unprotected => {
+            let address = words.listen.as_str();
+            let _ = eprintln!(rt;
+                "trustd: {address}: other machines reach it: give --keys FILE, or --open"
+            );
+            Fault::Unprotected
+        }
         LoopFault::Peer(node) => {
             let _ = eprintln!(rt; "trustd: the address of peer {node} can't be found");
             Fault::Read
@@ -113,13 +121,17 @@ fn fault_of_loop(rt: &impl Eprint, words: &ServeWords, fault: LoopFault) -> Faul
 }
 
 /// Serves the node on two disks, whose signatures this check decides, to many clients at once.
-fn serve_node<D: Disk + Drop, R: Net<Listener = TcpListener, Stream = TcpStream> + Clock + Eprint>(
+fn serve_node<
+    D: Disk + Drop,
+    R: Net<Listener = TcpListener, Stream = TcpStream> + Clock + RandomSource + Eprint,
+>(
     rt: &R,
     alloc: Global,
     disks: (D, D),
     check: ChosenCheck,
     words: &ServeWords,
     group: &Group,
+    access: &Access,
 ) -> Result<(), Fault> {
     let (a, b) = disks;
     let node = match Node::open(alloc, a, b, Answers::new(alloc, check)) {
@@ -136,6 +148,7 @@ fn serve_node<D: Disk + Drop, R: Net<Listener = TcpListener, Stream = TcpStream>
         words.listen.as_str(),
         &limits_of(words),
         group,
+        access,
     ) {
         Ok(_) => Ok(()),
         Err(fault) => Err(fault_of_loop(rt, words, fault)),
@@ -148,13 +161,16 @@ fn serve_node<D: Disk + Drop, R: Net<Listener = TcpListener, Stream = TcpStream>
 ///
 /// # Errors
 ///
-/// `Busy` where another process serves the record; those of files, table, record and address, in
-/// this order; `Field` where a peer is no other node of the group; `DiskFailed` where a device of the node failed meanwhile.
+/// `Busy` where another process serves the record; those of files, table, record, keys and address,
+/// in this order; `Field` where a peer is no other node of the group, or the node's own key is not
+/// one of its number; `Unprotected` where there are no keys and other machines reach the address;
+/// `DiskFailed` where a device of the node failed meanwhile.
 pub fn serve_record<
     R: AllocGlobal
         + Files<File = File>
         + Net<Listener = TcpListener, Stream = TcpStream>
         + Clock
+        + RandomSource
         + Eprint,
 >(rt: &R, words: &ServeWords) -> Result<(), Fault> {
     let alloc = rt.alloc();
@@ -166,6 +182,7 @@ pub fn serve_record<
         let _ = eprintln!(rt; "signatures are the examples' stand-in: anybody can forge them");
     }
     let group = group_of(rt, alloc, words)?;
-    say_start(rt, words, &group);
-    serve_node(rt, alloc, disks, check, words, &group)
+    let access = access_of(rt, alloc, words)?;
+    say_start(rt, words, &group, &access);
+    serve_node(rt, alloc, disks, check, words, &group, &access)
 }

@@ -4,12 +4,16 @@ ghost use Rattle.std.specs.Prelude.{All};
 
 use crate::fault::Fault;
 use crate::files::read_file;
+use crate::keyed::Reached;
+use crate::keys::key_in;
 use crate::waiting::submit_and_wait;
 use std::alloc::Global;
 use std::io::Print;
 use std::net::Net;
+use std::random::RandomSource;
 use std::rt::{Clock, Files};
 use std::time::Duration;
+use ts_cli::Reach;
 use ts_lab::text::{outcome_text, reply_text};
 use ts_question::Question;
 use ts_serve::{Peer, TcpPeer, carry};
@@ -113,37 +117,55 @@ pub fn say(rt: &impl Print, line: &str) -> Result<(), Fault> {
     }
 }
 
-/// Says on standard error which server was not reached, where one was not. What it is given.
+/// Says on standard error what kept a server from answering, where one did not. What it is given.
 pub(crate) fn told<T: Drop>(
     rt: &impl Eprint,
-    address: &str,
+    reach: &Reach,
     ended: Result<T, Fault>,
 ) -> Result<T, Fault> {
-    if let Err(Fault::Write) = &ended {
-        let _ = eprintln!(rt; "trustd: {address}: can't be reached, or ended the connection");
-    }
+    let address = reach.address.as_str();
+    let _said = match &ended {
+        Err(Fault::Write) => {
+            eprintln!(rt; "trustd: {address}: can't be reached, or ended the connection")
+        }
+        Err(Fault::Frame(FrameFault::Version)) if reach.key.is_none() => {
+            eprintln!(rt; "trustd: {address}: wants a key: --key FILE")
+        }
+        Err(Fault::Frame(FrameFault::Version)) => {
+            eprintln!(rt; "trustd: {address}: wants no key")
+        }
+        Err(Fault::Cut | Fault::Read) if reach.key.is_some() => {
+            eprintln!(rt; "trustd: {address}: ended the connection; does it know this key?")
+        }
+        Err(Fault::Frame(FrameFault::Kind)) if reach.key.is_some() => {
+            eprintln!(rt; "trustd: {address}: this key's role may not ask this")
+        }
+        _ => Ok(()),
+    };
     ended
 }
 
-/// The server at an address.
-pub fn server_at<'a, R: Net>(
+/// The server that is reached so.
+pub(crate) fn server_at<'a, R: Files + Net + RandomSource + Eprint>(
     rt: &'a R,
     alloc: Global,
-    address: &str,
-) -> Result<TcpPeer<'a, R>, Fault> {
-    Ok(TcpPeer::new(alloc, rt, String::from_str(alloc, address)?))
+    reach: &Reach,
+) -> Result<Reached<'a, R>, Fault> {
+    let key = key_in(rt, alloc, &reach.key)?;
+    let address = String::from_str(alloc, reach.address.as_str())?;
+    Ok(Reached::new(alloc, rt, address, key))
 }
 
 /// Submits a command to the server at an address, and waits for so many seconds until it is known
 /// to be chosen. The line that says where and what came of it.
-fn submit_for(
-    rt: &(impl Net + Clock + Eprint),
+fn submit_for<R: Files + Net + Clock + RandomSource + Eprint>(
+    rt: &R,
     alloc: Global,
-    address: &str,
+    reach: &Reach,
     command: Command,
     seconds: u32,
 ) -> Result<String, Fault> {
-    let mut server = server_at(rt, alloc, address)?;
+    let mut server = server_at(rt, alloc, reach)?;
     let longest = Duration::from_secs(seconds as u64);
     let answer = submit_and_wait(rt, alloc, &mut server, command, longest)?;
     if !matches!(answer, Frame::Settled { .. }) {
@@ -161,8 +183,8 @@ fn submit_for(
 /// `Field` where the file is not one whole command; those of the file and of [`submit`]; `Unknown`
 /// where it was waited for, and is not known to be chosen.
 pub fn submit_file(
-    rt: &(impl AllocGlobal + Files + Net + Clock + Print + Eprint),
-    address: &str,
+    rt: &(impl AllocGlobal + Files + Net + Clock + RandomSource + Print + Eprint),
+    reach: &Reach,
     file: &str,
     wait: u32,
 ) -> Result<(), Fault> {
@@ -172,11 +194,11 @@ pub fn submit_file(
         return Err(Fault::Field);
     };
     let line = if wait == 0 {
-        submit(alloc, &mut server_at(rt, alloc, address)?, command)
+        submit(alloc, &mut server_at(rt, alloc, reach)?, command)
     } else {
-        submit_for(rt, alloc, address, command, wait)
+        submit_for(rt, alloc, reach, command, wait)
     };
-    say(rt, told(rt, address, line)?.as_str())
+    say(rt, told(rt, reach, line)?.as_str())
 }
 
 /// Asks the server at an address the question that a file holds, and prints the answer.
@@ -185,8 +207,8 @@ pub fn submit_file(
 ///
 /// `Field` where the file is not one whole question; those of the file and of [`ask`].
 pub fn ask_file(
-    rt: &(impl AllocGlobal + Files + Net + Print + Eprint),
-    address: &str,
+    rt: &(impl AllocGlobal + Files + Net + RandomSource + Print + Eprint),
+    reach: &Reach,
     file: &str,
 ) -> Result<(), Fault> {
     let alloc = rt.alloc();
@@ -194,12 +216,12 @@ pub fn ask_file(
     let Some(question) = Question::read(alloc, &octets)? else {
         return Err(Fault::Field);
     };
-    let line = ask(alloc, &mut server_at(rt, alloc, address)?, question);
-    say(rt, told(rt, address, line)?.as_str())
+    let line = ask(alloc, &mut server_at(rt, alloc, reach)?, question);
+    say(rt, told(rt, reach, line)?.as_str())
 }
 
 /// Carries messages between the servers at these addresses, the first being node 1, for so many
-/// rounds, and prints how many were delivered.
+/// rounds, and prints how many were delivered. None of them may want keys.
 ///
 /// # Errors
 ///
@@ -212,7 +234,8 @@ pub fn carry_messages(
     let alloc = rt.alloc();
     let mut peers = Vec::new(alloc);
     for address in addresses {
-        peers.push(server_at(rt, alloc, address.as_str())?)?;
+        let address = String::from_str(alloc, address.as_str())?;
+        peers.push(TcpPeer::new(alloc, rt, address))?;
     }
     let delivered = carry(alloc, &mut peers, rounds)?;
     let line = format!(in alloc; "carried {delivered}\n")?;

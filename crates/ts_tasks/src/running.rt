@@ -4,12 +4,14 @@ ghost use Rattle.ts_cli.specs.Says.{IsInRange};
 
 use crate::fault::Fault;
 use crate::making::{make_command, make_question, print_id, show_file};
+use crate::keys::print_key;
 use crate::programs::{format_record, migrate_record, serve_record};
 use crate::requests::{ask_file, carry_messages, submit_file};
 use crate::upkeep::{Upkeep, tend_server};
 use std::fs::File;
 use std::io::Print;
 use std::net::{Net, TcpListener, TcpStream};
+use std::random::RandomSource;
 use std::rt::{Clock, Files};
 use ts_cli::Task;
 
@@ -23,6 +25,7 @@ pub fn run<
         + Files<File = File>
         + Net<Listener = TcpListener, Stream = TcpStream>
         + Clock
+        + RandomSource
         + Print
         + Eprint,
 >(rt: &R, task: &Task) -> Result<(), Fault>
@@ -33,16 +36,13 @@ pub fn run<
         Task::Format { file, id, nodes } => format_record(rt, file.as_str(), *id, *nodes),
         Task::Migrate { old, new } => migrate_record(rt, old.as_str(), new.as_str()),
         Task::Serve(words) => serve_record(rt, words),
-        Task::Submit {
-            address,
-            file,
-            wait,
-        } => submit_file(rt, address.as_str(), file.as_str(), *wait),
-        Task::Ask { address, file } => ask_file(rt, address.as_str(), file.as_str()),
+        Task::Submit { reach, file, wait } => submit_file(rt, reach, file.as_str(), *wait),
+        Task::Ask { reach, file } => ask_file(rt, reach, file.as_str()),
         Task::Carry { addresses, rounds } => carry_messages(rt, addresses, *rounds),
-        Task::Status { address } => tend_server(rt, address.as_str(), Upkeep::Status),
-        Task::CatchUp { address } => tend_server(rt, address.as_str(), Upkeep::CatchUp),
-        Task::Compact { address } => tend_server(rt, address.as_str(), Upkeep::Compact),
+        Task::Status { reach } => tend_server(rt, reach, Upkeep::Status),
+        Task::CatchUp { reach } => tend_server(rt, reach, Upkeep::CatchUp),
+        Task::Compact { reach } => tend_server(rt, reach, Upkeep::Compact),
+        Task::Keygen { role } => print_key(rt, *role),
         Task::Command(words) => make_command(rt, words),
         Task::Question(words) => make_question(rt, words),
         Task::Id { file } => print_id(rt, file.as_str()),

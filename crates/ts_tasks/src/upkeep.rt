@@ -6,6 +6,9 @@ use crate::requests::{answer_of, say, server_at, told};
 use std::alloc::Global;
 use std::io::Print;
 use std::net::Net;
+use std::random::RandomSource;
+use std::rt::Files;
+use ts_cli::Reach;
 use ts_serve::Peer;
 use ts_wire::{Frame, FrameFault};
 
@@ -69,13 +72,13 @@ pub fn tend<P: Peer>(alloc: Global, peer: &mut P, upkeep: Upkeep) -> Result<Stri
 ///
 /// # Errors
 ///
-/// Those of [`tend`]; `Write`.
+/// Those of [`tend`] and of the key's file; `Write`.
 pub fn tend_server(
-    rt: &(impl AllocGlobal + Net + Print + Eprint),
-    address: &str,
+    rt: &(impl AllocGlobal + Files + Net + RandomSource + Print + Eprint),
+    reach: &Reach,
     upkeep: Upkeep,
 ) -> Result<(), Fault> {
     let alloc = rt.alloc();
-    let line = tend(alloc, &mut server_at(rt, alloc, address)?, upkeep);
-    say(rt, told(rt, address, line)?.as_str())
+    let line = tend(alloc, &mut server_at(rt, alloc, reach)?, upkeep);
+    say(rt, told(rt, reach, line)?.as_str())
 }

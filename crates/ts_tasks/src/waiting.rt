@@ -1,13 +1,14 @@
 //! A command is submitted, and waited for.
 
 use crate::fault::Fault;
+use crate::keyed::Reached;
 use crate::requests::answer_of;
 use std::alloc::Global;
 use std::net::Net;
+use std::random::RandomSource;
 use std::rt::Clock;
 use std::time::{Duration, Instant};
 use ts_loop::{LoopFault, pause};
-use ts_serve::TcpPeer;
 use ts_store::Command;
 use ts_wire::Frame;
 
@@ -45,10 +46,10 @@ fn left<R: Clock>(rt: &R, start: Instant, longest: Duration) -> Result<u64, Faul
 /// # Errors
 ///
 /// Those of an exchange; `Clock`.
-pub(crate) fn submit_and_wait<R: Net + Clock>(
+pub(crate) fn submit_and_wait<R: Net + Clock + RandomSource>(
     rt: &R,
     alloc: Global,
-    server: &mut TcpPeer<'_, R>,
+    server: &mut Reached<'_, R>,
     command: Command,
     longest: Duration,
 ) -> Result<Frame, Fault> {

@@ -107,9 +107,14 @@ with_limits own = with_arguments own
 unfoldable pub with_group : Shape → Shape
 with_group own = with_arguments own (options (codes "peer") ∷ flag (codes "quiet") ∷ [])
 
+-- whose requests are taken, and what the node shows its peers
+unfoldable pub with_access : Shape → Shape
+with_access own = with_arguments own
+    (option (codes "keys") ∷ option (codes "key") ∷ flag (codes "open") ∷ [])
+
 unfoldable pub serve : Shape
-serve = with_limits (with_group (leaf (codes "serve") (word (codes "file")
-    ∷ needed (option (codes "listen")) ∷ option (codes "table") ∷ flag (codes "stand-in") ∷ [])))
+serve = with_limits (with_access (with_group (leaf (codes "serve") (word (codes "file")
+    ∷ needed (option (codes "listen")) ∷ option (codes "table") ∷ flag (codes "stand-in") ∷ []))))
 
 -- what path validation is asked beside the certificates
 unfoldable pub with_inputs : Shape → Shape
@@ -122,9 +127,13 @@ unfoldable pub verify : Shape
 verify = with_inputs (leaf (codes "verify") (needed (options (codes "anchor"))
     ∷ options (codes "crl") ∷ needed (words (codes "certificates")) ∷ []))
 
+-- with the key that a node is shown
+unfoldable pub with_key : Shape → Shape
+with_key own = with_argument own (option (codes "key"))
+
 -- an address and a file
 abbrev pub sending : Text → Shape
-sending name = leaf name (word (codes "address") ∷ word (codes "file") ∷ [])
+sending name = with_key (leaf name (word (codes "address") ∷ word (codes "file") ∷ []))
 
 -- an address and a file, and how long to wait
 unfoldable pub submit : Shape
@@ -132,7 +141,11 @@ submit = with_argument (sending (codes "submit")) (option (codes "wait"))
 
 -- an address
 abbrev pub reaching : Text → Shape
-reaching name = leaf name (word (codes "address") ∷ [])
+reaching name = with_key (leaf name (word (codes "address") ∷ []))
+
+-- a role, and the node that it is of
+unfoldable pub keygen : Shape
+keygen = leaf (codes "keygen") (word (codes "role") ∷ option (codes "node") ∷ [])
 
 unfoldable pub carry : Shape
 carry = leaf (codes "carry") (needed (words (codes "addresses")) ∷ needed (option (codes "rounds"))
@@ -151,7 +164,8 @@ node_tasks = with_tasks (versioned (choice (codes "trustd") [] []))
 -- the tasks of a node's upkeep, after others
 unfoldable pub with_upkeep : App → App
 with_upkeep app = with_tasks app
-    (reaching (codes "status") ∷ reaching (codes "catchup") ∷ reaching (codes "compact") ∷ [])
+    (reaching (codes "status") ∷ reaching (codes "catchup") ∷ reaching (codes "compact") ∷ keygen
+    ∷ [])
 
 unfoldable pub program : App
 program = with_upkeep (with_tasks node_tasks

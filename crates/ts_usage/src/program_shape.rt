@@ -79,6 +79,23 @@ fn with_group<'a>(
     with(all, flag(alloc, "quiet", help))
 }
 
+/// A command with whose requests are taken, and what the node shows its peers.
+fn with_access<'a>(
+    alloc: Global,
+    own: Result<Command<'a>, AllocError>,
+) -> Result<Command<'a>, AllocError>
+    ensures shape { (shape : Shape) → IfOk own.entry (IsShape shape)
+        → IfOk result (IsShape (shapes.with_access shape)) }
+    ensures local { IfOk own.entry IsLocal → IfOk result IsLocal }
+{
+    let help = "The keys of those who may ask, a line each; anybody if not given";
+    let all = with(own, option(alloc, "keys", "FILE", help));
+    let help = "The key of this node, which it shows its peers";
+    let all = with(all, option(alloc, "key", "FILE", help));
+    let help = "Without --keys: listen also where other machines reach the address";
+    with(all, flag(alloc, "open", help))
+}
+
 /// A node is served.
 fn serve<'a>(alloc: Global) -> Result<Command<'a>, AllocError>
     ensures shape { IfOk result (IsShape shapes.serve) }
@@ -95,7 +112,20 @@ fn serve<'a>(alloc: Global) -> Result<Command<'a>, AllocError>
     let listen = needed(option(alloc, "listen", "ADDR", "HOST:PORT to listen at"));
     let command = with(with(command, listen), option(alloc, "table", "FILE", table));
     let command = with(command, flag(alloc, "stand-in", stand_in));
-    with_limits(alloc, with_group(alloc, command))
+    with_limits(alloc, with_access(alloc, with_group(alloc, command)))
+}
+
+/// A command with the key that a node is shown.
+fn with_key<'a>(
+    alloc: Global,
+    own: Result<Command<'a>, AllocError>,
+) -> Result<Command<'a>, AllocError>
+    ensures shape { (shape : Shape) → IfOk own.entry (IsShape shape)
+        → IfOk result (IsShape (shapes.with_key shape)) }
+    ensures local { IfOk own.entry IsLocal → IfOk result IsLocal }
+{
+    let help = "The key to show the node, where it wants one";
+    with(own, option(alloc, "key", "FILE", help))
 }
 
 /// A command with an address and a file.
@@ -110,7 +140,10 @@ fn sending<'a>(
 {
     let address = word(alloc, "address", "ADDR", "HOST:PORT of the node");
     let file = word(alloc, "file", "FILE", help);
-    with(with(leaf(alloc, name, about), address), file)
+    with_key(
+        alloc,
+        with(with(leaf(alloc, name, about), address), file),
+    )
 }
 
 /// A command is handed to a node.
@@ -130,7 +163,21 @@ fn reaching<'a>(alloc: Global, name: &'a str, about: &'a str) -> Result<Command<
     ensures local { IfOk result IsLocal }
 {
     let address = word(alloc, "address", "ADDR", "HOST:PORT of the node");
-    with(leaf(alloc, name, about), address)
+    with_key(alloc, with(leaf(alloc, name, about), address))
+}
+
+/// A key is made.
+fn keygen<'a>(alloc: Global) -> Result<Command<'a>, AllocError>
+    ensures shape { IfOk result (IsShape shapes.keygen) }
+    ensures local { IfOk result IsLocal }
+{
+    let about = "Prints a line for a file of keys, with a new secret";
+    let role = word(alloc, "role", "ROLE", "admin, reader or peer");
+    let node = "With peer: which node it is, 1 to 9";
+    with(
+        with(leaf(alloc, "keygen", about), role),
+        option(alloc, "node", "I", node),
+    )
 }
 
 /// The tasks of a node's upkeep, after those that the program has.
@@ -146,7 +193,8 @@ fn with_upkeep<'a>(
     let what = "Has a node ask others for what it lacks";
     let program = among(program, reaching(alloc, "catchup", what));
     let what = "Has a node make one step of rewriting its record";
-    among(program, reaching(alloc, "compact", what))
+    let program = among(program, reaching(alloc, "compact", what));
+    among(program, keygen(alloc))
 }
 
 /// Messages are carried between nodes.

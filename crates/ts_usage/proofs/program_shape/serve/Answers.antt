@@ -9,4 +9,4 @@ returns-clause-shape c =
     let listen = c.with.ensures.shape _ _ (c.needed-listen.ensures.rule ∙ ap needed c.option.ensures.rule) file in
     let table = c.with-command-2.ensures.shape _ _ c.option-2.ensures.rule listen in
     let stand_in = c.with-command-3.ensures.shape _ _ c.flag.ensures.rule table in
-    c.with_limits.ensures.shape _ (c.with_group.ensures.shape _ stand_in)
+    c.with_limits.ensures.shape _ (c.with_access.ensures.shape _ (c.with_group.ensures.shape _ stand_in))

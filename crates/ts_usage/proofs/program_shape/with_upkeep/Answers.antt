@@ -6,4 +6,5 @@ unfolding with_upkeep
 returns c app given =
     let status = c.among-program.ensures _ _ given c.reaching.ensures.shape in
     let catch_up = c.among-program-2.ensures _ _ status c.reaching-2.ensures.shape in
-    c.among.ensures _ _ catch_up c.reaching-3.ensures.shape
+    let compact = c.among-program-3.ensures _ _ catch_up c.reaching-3.ensures.shape in
+    c.among.ensures _ _ compact c.keygen.ensures.shape

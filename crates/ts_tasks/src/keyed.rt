@@ -1,0 +1,188 @@
+//! A node as a client reaches it: with a key, or without one.
+
+ghost use Rattle.std.specs.Prelude.{◌≤◌, IfOk};
+
+use crate::keys::draw;
+use std::alloc::Global;
+use std::io::{ErrorKind, Read, Write};
+use std::net::{Net, OpenStream, Shutdown};
+use std::random::RandomSource;
+use ts_access::{EntranceFault, Key, Visitor};
+use ts_guard::MAX_CONTENT;
+use ts_serve::{Peer, READ_LIMIT, ServeFault, TcpPeer, connect, set_up, write_octets};
+use ts_wire::FrameFault;
+
+/// The most octets that one read takes.
+const PIECE: usize = 8192;
+
+/// How many reads are made at most until the challenge has come.
+const GREETING_READS: u32 = 64;
+
+/// The node at an address, which is shown a key. Each exchange is a connection of its own.
+#[derive(Drop)]
+pub struct KeyedPeer<'a, N: Net + RandomSource> {
+    alloc: Global,
+    net: &'a N,
+    address: String,
+    key: Key,
+}
+
+/// A node as a client reaches it.
+#[derive(Drop)]
+pub enum Reached<'a, N: Net + RandomSource> {
+    /// Without a key.
+    Open(TcpPeer<'a, N>),
+    /// With a key.
+    Keyed(KeyedPeer<'a, N>),
+}
+
+/// What ends an exchange with a key.
+fn fault_of(fault: EntranceFault) -> ServeFault {
+    match fault {
+        EntranceFault::Memory => ServeFault::Memory,
+        EntranceFault::Hello(_) => ServeFault::Frame(FrameFault::Version),
+        EntranceFault::UnknownKey | EntranceFault::Guard(_) => ServeFault::Read,
+    }
+}
+
+/// Reads once; an interrupted read is made again. How many octets came.
+fn read_some<S: Read>(stream: &mut S, buffer: &mut [u8; PIECE]) -> Result<usize, ServeFault>
+    ensures { IfOk result (λ count. count ≤ 8192) }
+{
+    for _read in 0..READ_LIMIT {
+        match stream.read(buffer) {
+            Ok(count) => return Ok(count),
+            Err(error) if error.kind() == ErrorKind::Interrupted => {}
+            Err(_) => return Err(ServeFault::Read),
+        }
+    }
+    Err(ServeFault::ReadLimit)
+}
+
+/// Reads until the challenge has come.
+fn meet<S: Read>(
+    stream: &mut S,
+    visitor: &mut Visitor,
+    buffer: &mut [u8; PIECE],
+) -> Result<(), ServeFault> {
+    for _read in 0..GREETING_READS {
+        if visitor.has_begun() {
+            return Ok(());
+        }
+        let count = read_some(stream, buffer)?;
+        if count == 0 {
+            return Err(ServeFault::Cut);
+        }
+        visitor.push(&buffer[..count])?;
+        if let Err(fault) = visitor.take() {
+            return Err(fault_of(fault));
+        }
+    }
+    Err(ServeFault::Cut)
+}
+
+/// Writes octets, sealed.
+fn write_sealed<S: Write>(
+    alloc: Global,
+    stream: &mut S,
+    visitor: &mut Visitor,
+    octets: &[u8],
+) -> Result<(), ServeFault> {
+    for piece in octets.chunks(MAX_CONTENT) {
+        let mut record = Vec::new(alloc);
+        match visitor.seal(piece, &mut record) {
+            Ok(true) => write_octets(stream, &record)?,
+            Ok(false) | Err(_) => return Err(ServeFault::Write),
+        }
+    }
+    Ok(())
+}
+
+/// Puts what is opened of the octets that came behind others.
+fn open_all(visitor: &mut Visitor, out: &mut Vec<u8>) -> Result<(), ServeFault> {
+    for _step in 0..visitor.held_count().saturating_add(1) {
+        match visitor.take() {
+            Ok(Some(octets)) => out.extend_from_slice(&octets)?,
+            Ok(None) => return Ok(()),
+            Err(fault) => return Err(fault_of(fault)),
+        }
+    }
+    Ok(())
+}
+
+/// All that is opened of what comes until the other end has closed.
+fn read_opened<S: Read>(
+    alloc: Global,
+    stream: &mut S,
+    visitor: &mut Visitor,
+    buffer: &mut [u8; PIECE],
+) -> Result<Vec<u8>, ServeFault> {
+    let mut out = Vec::new(alloc);
+    for _read in 0..READ_LIMIT {
+        let count = read_some(stream, buffer)?;
+        if count == 0 {
+            return Ok(out);
+        }
+        visitor.push(&buffer[..count])?;
+        open_all(visitor, &mut out)?;
+    }
+    Err(ServeFault::ReadLimit)
+}
+
+impl<N: Net + RandomSource> Peer for KeyedPeer<'_, N> {
+    ghost is_ready = { λ _. Unit {0} };
+
+    /// As a `TcpPeer`; `Cut` where the node ends the connection before it sends a challenge;
+    /// `Frame` where it wants no key; `Read` where a record is not one of its key.
+    fn exchange(&mut self, octets: &[u8]) -> Result<Vec<u8>, ServeFault> {
+        let Ok(nonce) = draw(self.net) else {
+            return Err(ServeFault::Read);
+        };
+        let Some(mut stream) = connect(self.net, self.address.as_str()) else {
+            return Err(ServeFault::Write);
+        };
+        if set_up(&stream).is_err() {
+            return Err(ServeFault::Write);
+        }
+        let mut buffer = [0; PIECE];
+        let mut visitor = Visitor::new(self.alloc, self.key.id, self.key.secret, nonce);
+        write_octets(&mut stream, &visitor.hello())?;
+        meet(&mut stream, &mut visitor, &mut buffer)?;
+        write_sealed(self.alloc, &mut stream, &mut visitor, octets)?;
+        if stream.shutdown(Shutdown::Write).is_err() {
+            return Err(ServeFault::Write);
+        }
+        read_opened(self.alloc, &mut stream, &mut visitor, &mut buffer)
+    }
+}
+
+impl<'a, N: Net + RandomSource> Reached<'a, N> {
+    /// The node at this address, which is shown this key. No connection is made yet.
+    pub fn new(
+        alloc: Global,
+        net: &'a N,
+        address: String,
+        key: Option<Key>,
+    ) -> Reached<'a, N> {
+        match key {
+            None => Reached::Open(TcpPeer::new(alloc, net, address)),
+            Some(key) => Reached::Keyed(KeyedPeer {
+                alloc,
+                net,
+                address,
+                key,
+            }),
+        }
+    }
+}
+
+impl<N: Net + RandomSource> Peer for Reached<'_, N> {
+    ghost is_ready = { λ _. Unit {0} };
+
+    fn exchange(&mut self, octets: &[u8]) -> Result<Vec<u8>, ServeFault> {
+        match self {
+            Reached::Open(peer) => peer.exchange(octets),
+            Reached::Keyed(peer) => peer.exchange(octets),
+        }
+    }
+}

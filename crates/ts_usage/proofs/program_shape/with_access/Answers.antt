@@ -1,0 +1,9 @@
+use Rattle.ts_usage.specs.Shapes.{with_access}
+use Rattle.ts_usage.proofs.program_shape.with_access.Goals as goal
+
+pub returns-clause-shape : goal.returns-clause-shape
+unfolding with_access
+returns-clause-shape c shape given =
+    let keys = c.with-all.ensures.shape _ _ c.option.ensures.rule given in
+    let key = c.with-all-2.ensures.shape _ _ c.option-2.ensures.rule keys in
+    c.with.ensures.shape _ _ c.flag.ensures.rule key
