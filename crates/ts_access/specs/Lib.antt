@@ -1,1 +1,9 @@
+pub mod Faults
 pub mod Roles
+pub mod Keys
+pub mod Frames
+pub mod Sifting
+pub mod Sifted
+pub mod Lines
+pub mod Entering
+pub mod Entered

@@ -1,5 +1,13 @@
 //! The server's side of a connection with keys.
 
+ghost use Rattle.std.specs.Prelude.{◌≡◌, ◌-◌, ◌^◌, ◌++◌, [], ℕ, List, min, false, OnOk, OnErr, MatchResult};
+ghost use Rattle.ts_guard.specs.Hello.{challenge_octets};
+ghost use Rattle.ts_access.specs.Entered.{HasHandedOn};
+ghost use Rattle.ts_access.specs.Entering.{Greets, HasCome, IsSame, IsUngreeted, Steps, Stops};
+ghost use Rattle.ts_access.specs.Entering.{Takes, has_begun, held_in, role_in, SealsIn};
+ghost use Rattle.ts_access.specs.declared.key.Key.{Key};
+ghost use Rattle.ts_access.specs.Sifting.{handed_by};
+
 use crate::fault::EntranceFault;
 use crate::key::{Key, Role};
 use crate::keys::key_of;
@@ -36,7 +44,10 @@ fn greet(
     alloc: Global,
     node: u8,
     keys: &[Key],
-) -> Result<(Stage, Option<Vec<u8>>), EntranceFault> {
+) -> Result<(Stage, Option<Vec<u8>>), EntranceFault>
+    ensures { MatchResult result (λ step. Greets node keys.now challenger step.0 step.1)
+        (IsUngreeted keys.now challenger) }
+{
     let Some(greeting) = challenger.greeting()? else {
         return Ok((Stage::Waits(challenger), None));
     };
@@ -56,7 +67,10 @@ impl Stage {
         alloc: Global,
         node: u8,
         keys: &[Key],
-    ) -> Result<(Stage, Option<Vec<u8>>), EntranceFault> {
+    ) -> Result<(Stage, Option<Vec<u8>>), EntranceFault>
+        ensures { MatchResult result (λ step. Steps node keys.now self step.1 step.0)
+            (Stops keys.now self) }
+    {
         match self {
             Stage::Waits(challenger) => greet(challenger, alloc, node, keys),
             Stage::Open(line) => {
@@ -71,7 +85,12 @@ impl Stage {
 
 impl Entrance {
     /// A connection to this node of which nothing has come.
-    pub fn new(alloc: Global, node: u8, challenge: [u8; 32]) -> Entrance {
+    pub fn new(alloc: Global, node: u8, challenge: [u8; 32]) -> Entrance
+        ensures node { result.node ≡ node }
+        ensures challenge { result.challenge ≡ challenge }
+        ensures begins { (keys : List Key) → HasHandedOn keys result [] [] }
+        ensures waits { has_begun result.stage ≡ false }
+    {
         Entrance {
             alloc,
             node,
@@ -81,17 +100,23 @@ impl Entrance {
     }
 
     /// What the server sends first.
-    pub fn hello(&self) -> [u8; CHALLENGE_LENGTH] {
+    pub fn hello(&self) -> [u8; CHALLENGE_LENGTH]
+        ensures { result ≡ challenge_octets self.now.challenge }
+    {
         Challenger::new(self.alloc, self.challenge).hello()
     }
 
     /// Whether the key was found, so that `seal` works.
-    pub fn has_begun(&self) -> bool {
+    pub fn has_begun(&self) -> bool
+        ensures { result ≡ has_begun self.now.stage }
+    {
         matches!(&self.stage, Stage::Open(_))
     }
 
     /// The role of the key that was found.
-    pub fn role(&self) -> Option<Role> {
+    pub fn role(&self) -> Option<Role>
+        ensures { result ≡ role_in self.now.stage }
+    {
         match &self.stage {
             Stage::Open(line) => Some(line.sieve.role()),
             _ => None,
@@ -99,7 +124,9 @@ impl Entrance {
     }
 
     /// How many octets that came are held. Each call of `take` that answers `Some` leaves fewer.
-    pub fn held_count(&self) -> usize {
+    pub fn held_count(&self) -> usize
+        ensures { result ≡ min (2 ^ 64 - 1) (held_in self.now.stage) }
+    {
         match &self.stage {
             Stage::Waits(challenger) => challenger.held_count(),
             Stage::Open(line) => line.held_count(),
@@ -112,7 +139,14 @@ impl Entrance {
     /// # Errors
     ///
     /// Memory that is refused. Nothing changes then.
-    pub fn push(&mut self, piece: &[u8]) -> Result<(), AllocError> {
+    pub fn push(&mut self, piece: &[u8]) -> Result<(), AllocError>
+        ensures same { IsSame self.old self.new }
+        ensures came { OnOk result (HasCome self.old.stage piece.now self.new.stage) }
+        ensures unchanged { OnErr result (self.new.stage ≡ self.old.stage) }
+        ensures handed { (keys : List Key) (came handed : List ℕ)
+            → HasHandedOn keys self.old came handed
+            → OnOk result (HasHandedOn keys self.new (came ++ piece.now) handed) }
+    {
         match &mut self.stage {
             Stage::Waits(challenger) => challenger.push(piece),
             Stage::Open(line) => line.channel.opener.push(piece),
@@ -128,7 +162,12 @@ impl Entrance {
     ///
     /// What is wrong with the greeting or the next record; that no key has the number; memory that
     /// is refused. Nothing is let through or sealed any more then.
-    pub fn take(&mut self, keys: &[Key]) -> Result<Option<Vec<u8>>, EntranceFault> {
+    pub fn take(&mut self, keys: &[Key]) -> Result<Option<Vec<u8>>, EntranceFault>
+        ensures same { IsSame self.old self.new }
+        ensures takes { Takes keys.now self.old result self.new }
+        ensures handed { (came handed : List ℕ) → HasHandedOn keys.now self.old came handed
+            → HasHandedOn keys.now self.new came (handed ++ handed_by result) }
+    {
         let stage = replace(&mut self.stage, Stage::Closed);
         let (stage, octets) = stage.step(self.alloc, self.node, keys)?;
         self.stage = stage;
@@ -142,7 +181,13 @@ impl Entrance {
     ///
     /// `Length` for other octets; `Number` where all numbers are used; memory that is refused.
     /// Nothing changes then.
-    pub fn seal(&mut self, octets: &[u8], out: &mut Vec<u8>) -> Result<bool, GuardFault> {
+    pub fn seal(&mut self, octets: &[u8], out: &mut Vec<u8>) -> Result<bool, GuardFault>
+        ensures same { IsSame self.old self.new }
+        ensures seals { SealsIn self.old.stage octets.now out.old.items result self.new.stage
+            out.new.items }
+        ensures handed { (keys : List Key) (came handed : List ℕ)
+            → HasHandedOn keys self.old came handed → HasHandedOn keys self.new came handed }
+    {
         let Stage::Open(line) = &mut self.stage else {
             return Ok(false);
         };

@@ -53,12 +53,15 @@ impl From<AllocError> for EntranceFault {
 
 impl From<GuardFault> for EntranceFault {
     ghost use Rattle.std.specs.Prelude.{◌≡◌};
-    ghost use Rattle.ts_access.specs.declared.fault.EntranceFault.TheVariants.{Guard};
+    ghost use Rattle.ts_access.specs.Faults.{of_guard};
 
-    ghost from_gives = { λ reason fault. fault ≡ Guard reason };
+    ghost from_gives = { λ reason fault. fault ≡ of_guard reason };
 
     fn from(fault: GuardFault) -> Self {
-        EntranceFault::Guard(fault)
+        match fault {
+            GuardFault::Memory => EntranceFault::Memory,
+            fault => EntranceFault::Guard(fault),
+        }
     }
 }
 

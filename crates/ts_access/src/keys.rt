@@ -1,5 +1,8 @@
 //! A file of keys.
 
+ghost use Rattle.std.specs.Prelude.{◌≡◌, option_map};
+ghost use Rattle.ts_access.specs.Keys.{key_found};
+
 use crate::fault::KeysFault;
 use crate::key::{Key, Role};
 use std::alloc::{AllocError, Global};
@@ -76,8 +79,15 @@ fn is_skipped(line: &[u8]) -> bool {
 }
 
 /// The first key of this number.
-pub fn key_of(keys: &[Key], id: u32) -> Option<&Key> {
-    keys.iter().find(|key| key.id == id)
+pub fn key_of(keys: &[Key], id: u32) -> Option<&Key>
+    ensures { option_map (λ key. key.now) result ≡ key_found keys.now id }
+{
+    for key in keys {
+        if key.id == id {
+            return Some(key);
+        }
+    }
+    None
 }
 
 /// Puts the key that a line names, if it names one, behind the others.

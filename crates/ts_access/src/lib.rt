@@ -43,7 +43,7 @@ mod fault;
 mod key;
 mod keys;
 mod line;
-mod may;
+mod rights;
 mod sieve;
 mod visitor;
 
@@ -51,6 +51,6 @@ pub use entrance::Entrance;
 pub use fault::{EntranceFault, KeysFault};
 pub use key::{Key, Role};
 pub use keys::{MAX_KEYS, key_line, key_of, read_keys};
-pub use may::may;
+pub use rights::may;
 pub use sieve::Sieve;
 pub use visitor::Visitor;

@@ -1,5 +1,8 @@
 //! A connection whose key was found, as a server has it.
 
+ghost use Rattle.std.specs.Prelude.{◌≡◌, ◌+◌, ◌-◌, ◌^◌, length, min, IfErr, IfOk};
+ghost use Rattle.ts_access.specs.Lines.{EndsBy, GoesOn};
+
 use crate::fault::EntranceFault;
 use crate::sieve::Sieve;
 use ts_guard::Channel;
@@ -13,16 +16,20 @@ pub(crate) struct Line {
 
 impl Line {
     /// How many octets that came are held.
-    pub(crate) fn held_count(&self) -> usize {
-        self.channel
-            .opener
-            .held_count()
-            .saturating_add(self.sieve.held_count())
+    pub(crate) fn held_count(&self) -> usize
+        ensures { result ≡ min (2 ^ 64 - 1)
+            (length self.now.channel.opener.held + length self.now.sieve.held) }
+    {
+        let held = self.channel.opener.held_count();
+        held.saturating_add(self.sieve.held_count())
     }
 
     /// Goes on by one step: the next octets to hand on; or none, where a record was opened; `None`
     /// where no whole record is there.
-    pub(crate) fn take(&mut self) -> Result<Option<Vec<u8>>, EntranceFault> {
+    pub(crate) fn take(&mut self) -> Result<Option<Vec<u8>>, EntranceFault>
+        ensures goes { IfOk result (λ octets. GoesOn self.old octets self.new) }
+        ensures ends { IfErr result (EndsBy self.old) }
+    {
         if let Some(octets) = self.sieve.take()? {
             return Ok(Some(octets));
         }

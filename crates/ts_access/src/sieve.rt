@@ -1,7 +1,14 @@
 //! A stream of frames, up to the first one that a role may not ask.
 
+ghost use Rattle.std.specs.Prelude.{◌≡◌, ◌≤◌, ◌<◌, ◌+◌, ◌^◌, [], ℕ, List, length};
+ghost use Rattle.std.specs.Prelude.{MatchOption, OnOk, OnErr, IfOk, ◌++◌};
+ghost use Rattle.ts_access.specs.Frames.{Says};
+ghost use Rattle.ts_access.specs.Sifted.{IsSieve};
+ghost use Rattle.ts_access.specs.Sifting.{Came, Passes, Sifts, Starts, handed_by};
+ghost use Rattle.ts_access.specs.declared.sieve.Phase.TheVariants as phases;
+
 use crate::key::Role;
-use crate::may::may;
+use crate::rights::may;
 use std::alloc::{AllocError, Global};
 use std::cmp::min;
 use ts_queue::Queue;
@@ -43,7 +50,9 @@ pub struct Sieve {
 }
 
 /// The number that begins here.
-fn length_at(octets: &[u8]) -> Option<u32> {
+fn length_at(octets: &[u8]) -> Option<u32>
+    ensures { MatchOption result (length octets.now < 4) (Says octets.now) }
+{
     if octets.len() < 4 {
         return None;
     }
@@ -51,7 +60,9 @@ fn length_at(octets: &[u8]) -> Option<u32> {
 }
 
 /// Where a stream is whose next frame begins here.
-fn phase_at(role: Role, node: u8, octets: &[u8]) -> Phase {
+fn phase_at(role: Role, node: u8, octets: &[u8]) -> Phase
+    ensures { Starts role node octets.now result }
+{
     let Some(size) = length_at(octets) else {
         return Phase::Head;
     };
@@ -73,7 +84,11 @@ fn phase_at(role: Role, node: u8, octets: &[u8]) -> Phase {
 
 impl Sieve {
     /// A stream of which nothing has come.
-    pub fn new(alloc: Global, role: Role, node: u8) -> Sieve {
+    pub fn new(alloc: Global, role: Role, node: u8) -> Sieve
+        ensures role { result.role ≡ role }
+        ensures node { result.node ≡ node }
+        ensures begins { IsSieve result [] [] }
+    {
         Sieve {
             alloc,
             role,
@@ -84,12 +99,16 @@ impl Sieve {
     }
 
     /// What the stream's sender is to the node.
-    pub fn role(&self) -> Role {
+    pub fn role(&self) -> Role
+        ensures { result ≡ self.now.role }
+    {
         self.role
     }
 
     /// How many octets are held. Where all was taken that can be, they are fewer than eight.
-    pub fn held_count(&self) -> usize {
+    pub fn held_count(&self) -> usize
+        ensures { result ≡ length self.now.held }
+    {
         self.held.len()
     }
 
@@ -98,7 +117,12 @@ impl Sieve {
     /// # Errors
     ///
     /// Memory that is refused. Nothing changes then.
-    pub fn push(&mut self, piece: &[u8]) -> Result<(), AllocError> {
+    pub fn push(&mut self, piece: &[u8]) -> Result<(), AllocError>
+        ensures came { OnOk result (Came self.old piece.now self.new) }
+        ensures unchanged { OnErr result (self.new ≡ self.old) }
+        ensures is { (stream handed : List ℕ) → IsSieve self.old stream handed
+            → OnOk result (IsSieve self.new (stream ++ piece.now) handed) }
+    {
         match self.phase {
             Phase::Refused => Ok(()),
             _ => self.held.push(piece),
@@ -106,7 +130,13 @@ impl Sieve {
     }
 
     /// Hands on what there is of a frame of which so many octets have not been handed on.
-    fn pass(&mut self, left: usize) -> Result<Vec<u8>, AllocError> {
+    fn pass(&mut self, left: usize) -> Result<Vec<u8>, AllocError>
+        ensures passes { IfOk result (λ octets. Passes (phases.Frame left) self.old.held octets.items
+            self.new.held self.new.phase) }
+        ensures unchanged { OnErr result (self.new ≡ self.old) }
+        ensures role { self.new.role ≡ self.old.role }
+        ensures node { self.new.node ≡ self.old.node }
+    {
         let count = min(left, self.held.len());
         let octets = Vec::from_slice(self.alloc, &self.held.octets()[..count])?;
         self.held.skip(count);
@@ -119,7 +149,13 @@ impl Sieve {
     }
 
     /// Hands on all that there is.
-    fn pass_all(&mut self) -> Result<Vec<u8>, AllocError> {
+    fn pass_all(&mut self) -> Result<Vec<u8>, AllocError>
+        ensures passes { IfOk result (λ octets. Passes phases.Faulty self.old.held octets.items
+            self.new.held self.new.phase) }
+        ensures unchanged { OnErr result (self.new ≡ self.old) }
+        ensures role { self.new.role ≡ self.old.role }
+        ensures node { self.new.node ≡ self.old.node }
+    {
         let octets = Vec::from_slice(self.alloc, self.held.octets())?;
         self.held.clear();
         self.phase = Phase::Faulty;
@@ -127,7 +163,13 @@ impl Sieve {
     }
 
     /// Drops all that there is, and hands on the frame of no kind.
-    fn refuse(&mut self) -> Result<Vec<u8>, AllocError> {
+    fn refuse(&mut self) -> Result<Vec<u8>, AllocError>
+        ensures passes { IfOk result (λ octets. Passes phases.Refused self.old.held octets.items
+            self.new.held self.new.phase) }
+        ensures unchanged { OnErr result (self.new ≡ self.old) }
+        ensures role { self.new.role ≡ self.old.role }
+        ensures node { self.new.node ≡ self.old.node }
+    {
         let octets = Vec::from_slice(self.alloc, &REFUSAL)?;
         self.held.clear();
         self.phase = Phase::Refused;
@@ -140,7 +182,11 @@ impl Sieve {
     /// # Errors
     ///
     /// Memory that is refused. Nothing changes then.
-    pub fn take(&mut self) -> Result<Option<Vec<u8>>, AllocError> {
+    pub fn take(&mut self) -> Result<Option<Vec<u8>>, AllocError>
+        ensures sifts { Sifts self.old result self.new }
+        ensures is { (stream handed : List ℕ) → IsSieve self.old stream handed
+            → IsSieve self.new stream (handed ++ handed_by result) }
+    {
         if self.held.len() == 0 {
             return Ok(None);
         }

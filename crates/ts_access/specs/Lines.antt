@@ -1,0 +1,52 @@
+-- What a connection whose key was found does at a call.
+use Rattle.std.specs.Prelude.{◌≡◌, ◌≢◌, ◌⊎◌, ◌<◌, ◌+◌, ◌^◌, ℕ, List, [], Option, Some, None}
+use Rattle.std.specs.declared.vec.Vec.{Vec}
+use Rattle.std.specs.declared.alloc.Global.{Global}
+use Rattle.ts_guard.specs.Opening.{HasOpened, IsFault, IsOpenerFor}
+use Rattle.ts_guard.specs.Reading.{IsPartial}
+use Rattle.ts_guard.specs.declared.fault.GuardFault.{GuardFault}
+use Rattle.ts_guard.specs.declared.fault.GuardFault.TheVariants.{Memory}
+use Rattle.ts_guard.specs.declared.opener.Opener.{Opener}
+use Rattle.ts_access.specs.Sifting.{Came, Hands, IsIdle}
+use Rattle.ts_access.specs.declared.fault.EntranceFault.{EntranceFault}
+use Rattle.ts_access.specs.declared.fault.EntranceFault.TheVariants as faults
+use Rattle.ts_access.specs.declared.line.Line.{Line}
+
+-- a content was let through, whatever the key and the context that the opener is for
+abbrev pub LetsThrough : Opener → List ℕ → Opener → Type 0
+LetsThrough old content new = (key context : List ℕ) → IsOpenerFor key context old
+    → HasOpened key context old content new
+
+-- why none was let through, whatever the key and the context
+abbrev pub Holds : Opener → GuardFault → Type 0
+Holds opener fault = (key context : List ℕ) → IsOpenerFor key context opener
+    → IsFault key context opener fault
+
+-- less than a whole record is there
+abbrev pub IsWaiting : Opener → Type 0
+IsWaiting opener = (opener.number + 1 < 2 ^ 64) × IsPartial opener.held
+
+-- octets were handed on
+pub record HandsOn (old : Line) (octets : List ℕ) (new : Line) : Type 0 where
+  pub hands : Hands old.sieve octets new.sieve
+  pub channel : new.channel ≡ old.channel
+
+-- there were none, and the next record was opened
+pub record OpensOne (old : Line) (octets : List ℕ) (new : Line) : Type 0 where
+  pub none : octets ≡ []
+  pub idle : IsIdle old.sieve
+  pub content : List ℕ
+  pub opens : LetsThrough old.channel.opener content new.channel.opener
+  pub came : Came old.sieve content new.sieve
+  pub sealer : new.channel.sealer ≡ old.channel.sealer
+
+abbrev pub GoesOn : Line → Option (Vec ℕ Global) → Line → Type 0
+GoesOn old (Some octets) new = HandsOn old octets.items new ⊎ OpensOne old octets.items new
+GoesOn old None new = (new ≡ old) × IsIdle old.sieve × IsWaiting old.channel.opener
+
+-- why it ends
+abbrev pub EndsBy : Line → EntranceFault → Type 0
+EndsBy line faults.Memory = Unit {0}
+EndsBy line (faults.Guard fault) = (fault ≢ Memory) × IsIdle line.sieve
+    × Holds line.channel.opener fault
+EndsBy line fault = ⊥
