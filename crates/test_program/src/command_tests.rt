@@ -72,7 +72,10 @@ const LINES: &[(&str, &str)] = &[
         "submit a:1 f",
         "Submit { reach: Reach { address: \"a:1\", key: None }, file: \"f\", wait: 0 }",
     ),
-    ("ask a:1 f", "Ask { reach: Reach { address: \"a:1\", key: None }, file: \"f\" }"),
+    (
+        "ask a:1 f",
+        "Ask { reach: Reach { address: \"a:1\", key: None }, file: \"f\" }",
+    ),
     ("ask a:1", "Wrong"),
     ("ask a f", "Value(Address)"),
     (
@@ -86,8 +89,14 @@ const LINES: &[(&str, &str)] = &[
         "carry 1:1 2:2 3:3 4:4 5:5 6:6 7:7 8:8 9:9 10:10 --rounds 1",
         "Value(Addresses)",
     ),
-    ("status a:1", "Status { reach: Reach { address: \"a:1\", key: None } }"),
-    ("catchup a:1", "CatchUp { reach: Reach { address: \"a:1\", key: None } }"),
+    (
+        "status a:1",
+        "Status { reach: Reach { address: \"a:1\", key: None } }",
+    ),
+    (
+        "catchup a:1",
+        "CatchUp { reach: Reach { address: \"a:1\", key: None } }",
+    ),
     ("compact a", "Value(Address)"),
     (
         "status a:1 --key k",

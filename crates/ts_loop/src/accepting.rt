@@ -61,7 +61,12 @@ fn put_door<R: RandomSource>(
     now: u64,
 ) -> bool {
     let both = Interest::READABLE | Interest::WRITABLE;
-    if slot >= doors.len() || entry.registry.register(&mut stream, Token(slot), both).is_err() {
+    if slot >= doors.len()
+        || entry
+            .registry
+            .register(&mut stream, Token(slot), both)
+            .is_err()
+    {
         return false;
     }
     let mut lock = None;
@@ -78,9 +83,12 @@ fn put_door<R: RandomSource>(
 /// When the connection of a door was accepted, if it has shown no key.
 fn unknown_since(place: &Option<Door>) -> Option<u64> {
     match place {
-        Some(Door {
-            lock: Some(lock), ..
-        }) => lock.unknown_since(),
+        Some(
+            Door {
+                lock: Some(lock),
+                ..
+            },
+        ) => lock.unknown_since(),
         _ => None,
     }
 }

@@ -1,5 +1,8 @@
 //! Who may ask a node, and what it shows its peers.
 
+use crate::keyring::Keyring;
+use std::alloc::Global;
+use std::rt::Files;
 use ts_access::Key;
 
 /// Who may ask a node, and the key that it shows its peers.
@@ -8,7 +11,7 @@ pub struct Access {
     /// The number of the node.
     pub node: u8,
     /// The keys of those who may ask. `None`: whoever reaches the address may ask anything.
-    pub keys: Option<Vec<Key>>,
+    pub keyring: Option<Keyring>,
     /// The key that the node shows its peers.
     pub own: Option<Key>,
     /// Whether an address may be listened at without keys that other machines reach.
@@ -20,22 +23,29 @@ impl Access {
     pub fn open(node: u8) -> Access {
         Access {
             node,
-            keys: None,
+            keyring: None,
             own: None,
             open: true,
         }
     }
 
     /// The keys of those who may ask.
-    pub(crate) fn keys_of(&self) -> &[Key] {
-        match &self.keys {
-            Some(keys) => keys,
+    pub(crate) fn keys(&self) -> &[Key] {
+        match &self.keyring {
+            Some(keyring) => keyring.keys(),
             None => &[],
         }
     }
 
     /// Whether keys are wanted.
     pub(crate) fn is_locked(&self) -> bool {
-        self.keys.is_some()
+        self.keyring.is_some()
+    }
+
+    /// Reads the file of keys again, where it has changed.
+    pub(crate) fn refresh<R: Files + Eprint>(&mut self, rt: &R, alloc: Global, now: u64) {
+        if let Some(keyring) = &mut self.keyring {
+            keyring.refresh(rt, alloc, now);
+        }
     }
 }

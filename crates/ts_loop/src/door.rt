@@ -1,6 +1,6 @@
 //! The socket of a slot, and what is known of it.
 
-ghost use Rattle.std.specs.Prelude.{◌≤◌, IfSome};
+ghost use Rattle.std.specs.Prelude.{◌≤◌, IfSome, length};
 ghost use Rattle.ts_links.specs.Calls.{IsQuiet};
 
 use crate::lock::Lock;
@@ -131,7 +131,13 @@ pub(crate) fn read_once(
 }
 
 /// Writes octets once. How many were taken, and `None` where the connection failed.
-fn write_some(stream: &mut TcpStream, writable: &mut bool, octets: &[u8]) -> Option<usize> {
+pub(crate) fn write_some(
+    stream: &mut TcpStream,
+    writable: &mut bool,
+    octets: &[u8],
+) -> Option<usize>
+    ensures { IfSome result (λ count. count ≤ length octets.now) }
+{
     match stream.write(octets) {
         Ok(count) => Some(count),
         Err(error) if error.kind() == ErrorKind::WouldBlock => {

@@ -2,13 +2,13 @@
 
 ghost use Rattle.std.specs.Prelude.{◌≤◌, IfSome};
 
-use crate::door::PIECE;
+use crate::door::{PIECE, write_some};
 use crate::seal::Seal;
 use mio::event::Event;
 use mio::net::TcpStream;
 use mio::{Interest, Registry, Token};
 use std::alloc::Global;
-use std::io::{ErrorKind, Read, Write};
+use std::io::{ErrorKind, Read};
 use std::net::{Net, SocketAddr};
 use std::random::RandomSource;
 use ts_access::Key;
@@ -290,39 +290,31 @@ impl Line {
         }
     }
 
-    /// What is ready to be written.
-    fn ready(&self) -> &[u8] {
+    /// Whether octets are ready to be written.
+    fn waits(&self) -> bool {
         match &self.seal {
-            Some(seal) => seal.out.octets(),
-            None => self.mailbox.octets(),
+            Some(seal) => seal.out.len() > 0,
+            None => !self.mailbox.octets().is_empty(),
         }
     }
 
-    /// So many of the octets that were ready are written.
-    fn written(&mut self, count: usize) {
-        match &mut self.seal {
-            Some(seal) if count <= seal.out.len() => seal.out.skip(count),
-            None if count <= self.mailbox.octets().len() => self.mailbox.sent(count),
-            _ => {}
-        }
-    }
-
-    /// Writes once. How many octets were taken, and `None` where the connection is over.
-    fn write_once(&mut self) -> Option<usize> {
-        let octets = match &self.seal {
-            Some(seal) => seal.out.octets(),
-            None => self.mailbox.octets(),
+    /// Writes once. `false` where the connection is over.
+    fn write_once(&mut self) -> bool {
+        let Some(stream) = &mut self.stream else {
+            return false;
         };
-        let stream = self.stream.as_mut()?;
-        match stream.write(octets) {
-            Ok(count) => Some(count),
-            Err(error) if error.kind() == ErrorKind::WouldBlock => {
-                self.writable = false;
-                Some(0)
-            }
-            Err(error) if error.kind() == ErrorKind::Interrupted => Some(0),
-            Err(_) => None,
+        if let Some(seal) = &mut self.seal {
+            let Some(count) = write_some(stream, &mut self.writable, seal.out.octets()) else {
+                return false;
+            };
+            seal.out.skip(count);
+            return true;
         }
+        let Some(count) = write_some(stream, &mut self.writable, self.mailbox.octets()) else {
+            return false;
+        };
+        self.mailbox.sent(count);
+        true
     }
 
     /// Writes what waits. `false` where the connection is over.
@@ -331,13 +323,12 @@ impl Line {
             if !self.make_ready() {
                 return false;
             }
-            if !self.writable || self.ready().is_empty() {
+            if !self.writable || !self.waits() {
                 return true;
             }
-            let Some(count) = self.write_once() else {
+            if !self.write_once() {
                 return false;
-            };
-            self.written(count);
+            }
         }
         true
     }

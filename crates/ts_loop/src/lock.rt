@@ -1,5 +1,6 @@
 //! The lock of a slot: what comes on its socket is opened, and what leaves is sealed.
 
+ghost use Rattle.std.specs.Prelude.{◌≡◌, ◌≤◌, length};
 ghost use Rattle.ts_links.specs.Calls.{IsQuiet};
 
 use std::alloc::Global;
@@ -11,6 +12,9 @@ use ts_links::reaching::{arrive, leave};
 use ts_queue::Queue;
 use ts_serve::refusal;
 use ts_wire::FrameFault;
+
+/// How many milliseconds a connection lives at most on one key.
+const LONGEST_LIFE: u64 = 3_600_000;
 
 /// What stands between the socket of a slot and its connection, where keys are wanted.
 #[derive(Drop)]
@@ -50,9 +54,15 @@ impl Lock {
         self.entrance.push(piece).is_ok()
     }
 
-    /// Whether no key was shown for so many milliseconds.
-    pub fn is_unknown(&self, millis: u64, now: u64) -> bool {
-        !self.entrance.has_begun() && millis <= now.saturating_sub(self.since)
+    /// Whether the connection's time is over: no key was shown for so many milliseconds, or it
+    /// lives for an hour on a key that may have been withdrawn since.
+    pub fn is_over(&self, millis: u64, now: u64) -> bool {
+        let longest = if self.entrance.has_begun() {
+            LONGEST_LIFE
+        } else {
+            millis
+        };
+        longest <= now.saturating_sub(self.since)
     }
 
     /// When the connection was accepted, if no key was shown since.
@@ -64,7 +74,9 @@ impl Lock {
     }
 
     /// What is ready to be written.
-    pub fn octets(&self) -> &[u8] {
+    pub fn octets(&self) -> &[u8]
+        ensures { result.now ≡ self.now.out }
+    {
         self.out.octets()
     }
 
@@ -74,10 +86,10 @@ impl Lock {
     }
 
     /// So many of the octets that were ready are written.
-    pub fn written(&mut self, count: usize) {
-        if count <= self.out.len() {
-            self.out.skip(count);
-        }
+    pub fn written(&mut self, count: usize)
+        requires { count ≤ length self.old.out }
+    {
+        self.out.skip(count);
     }
 
     /// Answers octets that are no greeting as servers without keys answer a frame of another
@@ -93,13 +105,7 @@ impl Lock {
 
     /// Hands on what is let through, while the connection has room. `false` where nothing more is
     /// let through.
-    pub fn hand_on(
-        &mut self,
-        table: &mut Connections,
-        keys: &[Key],
-        slot: usize,
-        now: u64,
-    ) -> bool
+    pub fn hand_on(&mut self, table: &mut Connections, keys: &[Key], slot: usize, now: u64) -> bool
         ensures { IsQuiet table.old table.new }
     {
         for _step in 0..self.entrance.held_count().saturating_add(1) {
@@ -132,7 +138,10 @@ impl Lock {
             return true;
         }
         let mut record = Vec::new(self.alloc);
-        match self.entrance.seal(&table.waiting(slot)[..count], &mut record) {
+        match self
+            .entrance
+            .seal(&table.waiting(slot)[..count], &mut record)
+        {
             Ok(true) => {}
             Ok(false) | Err(_) => return false,
         }

@@ -136,19 +136,25 @@ pub(crate) fn pump_all<S: Service>(
     for step in 0..slots {
         let slot = first.wrapping_add(step) % slots;
         let place = &mut doors[slot];
-        if pump_slot(table, service, carrier, place, keys, slot, buffer, now, counts) {
+        if pump_slot(
+            table, service, carrier, place, keys, slot, buffer, now, counts,
+        ) {
             more = true;
         }
     }
     more
 }
 
-/// Whether a connection has shown no key for as long as a request may take.
-fn is_unknown(place: &Option<Door>, deadlines: &Deadlines, now: u64) -> bool {
+/// Whether a connection has shown no key for as long as a request may take, or lives too long on
+/// one.
+fn is_over(place: &Option<Door>, deadlines: &Deadlines, now: u64) -> bool {
     match place {
-        Some(Door {
-            lock: Some(lock), ..
-        }) => lock.is_unknown(deadlines.request_ms, now),
+        Some(
+            Door {
+                lock: Some(lock),
+                ..
+            },
+        ) => lock.is_over(deadlines.request_ms, now),
         _ => false,
     }
 }
@@ -167,7 +173,7 @@ fn sweep_slot(
 {
     let is_late = table.is_late(slot, deadlines, now)
         && !carrier.gate.holds_back(table.held(slot), now);
-    if !is_late && !is_unknown(place, deadlines, now) {
+    if !is_late && !is_over(place, deadlines, now) {
         return;
     }
     close_slot(table, place, slot, Why::Late, counts);

@@ -23,7 +23,7 @@ use mio::{Events, Interest, Poll};
 use std::alloc::Global;
 use std::net::{Net, ToSocketAddrs};
 use std::random::RandomSource;
-use std::rt::Clock;
+use std::rt::{Clock, Files};
 use std::time::{Duration, Instant, SystemTime, UNIX_EPOCH};
 use ts_access::Key;
 use ts_disk::Disk;
@@ -58,11 +58,7 @@ struct Edge {
 
 /// The listener at an address, whose calls don't wait. `mio` asks for the longest backlog. Without
 /// keys it is one that this machine alone reaches, unless any is allowed.
-fn listener_at<R: Net>(
-    rt: &R,
-    address: &str,
-    access: &Access,
-) -> Result<TcpListener, LoopFault> {
+fn listener_at<R: Net>(rt: &R, address: &str, access: &Access) -> Result<TcpListener, LoopFault> {
     let Ok(found) = address.to_socket_addrs(rt) else {
         return Err(LoopFault::Listen);
     };
@@ -219,14 +215,14 @@ impl Edge {
     }
 
     /// One round. The milliseconds since the start.
-    fn round<S: Service, R: Net + Clock + Eprint + RandomSource>(
+    fn round<S: Service, R: Net + Files + Clock + Eprint + RandomSource>(
         &mut self,
         rt: &R,
         table: &mut Connections,
         service: &mut S,
         buffer: &mut [u8; PIECE],
         limits: &Limits,
-        access: &Access,
+        access: &mut Access,
     ) -> Result<u64, LoopFault>
         requires { S.is_ready service.old }
         ensures reached { HasReached S.turn service.old table.old service.new table.new }
@@ -234,13 +230,14 @@ impl Edge {
     {
         let goes_on = self.more || self.carrier.has_more() || self.accepts == Accepts::Now;
         let (event, now) = self.wait(rt, if goes_on { 0 } else { ROUND })?;
+        access.refresh(rt, self.alloc, now);
         self.accept(rt, table, access, event, now);
         self.more = pump_all(
             table,
             service,
             &mut self.carrier,
             &mut self.doors,
-            access.keys_of(),
+            access.keys(),
             buffer,
             now,
             &mut self.counts,
@@ -302,14 +299,14 @@ impl Edge {
     }
 
     /// One round, and how the loop ends after it, if it does.
-    fn step<S: Service, R: Net + Clock + Eprint + RandomSource>(
+    fn step<S: Service, R: Net + Files + Clock + Eprint + RandomSource>(
         &mut self,
         rt: &R,
         table: &mut Connections,
         service: &mut S,
         buffer: &mut [u8; PIECE],
         limits: &Limits,
-        access: &Access,
+        access: &mut Access,
     ) -> Option<Result<(), LoopFault>>
         requires { S.is_ready service.old }
         ensures reached { HasReached S.turn service.old table.old service.new table.new }
@@ -322,13 +319,13 @@ impl Edge {
     }
 
     /// Rounds, until so many connections are over or the service has failed.
-    fn serve<S: Service, R: Net + Clock + Eprint + RandomSource>(
+    fn serve<S: Service, R: Net + Files + Clock + Eprint + RandomSource>(
         &mut self,
         rt: &R,
         table: &mut Connections,
         service: &mut S,
         limits: &Limits,
-        access: &Access,
+        access: &mut Access,
     ) -> Result<(), LoopFault>
         requires { S.is_ready service.old }
         ensures reached { HasReached S.turn service.old table.old service.new table.new }
@@ -365,10 +362,10 @@ pub fn serve_all<R, D, M>(
     address: &str,
     limits: &Limits,
     group: &Group,
-    access: &Access,
+    access: &mut Access,
 ) -> Result<Counts, LoopFault>
 where
-    R: Net + Clock + Eprint + RandomSource,
+    R: Net + Files + Clock + Eprint + RandomSource,
     D: Disk,
     M: Machine<Command, Outcome = Outcome, Question = Question, Answer = Answer>,
     requires { IsSound D.state octets_of M.commands server.old.node }

@@ -2,7 +2,7 @@
 
 use crate::fault::Fault;
 use crate::files::fault_of;
-use crate::keys::{key_in, keys_in};
+use crate::keys::{key_in, keyring_of};
 use std::alloc::Global;
 use std::fs;
 use std::io::Read;
@@ -102,13 +102,9 @@ pub(crate) fn access_of<R: Files + Eprint>(
     words: &ServeWords,
 ) -> Result<Access, Fault> {
     let member = member_of(rt, words.file.as_str())?;
-    let keys = match &words.keys {
-        Some(path) => Some(keys_in(rt, alloc, path.as_str())?),
-        None => None,
-    };
     Ok(Access {
         node: member.node,
-        keys,
+        keyring: keyring_of(rt, alloc, &words.keys)?,
         own: own_key(rt, alloc, words, member.node)?,
         open: words.open,
     })
@@ -122,10 +118,10 @@ pub(crate) fn say_start(rt: &impl Eprint, words: &ServeWords, group: &Group, acc
     let (file, listen) = (words.file.as_str(), words.listen.as_str());
     let peers = group.peers.len();
     let _ = eprintln!(rt; "trustd: serves {file} at {listen}, {peers} peers");
-    if access.keys.is_none() {
+    if access.keyring.is_none() {
         let _ = eprintln!(rt; "trustd: no --keys: whoever reaches {listen} may change the store");
     }
-    if access.keys.is_some() && access.own.is_none() && peers > 0 {
+    if access.keyring.is_some() && access.own.is_none() && peers > 0 {
         let _ = eprintln!(rt; "trustd: no --key: peers that want keys refuse this node");
     }
 }

@@ -158,12 +158,7 @@ impl<N: Net + RandomSource> Peer for KeyedPeer<'_, N> {
 
 impl<'a, N: Net + RandomSource> Reached<'a, N> {
     /// The node at this address, which is shown this key. No connection is made yet.
-    pub fn new(
-        alloc: Global,
-        net: &'a N,
-        address: String,
-        key: Option<Key>,
-    ) -> Reached<'a, N> {
+    pub fn new(alloc: Global, net: &'a N, address: String, key: Option<Key>) -> Reached<'a, N> {
         match key {
             None => Reached::Open(TcpPeer::new(alloc, net, address)),
             Some(key) => Reached::Keyed(KeyedPeer {

@@ -1,14 +1,17 @@
 //! Files of keys.
 
 use crate::fault::Fault;
-use crate::files::read_file;
+use crate::files::fault_of;
 use std::alloc::Global;
+use std::fs;
 use std::io::Print;
+use std::os::unix::fs::PermissionsExt;
 use std::random::RandomSource;
 use std::rt::Files;
-use ts_access::{Key, KeysFault, Role, key_line, read_keys};
+use ts_access::{Key, KeysFault, Role, key_line};
+use ts_loop::{KeyFileFault, Keyring, read_key_file};
 
-/// What is wrong with a file of keys, said on standard error.
+/// What is wrong with the lines of a file of keys, said on standard error.
 fn fault_of_keys(rt: &impl Eprint, path: &str, fault: KeysFault) -> Fault {
     match fault {
         KeysFault::Memory => Fault::Memory,
@@ -27,21 +30,42 @@ fn fault_of_keys(rt: &impl Eprint, path: &str, fault: KeysFault) -> Fault {
     }
 }
 
-/// The keys of a file.
+/// What is wrong with a file of keys, said on standard error.
+fn fault_of_file(rt: &impl Eprint, path: &str, fault: KeyFileFault) -> Fault {
+    match fault {
+        KeyFileFault::File(error) => fault_of(rt, path, &error),
+        KeyFileFault::Keys(fault) => fault_of_keys(rt, path, fault),
+    }
+}
+
+/// Says on standard error that others may read a file of keys, where they may.
+fn warn_of_mode<R: Files + Eprint>(rt: &R, path: &str) {
+    let Ok(found) = fs::metadata(rt, path) else {
+        return;
+    };
+    if found.permissions().mode() & 0o077 != 0 {
+        let _ = eprintln!(rt; "trustd: {path}: others may read this key: chmod 600 {path}");
+    }
+}
+
+/// The keys of those who may ask, if a file is named.
 ///
 /// # Errors
 ///
 /// `KeyLine` with the first line that is none; `Field` where two have one number; `TooLong`;
 /// those of the file.
-pub(crate) fn keys_in<R: Files + Eprint>(
+pub(crate) fn keyring_of<R: Files + Eprint>(
     rt: &R,
     alloc: Global,
-    path: &str,
-) -> Result<Vec<Key>, Fault> {
-    let text = read_file(rt, alloc, path)?;
-    match read_keys(alloc, &text) {
-        Ok(keys) => Ok(keys),
-        Err(fault) => Err(fault_of_keys(rt, path, fault)),
+    path: &Option<String>,
+) -> Result<Option<Keyring>, Fault> {
+    let Some(path) = path else {
+        return Ok(None);
+    };
+    warn_of_mode(rt, path.as_str());
+    match Keyring::read(rt, alloc, path.as_str()) {
+        Ok(keyring) => Ok(Some(keyring)),
+        Err(fault) => Err(fault_of_file(rt, path.as_str(), fault)),
     }
 }
 
@@ -49,7 +73,7 @@ pub(crate) fn keys_in<R: Files + Eprint>(
 ///
 /// # Errors
 ///
-/// `Field` where the file holds none, or several; else those of [`keys_in`].
+/// `Field` where the file holds none, or several; else those of [`keyring_of`].
 pub(crate) fn key_in<R: Files + Eprint>(
     rt: &R,
     alloc: Global,
@@ -58,7 +82,11 @@ pub(crate) fn key_in<R: Files + Eprint>(
     let Some(path) = path else {
         return Ok(None);
     };
-    let keys = keys_in(rt, alloc, path.as_str())?;
+    warn_of_mode(rt, path.as_str());
+    let keys = match read_key_file(rt, alloc, path.as_str()) {
+        Ok(keys) => keys,
+        Err(fault) => return Err(fault_of_file(rt, path.as_str(), fault)),
+    };
     match keys.as_slice() {
         [key] => Ok(Some(*key)),
         others => {

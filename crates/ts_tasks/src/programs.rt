@@ -123,7 +123,7 @@ fn fault_of_loop(rt: &impl Eprint, words: &ServeWords, fault: LoopFault) -> Faul
 /// Serves the node on two disks, whose signatures this check decides, to many clients at once.
 fn serve_node<
     D: Disk + Drop,
-    R: Net<Listener = TcpListener, Stream = TcpStream> + Clock + RandomSource + Eprint,
+    R: Net<Listener = TcpListener, Stream = TcpStream> + Files + Clock + RandomSource + Eprint,
 >(
     rt: &R,
     alloc: Global,
@@ -131,7 +131,7 @@ fn serve_node<
     check: ChosenCheck,
     words: &ServeWords,
     group: &Group,
-    access: &Access,
+    access: &mut Access,
 ) -> Result<(), Fault> {
     let (a, b) = disks;
     let node = match Node::open(alloc, a, b, Answers::new(alloc, check)) {
@@ -182,7 +182,7 @@ pub fn serve_record<
         let _ = eprintln!(rt; "signatures are the examples' stand-in: anybody can forge them");
     }
     let group = group_of(rt, alloc, words)?;
-    let access = access_of(rt, alloc, words)?;
+    let mut access = access_of(rt, alloc, words)?;
     say_start(rt, words, &group, &access);
-    serve_node(rt, alloc, disks, check, words, &group, &access)
+    serve_node(rt, alloc, disks, check, words, &group, &mut access)
 }

@@ -125,7 +125,7 @@ pub(crate) fn told<T: Drop>(
 ) -> Result<T, Fault> {
     let address = reach.address.as_str();
     let _said = match &ended {
-        Err(Fault::Write) => {
+        Err(Fault::Write) if reach.key.is_none() => {
             eprintln!(rt; "trustd: {address}: can't be reached, or ended the connection")
         }
         Err(Fault::Frame(FrameFault::Version)) if reach.key.is_none() => {
@@ -134,9 +134,9 @@ pub(crate) fn told<T: Drop>(
         Err(Fault::Frame(FrameFault::Version)) => {
             eprintln!(rt; "trustd: {address}: wants no key")
         }
-        Err(Fault::Cut | Fault::Read) if reach.key.is_some() => {
-            eprintln!(rt; "trustd: {address}: ended the connection; does it know this key?")
-        }
+        Err(Fault::Cut | Fault::Read | Fault::Write) if reach.key.is_some() => eprintln!(rt;
+            "trustd: {address}: can't be reached, or does not know this key"
+        ),
         Err(Fault::Frame(FrameFault::Kind)) if reach.key.is_some() => {
             eprintln!(rt; "trustd: {address}: this key's role may not ask this")
         }

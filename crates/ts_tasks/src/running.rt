@@ -3,8 +3,8 @@
 ghost use Rattle.ts_cli.specs.Says.{IsInRange};
 
 use crate::fault::Fault;
-use crate::making::{make_command, make_question, print_id, show_file};
 use crate::keys::print_key;
+use crate::making::{make_command, make_question, print_id, show_file};
 use crate::programs::{format_record, migrate_record, serve_record};
 use crate::requests::{ask_file, carry_messages, submit_file};
 use crate::upkeep::{Upkeep, tend_server};

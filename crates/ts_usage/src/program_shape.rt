@@ -140,10 +140,7 @@ fn sending<'a>(
 {
     let address = word(alloc, "address", "ADDR", "HOST:PORT of the node");
     let file = word(alloc, "file", "FILE", help);
-    with_key(
-        alloc,
-        with(with(leaf(alloc, name, about), address), file),
-    )
+    with_key(alloc, with(with(leaf(alloc, name, about), address), file))
 }
 
 /// A command is handed to a node.

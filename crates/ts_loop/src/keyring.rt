@@ -1,0 +1,119 @@
+//! A file of keys, read again where it has changed.
+
+use std::alloc::{AllocError, Global};
+use std::io::Read;
+use std::rt::Files;
+use std::time::SystemTime;
+use std::{fs, io};
+use ts_access::{Key, KeysFault, read_keys};
+
+/// The most octets of a file of keys.
+pub const MAX_KEY_FILE: u64 = 1_048_576;
+
+/// How many milliseconds pass until it is looked again whether the file has changed.
+const LOOK: u64 = 1_000;
+
+/// Why a file of keys can't be used.
+#[derive(Debug, Drop)]
+pub enum KeyFileFault {
+    /// The system does not give it.
+    File(io::Error),
+    /// It is longer than 1 MiB, or holds something else than keys.
+    Keys(KeysFault),
+}
+
+impl From<io::Error> for KeyFileFault {
+    fn from(error: io::Error) -> KeyFileFault {
+        KeyFileFault::File(error)
+    }
+}
+
+impl From<AllocError> for KeyFileFault {
+    fn from(_: AllocError) -> KeyFileFault {
+        KeyFileFault::Keys(KeysFault::Memory)
+    }
+}
+
+/// The keys of a file of at most 1 MiB.
+///
+/// # Errors
+///
+/// What the system says of the file; what is wrong with its lines.
+pub fn read_key_file<R: Files>(
+    rt: &R,
+    alloc: Global,
+    path: &str,
+) -> Result<Vec<Key>, KeyFileFault> {
+    let file = fs::open(rt, path)?;
+    let mut text = Vec::new(alloc);
+    let count = file.take(MAX_KEY_FILE + 1).read_to_end(&mut text)?;
+    if count as u64 > MAX_KEY_FILE {
+        return Err(KeyFileFault::Keys(KeysFault::TooMany));
+    }
+    match read_keys(alloc, &text) {
+        Ok(keys) => Ok(keys),
+        Err(fault) => Err(KeyFileFault::Keys(fault)),
+    }
+}
+
+/// When a file was changed last, if the system says so.
+fn changed<R: Files>(rt: &R, path: &str) -> Option<SystemTime> {
+    fs::metadata(rt, path).ok()?.modified().ok()
+}
+
+/// The keys of those who may ask, and the file that they are of.
+#[derive(Drop)]
+pub struct Keyring {
+    path: String,
+    keys: Vec<Key>,
+    /// When the file was changed last, as far as it is known.
+    changed: Option<SystemTime>,
+    /// When it was looked at last.
+    looked: u64,
+}
+
+impl Keyring {
+    /// The keys of a file.
+    ///
+    /// # Errors
+    ///
+    /// Those of [`read_key_file`].
+    pub fn read<R: Files>(rt: &R, alloc: Global, path: &str) -> Result<Keyring, KeyFileFault> {
+        let changed = changed(rt, path);
+        Ok(Keyring {
+            path: String::from_str(alloc, path)?,
+            keys: read_key_file(rt, alloc, path)?,
+            changed,
+            looked: 0,
+        })
+    }
+
+    /// The keys.
+    pub(crate) fn keys(&self) -> &[Key] {
+        &self.keys
+    }
+
+    /// Reads the file again, if a second has gone since it was looked at and it has changed. Where
+    /// it can't be read, or a line is no key, the keys stay. Standard error is told of both.
+    pub(crate) fn refresh<R: Files + Eprint>(&mut self, rt: &R, alloc: Global, now: u64) {
+        if now.saturating_sub(self.looked) < LOOK {
+            return;
+        }
+        self.looked = now;
+        let path = self.path.as_str();
+        let changed = changed(rt, path);
+        if changed == self.changed {
+            return;
+        }
+        self.changed = changed;
+        let read = read_key_file(rt, alloc, path);
+        let _told = match read {
+            Ok(keys) => {
+                let count = keys.len();
+                self.keys = keys;
+                eprintln!(rt; "trustd: {path}: read again, {count} keys")
+            }
+            Err(_) => eprintln!(rt; "trustd: {path}: can't be used; the keys stay as they were"),
+        };
+    }
+}
