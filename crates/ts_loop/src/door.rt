@@ -3,7 +3,7 @@
 ghost use Rattle.std.specs.Prelude.{◌≤◌, IfSome, length};
 ghost use Rattle.ts_links.specs.Calls.{IsQuiet};
 
-use crate::lock::Lock;
+use crate::lock::{Handed, Lock};
 use mio::net::TcpStream;
 use std::io::{ErrorKind, Read, Write};
 use std::net::Shutdown;
@@ -101,7 +101,7 @@ fn take_in(
     ensures { IsQuiet table.old table.new }
 {
     match &mut door.lock {
-        Some(lock) => lock.push(piece) && lock.hand_on(table, keys, slot, now),
+        Some(lock) => lock.push(piece) && lock.hand_on(table, keys, slot, now) != Handed::Failed,
         None => piece.is_empty() || arrive(table, slot, piece, now),
     }
 }
@@ -200,6 +200,43 @@ pub(crate) fn write_once(table: &mut Connections, door: &mut Door, slot: usize, 
         return write_plain(table, door, slot, now);
     }
     seal_some(table, door, slot, now) && write_ready(door)
+}
+
+/// Hands on what the lock of a door still lets through, now that there may be room.
+fn hand_on_rest(
+    table: &mut Connections,
+    door: &mut Door,
+    keys: &[Key],
+    slot: usize,
+    now: u64,
+) -> Handed
+    ensures { IsQuiet table.old table.new }
+{
+    match &mut door.lock {
+        Some(lock) => lock.hand_on(table, keys, slot, now),
+        None => Handed::Nothing,
+    }
+}
+
+/// Ends a round of a connection: what its lock still lets through is handed on, and what waits is
+/// written once. Whether octets were handed on, and `None` where the connection failed.
+pub(crate) fn finish(
+    table: &mut Connections,
+    door: &mut Door,
+    keys: &[Key],
+    slot: usize,
+    now: u64,
+) -> Option<bool>
+    ensures { IsQuiet table.old table.new }
+{
+    let handed = hand_on_rest(table, door, keys, slot, now);
+    if handed == Handed::Failed {
+        return None;
+    }
+    if !write_once(table, door, slot, now) {
+        return None;
+    }
+    Some(handed == Handed::Some)
 }
 
 /// Writes what a lock has ready, before a connection is closed that failed: why no key was taken.

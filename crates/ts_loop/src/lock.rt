@@ -27,6 +27,17 @@ pub(crate) struct Lock {
     since: u64,
 }
 
+/// What became of the octets that a lock holds.
+#[derive(Clone, Copy, Debug, PartialEq, Eq)]
+pub(crate) enum Handed {
+    /// None was let through, or there was no room.
+    Nothing,
+    /// Some were handed on.
+    Some,
+    /// The connection failed: nothing more is let through.
+    Failed,
+}
+
 /// Thirty-two octets that nobody else draws.
 pub(crate) fn draw(source: &impl RandomSource) -> Option<[u8; 32]> {
     let mut octets = [0; 32];
@@ -103,29 +114,36 @@ impl Lock {
         }
     }
 
-    /// Hands on what is let through, while the connection has room. `false` where nothing more is
-    /// let through.
-    pub fn hand_on(&mut self, table: &mut Connections, keys: &[Key], slot: usize, now: u64) -> bool
+    /// Hands on what is let through, while the connection has room.
+    pub fn hand_on(
+        &mut self,
+        table: &mut Connections,
+        keys: &[Key],
+        slot: usize,
+        now: u64,
+    ) -> Handed
         ensures { IsQuiet table.old table.new }
     {
+        let mut handed = Handed::Nothing;
         for _step in 0..self.entrance.held_count().saturating_add(1) {
             if !table.reads(slot) {
-                return true;
+                return handed;
             }
             match self.entrance.take(keys) {
                 Ok(Some(octets)) => {
                     if !arrive(table, slot, &octets, now) {
-                        return false;
+                        return Handed::Failed;
                     }
+                    handed = Handed::Some;
                 }
-                Ok(None) => return true,
+                Ok(None) => return handed,
                 Err(fault) => {
                     self.turn_away(fault);
-                    return false;
+                    return Handed::Failed;
                 }
             }
         }
-        true
+        handed
     }
 
     /// Seals what waits to leave a slot, if nothing is ready to be written yet: at most one record.

@@ -3,7 +3,7 @@
 ghost use Rattle.ts_links.specs.Calls.{HasReached};
 
 use crate::carrier::Carrier;
-use crate::door::{Door, PIECE, read_once, shut_if_done, write_last, write_once};
+use crate::door::{Door, PIECE, finish, read_once, shut_if_done, write_last};
 use ts_access::Key;
 use ts_links::reaching::take_some;
 use ts_links::{Connections, Service, Stage};
@@ -124,12 +124,15 @@ pub(crate) fn pump<S: Service>(
     if !good {
         return (taken, Pumped::Failed);
     }
-    if !write_once(table, door, slot, now) {
+    let Some(more) = finish(table, door, keys, slot, now) else {
         return (taken, Pumped::Failed);
-    }
+    };
     shut_if_done(table, door, slot);
     if carrier.gate.holds_back(table.held(slot), now) {
         return (taken, Pumped::Held);
+    }
+    if more {
+        return (taken, Pumped::More);
     }
     (taken, what_is_left(table, door, slot, taken))
 }
