@@ -7,7 +7,9 @@ ghost use Rattle.ts_cli.specs.Says.{SaysTask};
 ghost use Rattle.ts_cli.specs.declared.task.Task.TheVariants.{Lab};
 
 use crate::fault::{CommandFault, WrongValue};
-use crate::matched::{address_at, are_addresses, number_at, number_or, string_at, strings_at};
+use crate::matched::{
+    address_at, are_addresses, is_set, number_at, number_or, string_at, strings_at,
+};
 use crate::serve_words::serve_words;
 use crate::task::Task;
 use crate::verify_words::verify_words;
@@ -57,6 +59,8 @@ fn ask(alloc: Global, matches: &ArgMatches<'_>) -> Result<Task, CommandFault>
     Ok(Task::Ask {
         address: address_at(alloc, matches, "address")?,
         file: string_at(alloc, matches, "file")?,
+        check: is_set(matches, "check"),
+        explain: is_set(matches, "explain"),
     })
 }
 

@@ -54,6 +54,31 @@ pub fn crls_of<R: Files + Eprint>(
     values_of(rt, path, read_crls(alloc, &octets))
 }
 
+/// The octets of all certificates, or of all CRLs, of some files.
+///
+/// # Errors
+///
+/// Those of [`certificates_of`].
+pub(crate) fn octets_of<R: Files + Eprint>(
+    rt: &R,
+    alloc: Global,
+    files: &[String],
+    are_crls: bool,
+) -> Result<Vec<Vec<u8>>, Fault> {
+    let mut found = Vec::new(alloc);
+    for file in files {
+        let values = if are_crls {
+            crls_of(rt, alloc, file.as_str())?
+        } else {
+            certificates_of(rt, alloc, file.as_str())?
+        };
+        for value in values {
+            found.push(value)?;
+        }
+    }
+    Ok(found)
+}
+
 /// The one value of a file that is to have one.
 fn single(rt: &impl Eprint, path: &str, mut values: Vec<Vec<u8>>) -> Result<Vec<u8>, Fault> {
     let count = values.len();

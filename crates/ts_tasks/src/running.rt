@@ -1,7 +1,10 @@
 //! A task is run.
 
+ghost use Rattle.std.specs.Prelude.{◌≡◌, IsErr, Ok, OnErr, OnOk};
 ghost use Rattle.ts_cli.specs.Says.{IsInRange};
+ghost use Rattle.ts_tasks.specs.declared.ended.Ended.TheVariants.{Well};
 
+use crate::ended::Ended;
 use crate::fault::Fault;
 use crate::making::{make_command, make_question, print_id, show_file};
 use crate::programs::{format_record, migrate_record, serve_record};
@@ -13,7 +16,19 @@ use std::net::{Net, TcpListener, TcpStream};
 use std::rt::{Clock, Files};
 use ts_cli::Task;
 
-/// Runs a task, but the lab and a verdict without a node, which end with statuses of their own.
+/// A task that asks for no answer ends well, unless it fails.
+fn well(ended: Result<(), Fault>) -> Result<Ended, Fault>
+    ensures done { OnOk ended (result ≡ Ok Well) }
+    ensures failed { OnErr ended (IsErr result) }
+{
+    match ended {
+        Ok(()) => Ok(Ended::Well),
+        Err(fault) => Err(fault),
+    }
+}
+
+/// Runs a task of a client that asks for an answer, or another, but the lab and a verdict without a
+/// node, which end with statuses of their own.
 ///
 /// # Errors
 ///
@@ -25,20 +40,41 @@ pub fn run<
         + Clock
         + Print
         + Eprint,
->(rt: &R, task: &Task) -> Result<(), Fault>
+>(rt: &R, task: &Task) -> Result<Ended, Fault>
     requires { IsInRange task.now }
 {
     match task {
-        Task::Lab | Task::Verify(_) => Ok(()),
-        Task::Format { file, id, nodes } => format_record(rt, file.as_str(), *id, *nodes),
-        Task::Migrate { old, new } => migrate_record(rt, old.as_str(), new.as_str()),
-        Task::Serve(words) => serve_record(rt, words),
         Task::Submit {
             address,
             file,
             wait,
         } => submit_file(rt, address.as_str(), file.as_str(), *wait),
-        Task::Ask { address, file } => ask_file(rt, address.as_str(), file.as_str()),
+        Task::Ask {
+            address,
+            file,
+            check,
+            explain,
+        } => ask_file(rt, address.as_str(), file.as_str(), *check, *explain),
+        other => well(run_other(rt, other)),
+    }
+}
+
+/// Runs a task that ends well unless it fails.
+fn run_other<
+    R: AllocGlobal
+        + Files<File = File>
+        + Net<Listener = TcpListener, Stream = TcpStream>
+        + Clock
+        + Print
+        + Eprint,
+>(rt: &R, task: &Task) -> Result<(), Fault>
+    requires { IsInRange task.now }
+{
+    match task {
+        Task::Lab | Task::Verify(_) | Task::Submit { .. } | Task::Ask { .. } => Ok(()),
+        Task::Format { file, id, nodes } => format_record(rt, file.as_str(), *id, *nodes),
+        Task::Migrate { old, new } => migrate_record(rt, old.as_str(), new.as_str()),
+        Task::Serve(words) => serve_record(rt, words),
         Task::Carry { addresses, rounds } => carry_messages(rt, addresses, *rounds),
         Task::Status { address } => tend_server(rt, address.as_str(), Upkeep::Status),
         Task::CatchUp { address } => tend_server(rt, address.as_str(), Upkeep::CatchUp),

@@ -1,0 +1,64 @@
+-- The object has no number that is a fraction.
+use Rattle.std.proofs.Common.{◌≡◌, refl, ℕ, List, [], ◌∷◌, Bool, false, Option, Some, None, map, codes, string_bytes, option_map}
+use Rattle.std.specs.Ordering.{match_ordering, nat_cmp}
+use Rattle.std.specs.declared.cmp.Ordering.{Ordering}
+use Rattle.std.specs.declared.cmp.Ordering.TheVariants.{Less, Equal, Greater}
+use Rattle.std.specs.Cmp.Lexicographic.{slice_cmp}
+use Rattle.serde_json.specs.Data.{Data, boolean, number, unsigned, string, array, object, Members, no_members, member, put}
+use Rattle.serde_json.specs.View.{items_of}
+use Rattle.serde_json.specs.Written.{has_float, items_have_float, members_have_float}
+use Rattle.ts_json.specs.Object.{text_or_null, number_or_null, texts, failing_in, members_in, object_in}
+use Rattle.ts_json.specs.declared.verdict.VerdictFields.{VerdictFields}
+
+chosen : (o : Ordering) (a b c : Members) → members_have_float a ≡ false → members_have_float b ≡ false → members_have_float c ≡ false → members_have_float (match_ordering o a b c) ≡ false
+chosen Less a b c x y z = x
+chosen Equal a b c x y z = y
+chosen Greater a b c x y z = z
+
+joined : (d : Data) (k : List ℕ) (ms : Members) → has_float d ≡ false → members_have_float ms ≡ false → members_have_float (member k d ms) ≡ false
+joined d k ms x y = rw (x, y) refl
+
+front : (d : Data) (k : List ℕ) (ms : Members) → members_have_float (member k d ms) ≡ false → has_float d ≡ false
+front d k ms x = grind (x)
+
+behind : (d : Data) (k : List ℕ) (ms : Members) → members_have_float (member k d ms) ≡ false → members_have_float ms ≡ false
+behind d k ms x = grind (x)
+
+put_none : (k : List ℕ) (d : Data) (ms : Members) → has_float d ≡ false → members_have_float ms ≡ false → members_have_float (put k d ms) ≡ false
+put_none k d no_members x y = joined d k no_members x refl
+put_none k d (member l e ms) x y =
+    chosen (slice_cmp nat_cmp k l) (member k d (member l e ms)) (member l d ms) (member l e (put k d ms))
+    (joined d k (member l e ms) x y) (joined d l ms x (behind e l ms y)) (joined e l (put k d ms) (front e l ms y) (put_none k d ms x (behind e l ms y)))
+
+of_text : (t : Option (List ℕ)) → has_float (text_or_null t) ≡ false
+of_text None = refl
+of_text (Some t) = refl
+
+of_number : (n : Option ℕ) → has_float (number_or_null n) ≡ false
+of_number None = refl
+of_number (Some n) = refl
+
+of_texts : (ts : List (List ℕ)) → items_have_float (items_of (texts ts)) ≡ false
+of_texts [] = refl
+of_texts (t ∷ ts) = of_texts ts
+
+failing : (f : VerdictFields) → members_have_float (failing_in f) ≡ false
+unfolding failing_in
+failing f =
+    put_none _ _ _ (of_text (option_map string_bytes f.subject))
+    (put_none _ _ _ (of_text (option_map string_bytes f.section))
+    (put_none _ _ _ (of_text (option_map string_bytes f.reason))
+    (put_none _ _ _ (of_number f.position) refl)))
+
+all : (f : VerdictFields) → members_have_float (members_in f) ≡ false
+unfolding members_in
+all f =
+    put_none _ (boolean f.revocation_checked) _ refl
+    (put_none _ (string (string_bytes f.anchor)) _ refl
+    (put_none _ (array (items_of (texts (map string_bytes f.policies.items)))) _ (of_texts (map string_bytes f.policies.items))
+    (put_none _ (string (string_bytes f.explanation)) _ refl
+    (put_none _ (number (unsigned f.of)) _ refl
+    (put_none _ (boolean f.valid) _ refl (failing f))))))
+
+pub no_float : (f : VerdictFields) → has_float (object_in f) ≡ false
+no_float f = all f
