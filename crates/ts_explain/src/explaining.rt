@@ -43,11 +43,7 @@ fn invalid_line(
 }
 
 /// The line on a chain that is valid.
-fn valid_line(
-    alloc: Global,
-    question: &Question,
-    anchor: &[u8; 32],
-) -> Result<Line, AllocError> {
+fn valid_line(alloc: Global, question: &Question, anchor: &[u8; 32]) -> Result<Line, AllocError> {
     let mut line = Line::of(alloc, b"the chain of ")?;
     line.number(strings_of(question).len() as u64)?;
     line.text(b" is valid under the trust anchor ")?;
@@ -119,11 +115,7 @@ fn line_of(alloc: Global, question: &Question, reply: &Reply) -> Result<Line, Al
 /// # Errors
 ///
 /// Out of memory.
-pub fn explained(
-    alloc: Global,
-    question: &Question,
-    reply: &Reply,
-) -> Result<Vec<u8>, AllocError>
+pub fn explained(alloc: Global, question: &Question, reply: &Reply) -> Result<Vec<u8>, AllocError>
     ensures { IfOk result (λ text. IsLine text.items) }
 {
     let line = line_of(alloc, question, reply)?;

@@ -1,5 +1,5 @@
 -- The object has no number that is a fraction.
-use Rattle.std.proofs.Common.{◌≡◌, refl, ℕ, List, [], ◌∷◌, Bool, false, Option, Some, None, map, codes, string_bytes, option_map}
+use Rattle.std.proofs.Common.{◌≡◌, refl, ℕ, List, [], ◌∷◌, Bool, true, false, ◌||◌, Option, Some, None, map, codes, string_bytes, option_map}
 use Rattle.std.specs.Ordering.{match_ordering, nat_cmp}
 use Rattle.std.specs.declared.cmp.Ordering.{Ordering}
 use Rattle.std.specs.declared.cmp.Ordering.TheVariants.{Less, Equal, Greater}
@@ -18,11 +18,19 @@ chosen Greater a b c x y z = z
 joined : (d : Data) (k : List ℕ) (ms : Members) → has_float d ≡ false → members_have_float ms ≡ false → members_have_float (member k d ms) ≡ false
 joined d k ms x y = rw (x, y) refl
 
+or_front : (a b : Bool) → (a || b) ≡ false → a ≡ false
+or_front true b x = x
+or_front false b x = refl
+
+or_behind : (a b : Bool) → (a || b) ≡ false → b ≡ false
+or_behind true b x = cc
+or_behind false b x = x
+
 front : (d : Data) (k : List ℕ) (ms : Members) → members_have_float (member k d ms) ≡ false → has_float d ≡ false
-front d k ms x = grind (x)
+front d k ms x = or_front (has_float d) (members_have_float ms) x
 
 behind : (d : Data) (k : List ℕ) (ms : Members) → members_have_float (member k d ms) ≡ false → members_have_float ms ≡ false
-behind d k ms x = grind (x)
+behind d k ms x = or_behind (has_float d) (members_have_float ms) x
 
 put_none : (k : List ℕ) (d : Data) (ms : Members) → has_float d ≡ false → members_have_float ms ≡ false → members_have_float (put k d ms) ≡ false
 put_none k d no_members x y = joined d k no_members x refl

@@ -12,14 +12,16 @@ use std::alloc::{AllocError, Global};
 
 /// The members on the certificate that is not good.
 #[tactic(auto, unfolding(crate::specs::Object::failing_in))]
-fn failing_members(
-    alloc: Global,
-    fields: &VerdictFields,
-) -> Result<Map<String, Value>, AllocError>
+fn failing_members(alloc: Global, fields: &VerdictFields) -> Result<Map<String, Value>, AllocError>
     ensures { IfOk result (λ m. members_view m.entries ≡ failing_in fields.now) }
 {
     let mut members = Map::new(alloc);
-    put(&mut members, alloc, "position", number_or_null(fields.position))?;
+    put(
+        &mut members,
+        alloc,
+        "position",
+        number_or_null(fields.position),
+    )?;
     let reason = text_or_null(alloc, &fields.reason)?;
     put(&mut members, alloc, "reason", reason)?;
     let section = text_or_null(alloc, &fields.section)?;
@@ -39,7 +41,12 @@ fn members_of(alloc: Global, fields: &VerdictFields) -> Result<Map<String, Value
     put(&mut members, alloc, "of", Value::from(fields.of))?;
     let explanation = Value::try_from_str(alloc, fields.explanation.as_str())?;
     put(&mut members, alloc, "explanation", explanation)?;
-    put(&mut members, alloc, "policies", array_of(alloc, &fields.policies)?)?;
+    put(
+        &mut members,
+        alloc,
+        "policies",
+        array_of(alloc, &fields.policies)?,
+    )?;
     let anchor = Value::try_from_str(alloc, fields.anchor.as_str())?;
     put(&mut members, alloc, "anchor", anchor)?;
     let checked = Value::from(fields.revocation_checked);

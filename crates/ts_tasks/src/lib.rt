@@ -11,6 +11,8 @@
 //! - [`ending_of`], [`ending_by`]: how a client's task ends, by what a node answers
 //!   (`specs/Endings`): the program ends with 1 for a command that is refused, and where a valid
 //!   chain is asked for and none is answered.
+//! - [`other_kind`]: what octets hold that are not of the wanted kind, where that is known
+//!   (`IsOther` in `specs/Others`).
 //! - [`read_file`]: `short`: no more octets than a frame may have.
 //! - [`submit`], [`ask`], [`tend`]: the peer that is asked can be asked again.
 //! - [`format_files`], [`migrate_files`], [`open_disks`], [`RecordLock`]: they end; what files give
@@ -25,6 +27,7 @@ mod ended;
 mod fault;
 mod files;
 mod grouping;
+mod kinds;
 mod locking;
 mod making;
 mod material;
@@ -39,6 +42,7 @@ mod waiting;
 pub use ended::{Ended, ending_by, ending_of};
 pub use fault::Fault;
 pub use files::{format_files, migrate_files, open_disks, read_file};
+pub use kinds::other_kind;
 pub use locking::RecordLock;
 pub use requests::{Said, ask, submit};
 pub use running::run;

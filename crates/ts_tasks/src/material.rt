@@ -2,12 +2,14 @@
 
 use crate::fault::Fault;
 use crate::files::read_file;
+use crate::kinds::say_other;
 use std::alloc::Global;
 use std::rt::Files;
 use ts_cert::Cert;
 use ts_crl::Crl;
-use ts_pem::{PemFault, read_certificates, read_crls};
+use ts_pem::{PemFault, is_pem, read_certificates, read_crls};
 use ts_shape::CertFault;
+use ts_show::Kind;
 
 /// What a text of blocks holds, or the fault of the file, of which standard error says the line.
 pub(crate) fn values_of(
@@ -54,7 +56,27 @@ pub fn crls_of<R: Files + Eprint>(
     values_of(rt, path, read_crls(alloc, &octets))
 }
 
-/// The octets of all certificates, or of all CRLs, of some files.
+/// The certificates, or the CRLs, of a file. Standard error says what it holds that has none.
+fn values_in<R: Files + Eprint>(
+    rt: &R,
+    alloc: Global,
+    path: &str,
+    wanted: Kind,
+) -> Result<Vec<Vec<u8>>, Fault> {
+    let octets = read_file(rt, alloc, path)?;
+    let read = match wanted {
+        Kind::List => read_crls(alloc, &octets),
+        _ => read_certificates(alloc, &octets),
+    };
+    let values = values_of(rt, path, read)?;
+    if values.is_empty() || !is_pem(&octets) {
+        say_other(rt, alloc, path, wanted, &octets)?;
+    }
+    Ok(values)
+}
+
+/// The octets of all certificates, or of all CRLs, of some files. Standard error says which kind a
+/// file is of that has none.
 ///
 /// # Errors
 ///
@@ -63,16 +85,11 @@ pub(crate) fn octets_of<R: Files + Eprint>(
     rt: &R,
     alloc: Global,
     files: &[String],
-    are_crls: bool,
+    wanted: Kind,
 ) -> Result<Vec<Vec<u8>>, Fault> {
     let mut found = Vec::new(alloc);
     for file in files {
-        let values = if are_crls {
-            crls_of(rt, alloc, file.as_str())?
-        } else {
-            certificates_of(rt, alloc, file.as_str())?
-        };
-        for value in values {
+        for value in values_in(rt, alloc, file.as_str(), wanted)? {
             found.push(value)?;
         }
     }

@@ -18,6 +18,7 @@ use ts_host::Host;
 use ts_path::{Anchor, Inputs};
 use ts_report::{json, text};
 use ts_revoke::Crls;
+use ts_show::Kind;
 use ts_time::Moment;
 use ts_verify::{Finding, Report, verify};
 
@@ -281,9 +282,9 @@ pub fn verify_files<R: AllocGlobal + Files + Clock + Print + Eprint>(
     let alloc = rt.alloc();
     let moment = moment_of(rt, words)?;
     let given = Given {
-        anchors: octets_of(rt, alloc, &words.anchors, false)?,
-        certificates: octets_of(rt, alloc, &words.certificates, false)?,
-        crls: octets_of(rt, alloc, &words.crls, true)?,
+        anchors: octets_of(rt, alloc, &words.anchors, Kind::Certificate)?,
+        certificates: octets_of(rt, alloc, &words.certificates, Kind::Certificate)?,
+        crls: octets_of(rt, alloc, &words.crls, Kind::List)?,
         policies: policies_of(alloc, words)?,
         purpose: purpose_of(alloc, words)?,
     };

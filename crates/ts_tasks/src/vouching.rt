@@ -8,6 +8,7 @@ use std::rt::{Clock, Files};
 use ts_cert::Cert;
 use ts_check::NativeCheck;
 use ts_crl::Crl;
+use ts_show::Kind;
 use ts_vouch::vouch;
 
 /// The certificates of those who may have signed the CRL.
@@ -44,7 +45,7 @@ pub(crate) fn vouch_for<R: Files + Clock + Eprint>(
     octets: &[u8],
     issuers: &[String],
 ) -> Result<(), Fault> {
-    let given = octets_of(rt, alloc, issuers, false)?;
+    let given = octets_of(rt, alloc, issuers, Kind::Certificate)?;
     let issuers = issuers_in(rt, alloc, &given)?;
     let moment = now(rt)?;
     let Ok(crl) = Crl::read(octets) else {
