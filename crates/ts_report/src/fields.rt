@@ -9,6 +9,7 @@ ghost use Rattle.ts_report.specs.Text.{oid_text};
 use crate::printed::{dotted, explanation};
 use crate::section::section;
 use std::alloc::{AllocError, Global};
+use ts_cert::Cert;
 use ts_json::{VerdictFields, object_text};
 use ts_name::Name;
 use ts_path::Reason;
@@ -17,7 +18,7 @@ use ts_verify::{Finding, Report};
 
 /// The text of a line.
 fn text_of(alloc: Global, line: &Line) -> Result<String, AllocError>
-    ensures { IfOk result (λ text. string_bytes text ≡ line.now) }
+    ensures { IfOk result (λ text. IsPrintable (string_bytes text)) }
 {
     match str::from_utf8(line.as_slice()) {
         Ok(text) => String::from_str(alloc, text),
@@ -64,8 +65,8 @@ fn place_of(count: usize, finding: &Finding<'_>) -> Option<u64>
 }
 
 /// The name of a reason.
-fn name_of(alloc: Global, reason: &Reason<'_>) -> Result<String, AllocError>
-    ensures { IfOk result (λ text. string_bytes text ≡ reason_text reason.now) }
+fn name_of(alloc: Global, reason: Reason<'_>) -> Result<String, AllocError>
+    ensures { IfOk result (λ text. string_bytes text ≡ reason_text reason.entry) }
 {
     format!(in alloc; "{reason}")
 }
@@ -76,7 +77,7 @@ fn reason_of(alloc: Global, finding: &Finding<'_>) -> Result<Option<String>, All
 {
     match finding {
         Finding::Valid(_) => Ok(None),
-        Finding::Invalid { reason, .. } => Ok(Some(name_of(alloc, reason)?)),
+        Finding::Invalid { reason, .. } => Ok(Some(name_of(alloc, *reason)?)),
         Finding::OtherHost => Ok(Some(String::from_str(alloc, "Host")?)),
     }
 }
@@ -92,20 +93,26 @@ fn section_of(alloc: Global, finding: &Finding<'_>) -> Result<Option<String>, Al
     }
 }
 
-/// The subject of the certificate at a place, which counts from 1.
-fn subject_at(
-    alloc: Global,
-    report: &Report<'_>,
-    place: Option<u64>,
-) -> Result<Option<String>, AllocError>
+/// The subject of the certificate at a place, which counts from 1, if there is one.
+fn subject_at(alloc: Global, chain: &[Cert<'_>], place: usize) -> Result<Option<String>, AllocError>
     ensures { IfOk result (λ text. IfSome text (λ t. IsPrintable (string_bytes t))) }
 {
-    let Some(place) = place else {
-        return Ok(None);
-    };
-    match report.chain.get((place as usize).saturating_sub(1)) {
+    match chain.get(place.saturating_sub(1)) {
         Some(cert) => Ok(Some(name_text(alloc, cert.subject())?)),
         None => Ok(None),
+    }
+}
+
+/// The subject of the certificate that is not good.
+fn subject_of(alloc: Global, report: &Report<'_>) -> Result<Option<String>, AllocError>
+    ensures { IfOk result (λ text. IfSome text (λ t. IsPrintable (string_bytes t))) }
+{
+    match &report.finding {
+        Finding::Valid(_) => Ok(None),
+        Finding::Invalid { position, .. } => {
+            subject_at(alloc, &report.chain, *position as usize)
+        }
+        Finding::OtherHost => subject_at(alloc, &report.chain, report.chain.len()),
     }
 }
 
@@ -136,14 +143,13 @@ fn fields_of(alloc: Global, report: &Report<'_>) -> Result<VerdictFields, AllocE
     ensures { IfOk result (AreFields (length report.now.chain.items) report.now.finding
         report.now.has_lists) }
 {
-    let place = place_of(report.chain.len(), &report.finding);
     Ok(VerdictFields {
         valid: is_valid(&report.finding),
-        position: place,
+        position: place_of(report.chain.len(), &report.finding),
         of: report.chain.len() as u64,
         reason: reason_of(alloc, &report.finding)?,
         section: section_of(alloc, &report.finding)?,
-        subject: subject_at(alloc, report, place)?,
+        subject: subject_of(alloc, report)?,
         explanation: explanation_text(alloc, report)?,
         policies: policies_of(alloc, &report.finding)?,
         anchor: name_text(alloc, report.anchor.name)?,

@@ -59,6 +59,7 @@ fn may_sign(usage: Option<KeyUsage<'_>>) -> bool
 }
 
 /// Whether a certificate is one of the CRL's issuer.
+#[tactic(auto, unfolding(crate::specs::Vouched::is_issuer))]
 pub(crate) fn is_issuer(crl: &Crl<'_>, cert: &Cert<'_>) -> bool
     ensures { result ≡ is_issuer (crl_in crl.now) (cert_in cert.now) }
 {
@@ -66,6 +67,7 @@ pub(crate) fn is_issuer(crl: &Crl<'_>, cert: &Cert<'_>) -> bool
 }
 
 /// Whether a certificate is one of the CRL's issuer, and its key signed the CRL.
+#[tactic(auto, unfolding(crate::specs::Vouched::has_signed))]
 pub(crate) fn has_signed<S: SignatureCheck>(crl: &Crl<'_>, cert: &Cert<'_>, check: &S) -> bool
     ensures { result ≡ has_signed (S.accepts check.now) (crl_in crl.now) (cert_in cert.now) }
 {
