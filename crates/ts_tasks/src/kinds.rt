@@ -3,7 +3,6 @@
 ghost use Rattle.std.specs.Prelude.{IfOk};
 ghost use Rattle.ts_tasks.specs.Others.{IsOther};
 
-use crate::fault::Fault;
 use std::alloc::{AllocError, Global};
 use ts_show::{Kind, Line, kind_of};
 
@@ -50,7 +49,7 @@ fn say_label(
     path: &str,
     wanted: Kind,
     label: &str,
-) -> Result<(), Fault> {
+) -> Result<(), AllocError> {
     let line = Line::of(alloc, label.as_bytes())?;
     let label = str::from_utf8(line.as_slice()).unwrap_or("another label");
     let wanted = name_of(wanted);
@@ -58,20 +57,22 @@ fn say_label(
     Ok(())
 }
 
-/// Says on standard error what a file holds that has none of the wanted kind, where that is known.
+/// Says on standard error what a file holds that has none of the wanted kind. Whether it is known.
 pub(crate) fn say_other(
     rt: &impl Eprint,
     alloc: Global,
     path: &str,
     wanted: Kind,
     octets: &[u8],
-) -> Result<(), Fault> {
+) -> Result<bool, AllocError> {
     if let Some(label) = first_label(octets) {
-        return say_label(rt, alloc, path, wanted, label);
+        say_label(rt, alloc, path, wanted, label)?;
+        return Ok(true);
     }
-    if let Some(other) = other_kind(alloc, wanted, octets)? {
-        let (other, wanted) = (name_of(other), name_of(wanted));
-        let _ = eprintln!(rt; "trustd: {path}: is {other}, where {wanted} is wanted");
-    }
-    Ok(())
+    let Some(other) = other_kind(alloc, wanted, octets)? else {
+        return Ok(false);
+    };
+    let (other, wanted) = (name_of(other), name_of(wanted));
+    let _ = eprintln!(rt; "trustd: {path}: is {other}, where {wanted} is wanted");
+    Ok(true)
 }

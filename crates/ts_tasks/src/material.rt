@@ -56,7 +56,7 @@ pub fn crls_of<R: Files + Eprint>(
     values_of(rt, path, read_crls(alloc, &octets))
 }
 
-/// The certificates, or the CRLs, of a file. Standard error says what it holds that has none.
+/// The certificates, or the CRLs, of a file. Of one that has none standard error says what it holds.
 fn values_in<R: Files + Eprint>(
     rt: &R,
     alloc: Global,
@@ -70,17 +70,20 @@ fn values_in<R: Files + Eprint>(
     };
     let values = values_of(rt, path, read)?;
     if values.is_empty() || !is_pem(&octets) {
-        say_other(rt, alloc, path, wanted, &octets)?;
+        let is_other = say_other(rt, alloc, path, wanted, &octets)?;
+        if is_other || values.is_empty() {
+            return Err(Fault::Field);
+        }
     }
     Ok(values)
 }
 
-/// The octets of all certificates, or of all CRLs, of some files. Standard error says which kind a
-/// file is of that has none.
+/// The octets of all certificates, or of all CRLs, of some files.
 ///
 /// # Errors
 ///
-/// Those of [`certificates_of`].
+/// Those of [`certificates_of`]; `Field` where a file has none, or is known to be of another kind,
+/// which standard error says.
 pub(crate) fn octets_of<R: Files + Eprint>(
     rt: &R,
     alloc: Global,
