@@ -1,5 +1,5 @@
-//! Tests of texts of certificates and of hosts, over the public calls of their crates. The samples
-//! were made by OpenSSL 3.0.
+//! Tests of texts of certificates, of hosts, and of CRLs that are vouched for, over the public calls
+//! of their crates. The samples were made by OpenSSL 3.0.
 #![tactic(auto)]
 
 #[cfg(test)]
@@ -8,3 +8,5 @@ mod host_tests;
 mod pem_tests;
 #[cfg(test)]
 mod samples;
+#[cfg(test)]
+mod vouch_tests;

@@ -59,7 +59,11 @@ const LINES: &[(&str, &str)] = &[
     ),
     (
         "verify --anchor a --anchor b --crl l --soft --host h --at now c d",
-        "Verify(VerifyWords { anchors: [\"a\", \"b\"], crls: [\"l\"], certificates: [\"c\", \"d\"], moment: None, host: Some(\"h\"), soft: true, deltas: false, explicit: false, nomap: false, noany: false, policies: Oids { oids: [] }, purpose: None })",
+        "Verify(VerifyWords { anchors: [\"a\", \"b\"], crls: [\"l\"], certificates: [\"c\", \"d\"], moment: None, host: Some(\"h\"), soft: true, deltas: false, explicit: false, nomap: false, noany: false, policies: Oids { oids: [] }, purpose: None, json: false })",
+    ),
+    (
+        "verify --anchor a --policy 1.2.3 --json c",
+        "Verify(VerifyWords { anchors: [\"a\"], crls: [], certificates: [\"c\"], moment: None, host: None, soft: false, deltas: false, explicit: false, nomap: false, noany: false, policies: Oids { oids: [Oid { content: [42, 3] }] }, purpose: None, json: true })",
     ),
     ("verify --anchor a", "Wrong"),
     ("verify c", "Wrong"),
@@ -74,7 +78,11 @@ const LINES: &[(&str, &str)] = &[
     ),
     (
         "ask a:1 f",
-        "Ask { reach: Reach { address: \"a:1\", key: None }, file: \"f\" }",
+        "Ask { reach: Reach { address: \"a:1\", key: None }, file: \"f\", check: false, explain: false }",
+    ),
+    (
+        "ask --explain a:1 f --check",
+        "Ask { reach: Reach { address: \"a:1\", key: None }, file: \"f\", check: true, explain: true }",
     ),
     ("ask a:1", "Wrong"),
     ("ask a f", "Value(Address)"),
@@ -122,7 +130,11 @@ const LINES: &[(&str, &str)] = &[
     ),
     (
         "command load f",
-        "Command(CommandWords { id: None, force: false, change: Load { file: \"f\" } })",
+        "Command(CommandWords { id: None, force: false, change: Load { file: \"f\", issuers: [], unchecked: false } })",
+    ),
+    (
+        "command load f --issuer a --issuer b --unchecked",
+        "Command(CommandWords { id: None, force: false, change: Load { file: \"f\", issuers: [\"a\", \"b\"], unchecked: true } })",
     ),
     (
         "command noop",

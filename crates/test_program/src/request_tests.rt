@@ -16,7 +16,7 @@ use ts_record::Record;
 use ts_serve::{Server, ServerPeer, carry};
 use ts_sig::DigestCheck;
 use ts_store::Command;
-use ts_tasks::{Upkeep, ask, submit, tend};
+use ts_tasks::{Ended, Upkeep, ask, submit, tend};
 
 type Lone = ServerPeer<MemDisk, Answers<DigestCheck>>;
 
@@ -50,6 +50,14 @@ fn noop() -> Command {
     }
 }
 
+/// The command of the id 02 that removes an anchor which is not there.
+fn withdrawal() -> Command {
+    Command::WithdrawAnchor {
+        id: [0, 0, 0, 0, 0, 0, 0, 0, 0, 0, 0, 0, 0, 0, 0, 2],
+        anchor: [7; 32],
+    }
+}
+
 #[test]
 fn a_command_is_submitted_and_a_question_asked(rt: HostRuntime) -> Result<(), Fail> {
     let alloc = rt.alloc();
@@ -57,14 +65,24 @@ fn a_command_is_submitted_and_a_question_asked(rt: HostRuntime) -> Result<(), Fa
         panic!(&rt; "no node");
     };
     let mut peers = [peer];
+    let said = submit(alloc, &mut peers[0], noop())?;
     assert_eq!(rt;
-        submit(alloc, &mut peers[0], noop())?.as_str(),
-        "submit started 1 17\n"
+        (said.line.as_str(), said.ended),
+        ("submit started 1 17\n", Ended::Well)
     );
     assert_eq!(rt; carry(alloc, &mut peers, 4)?, 4);
+    let said = submit(alloc, &mut peers[0], noop())?;
     assert_eq!(rt;
-        submit(alloc, &mut peers[0], noop())?.as_str(),
-        "submit settled 1 applied\n"
+        (said.line.as_str(), said.ended),
+        ("submit settled 1 applied\n", Ended::Well)
+    );
+    let said = submit(alloc, &mut peers[0], withdrawal())?;
+    assert_eq!(rt; said.line.as_str(), "submit started 2 33\n");
+    assert_eq!(rt; carry(alloc, &mut peers, 4)?, 4);
+    let said = submit(alloc, &mut peers[0], withdrawal())?;
+    assert_eq!(rt;
+        (said.line.as_str(), said.ended),
+        ("submit settled 2 refused NoAnchor\n", Ended::Refused)
     );
     let Some(question) = Question::read(alloc, QUESTION)? else {
         panic!(&rt; "no question");

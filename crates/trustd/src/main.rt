@@ -1,15 +1,16 @@
 //! The program `trustd`: reads the command line, and runs what it asks for.
 #![tactic(auto)]
 
-ghost use Rattle.std.specs.Prelude.{◌≡◌, ◌≤◌, OnErr, OnOk, Ok, true, false};
+ghost use Rattle.std.specs.Prelude.{◌≡◌, ◌≤◌, OnErr, Ok, true, false};
 ghost use Rattle.ts_cli.specs.Says.{IsInRange};
+ghost use Rattle.ts_tasks.specs.declared.ended.Ended.TheVariants.{Well, Refused};
 
 use std::io;
 use std::io::Input;
 use std::process::ExitCode;
 use ts_cli::{Task, report, task_of_process};
 use ts_lab::lab;
-use ts_tasks::{Fault, run, verify_files};
+use ts_tasks::{Ended, Fault, run, verify_files};
 
 /// Ends with the status of the task that the command line asks for, and with 2 for a wrong command
 /// line.
@@ -39,13 +40,16 @@ fn run_lab(rt: &(impl AllocGlobal + Input + Print)) -> u8
     lab(rt.alloc(), &mut rt.reader(), &mut io::writer(rt))
 }
 
-/// The status that a task ends with: 0, or 1 for a fault, whose name is printed on standard error.
-fn status_of(rt: &impl Eprint, ended: Result<(), Fault>) -> u8
-    ensures done { OnOk ended (result ≡ 0) }
+/// The status that a task ends with: 0; 1 where a command is refused or a chain is not valid; and 1
+/// for a fault, whose name is printed on standard error.
+fn status_of(rt: &impl Eprint, ended: Result<Ended, Fault>) -> u8
+    ensures done { ended ≡ Ok Well → result ≡ 0 }
+    ensures refused { ended ≡ Ok Refused → result ≡ 1 }
     ensures failed { OnErr ended (result ≡ 1) }
 {
     match ended {
-        Ok(()) => 0,
+        Ok(Ended::Well) => 0,
+        Ok(Ended::Refused) => 1,
         Err(fault) => {
             let _printed = eprintln!(rt; "fault: {fault}");
             1

@@ -18,7 +18,7 @@ says_any own name rows (Migrate old new) says = says
 says_any own name rows (Serve words) says = says
 says_any own name rows (Verify words) says = says
 says_any own name rows (Submit address file wait) says = says
-says_any own name rows (Ask address file) says = says
+says_any own name rows (Ask address file check explain) says = says
 says_any own name rows (Carry addresses rounds) says = says
 says_any own name rows (Status address) says = says
 says_any own name rows (CatchUp address) says = says
@@ -58,7 +58,7 @@ in_range own name rows Lab says = tt
 in_range own name rows (Migrate old new) says = tt
 in_range own name rows (Submit address file wait) says =
     to-most (first_of (codes "wait") rows) 1 3600 0 wait says.1 (omega arith)
-in_range own name rows (Ask address file) says = tt
+in_range own name rows (Ask address file check explain) says = tt
 in_range own name rows (Command words) says = tt
 in_range own name rows (Question words) says = tt
 in_range own name rows (Status address) says = tt

@@ -20,7 +20,7 @@ use Rattle.ts_cli.specs.declared.question_words.Subject.TheVariants.{Chain, Sear
 abbrev pub command_in : List ℕ → Change → List ℕ → Command
 command_in id (Add file) contents = AddAnchor id contents
 command_in id (Withdraw anchor) contents = WithdrawAnchor id anchor
-command_in id (Load file) contents = LoadCrl id contents
+command_in id (Load file issuers unchecked) contents = LoadCrl id contents
 command_in id (Drop list) contents = DropCrl id list
 command_in id (Purposes anchor purposes) contents = SetPurposes id anchor purposes
 command_in id Noop contents = command.Noop id
@@ -29,7 +29,7 @@ command_in id Noop contents = command.Noop id
 abbrev pub is_too_long : Change → List ℕ → Bool
 is_too_long (Add file) contents = nat_lt 65536 (length contents)
 is_too_long (Withdraw anchor) contents = false
-is_too_long (Load file) contents = nat_lt 4194304 (length contents)
+is_too_long (Load file issuers unchecked) contents = nat_lt 4194304 (length contents)
 is_too_long (Drop list) contents = false
 is_too_long (Purposes anchor purposes) contents = false
 is_too_long Noop contents = false

@@ -1,5 +1,5 @@
 -- The task that a command line asks for: its subcommand, and what that is given.
-use Rattle.std.specs.Prelude.{◌≡◌, ◌≤◌, ℕ, List, [], ◌∷◌, IsPermutation, length, map, option_map}
+use Rattle.std.specs.Prelude.{◌≡◌, ◌≤◌, ℕ, Bool, List, [], ◌∷◌, IsPermutation, length, map, option_map}
 use Rattle.std.specs.Prelude.{Option, Some, None, codes, string_bytes}
 use Rattle.std.specs.List.{AllByRecursion}
 use Rattle.clap.specs.Walk.{Row, Text, first_of}
@@ -63,6 +63,13 @@ pub record IsReading (name expected : Text) (rows : List Row) (file : Text) : Ty
   pub name_is : name ≡ expected
   pub file_is : IsAt (codes "file") rows file
 
+-- `ask`: what is made of the answer
+pub record IsAsking (name : Text) (rows : List Row) (reach : Reach) (file : Text)
+    (check explain : Bool) : Type 0 where
+  pub sending : IsSending name (codes "ask") rows reach file
+  pub check_is : check ≡ is_set (codes "check") rows
+  pub explain_is : explain ≡ is_set (codes "explain") rows
+
 -- ---- commands
 
 -- `withdraw` and `drop`, by their names
@@ -70,6 +77,13 @@ pub record IsNaming (name expected : Text) (rows : List Row) (argument : Text)
     (digest : List ℕ) : Type 0 where
   pub name_is : name ≡ expected
   pub digest_is : IsDigestAt argument rows digest
+
+-- `load`: a list, and who is to have signed it
+pub record IsLoading (name : Text) (rows : List Row) (file : Text) (issuers : List Text)
+    (unchecked : Bool) : Type 0 where
+  pub reading : IsReading name (codes "load") rows file
+  pub issuers_are : issuers ≡ all_at (codes "issuer") rows
+  pub unchecked_is : unchecked ≡ is_set (codes "unchecked") rows
 
 -- any purposes where none are given; else those, in their order
 abbrev pub ArePurposesOf : List (List ℕ) → Option (List (List ℕ)) → Type 0
@@ -89,7 +103,8 @@ abbrev pub SaysChange : Text → List Row → Change → Type 0
 SaysChange name rows (Add file) = IsReading name (codes "add") rows (string_bytes file)
 SaysChange name rows (Withdraw anchor) =
     IsNaming name (codes "withdraw") rows (codes "anchor") anchor
-SaysChange name rows (Load file) = IsReading name (codes "load") rows (string_bytes file)
+SaysChange name rows (Load file issuers unchecked) =
+    IsLoading name rows (string_bytes file) (map string_bytes issuers.items) unchecked
 SaysChange name rows (Drop list) = IsNaming name (codes "drop") rows (codes "list") list
 SaysChange name rows (Purposes anchor purposes) = IsSetting name rows anchor purposes
 SaysChange name rows Noop = name ≡ codes "noop"
@@ -164,8 +179,8 @@ SaysTask name rows (Verify words) = (name ≡ codes "verify") × IsVerify rows w
 SaysTask name rows (Submit reach file wait) =
     IsSending name (codes "submit") rows reach (string_bytes file)
     × IsNumberOr (codes "wait") rows 1 3600 0 wait
-SaysTask name rows (Ask reach file) =
-    IsSending name (codes "ask") rows reach (string_bytes file)
+SaysTask name rows (Ask reach file check explain) =
+    IsAsking name rows reach (string_bytes file) check explain
 SaysTask name rows (Carry addresses rounds) =
     IsCarry name rows (map string_bytes addresses.items) rounds
 SaysTask name rows (Status reach) = IsReaching name (codes "status") rows reach
@@ -187,7 +202,8 @@ SaysAny own name rows (Migrate old new) = SaysTask name rows (Migrate old new)
 SaysAny own name rows (Serve words) = SaysTask name rows (Serve words)
 SaysAny own name rows (Verify words) = SaysTask name rows (Verify words)
 SaysAny own name rows (Submit reach file wait) = SaysTask name rows (Submit reach file wait)
-SaysAny own name rows (Ask reach file) = SaysTask name rows (Ask reach file)
+SaysAny own name rows (Ask reach file check explain) =
+    SaysTask name rows (Ask reach file check explain)
 SaysAny own name rows (Carry addresses rounds) = SaysTask name rows (Carry addresses rounds)
 SaysAny own name rows (Status reach) = SaysTask name rows (Status reach)
 SaysAny own name rows (CatchUp reach) = SaysTask name rows (CatchUp reach)
@@ -217,7 +233,7 @@ IsInRange (Carry addresses rounds) =
 IsInRange Lab = Unit {0}
 IsInRange (Migrate old new) = Unit {0}
 IsInRange (Submit reach file wait) = wait ≤ 3600
-IsInRange (Ask reach file) = Unit {0}
+IsInRange (Ask reach file check explain) = Unit {0}
 IsInRange (Command words) = Unit {0}
 IsInRange (Question words) = Unit {0}
 IsInRange (Status reach) = Unit {0}

@@ -20,3 +20,4 @@ pub record IsVerify (rows : List Row) (words : VerifyWords) : Type 0 where
   pub policies_are : map written words.policies ≡ all_at (codes "policy") rows
   pub few_policies : length words.policies ≤ 32
   pub purpose_is : AsWritten IsDotted (first_of (codes "purpose") rows) words.purpose
+  pub json_is : words.json ≡ is_set (codes "json") rows

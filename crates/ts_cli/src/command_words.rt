@@ -8,7 +8,7 @@ ghost use Rattle.ts_cli.specs.Given.{IsDigestAt};
 ghost use Rattle.ts_cli.specs.Says.{SaysChange, SaysCommand};
 
 use crate::fault::{CommandFault, WrongValue};
-use crate::matched::{is_set, string_at, text_at, value_at};
+use crate::matched::{is_set, string_at, strings_at, text_at, value_at};
 use crate::oids::{oids_at, purposes_of};
 use crate::values::{digest_of, id_of};
 use clap::ArgMatches;
@@ -43,6 +43,10 @@ pub enum Change {
     Load {
         /// The list.
         file: String,
+        /// The files of certificates of which one is to have signed it; none to check nothing.
+        issuers: Vec<String>,
+        /// Whether the list is not checked in spite of these.
+        unchecked: bool,
     },
     /// Removes a CRL.
     Drop {
@@ -109,6 +113,8 @@ fn change_named(alloc: Global, name: &str, matches: &ArgMatches<'_>) -> Result<C
         }),
         "load" => Ok(Change::Load {
             file: string_at(alloc, matches, "file")?,
+            issuers: strings_at(alloc, matches, "issuer")?,
+            unchecked: is_set(matches, "unchecked"),
         }),
         "drop" => Ok(Change::Drop {
             list: digest_at(matches, "list")?,

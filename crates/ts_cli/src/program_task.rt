@@ -7,7 +7,7 @@ ghost use Rattle.ts_cli.specs.Says.{SaysTask};
 ghost use Rattle.ts_cli.specs.declared.task.Task.TheVariants.{Lab};
 
 use crate::fault::{CommandFault, WrongValue};
-use crate::matched::{are_addresses, number_at, number_or, string_at, strings_at};
+use crate::matched::{are_addresses, is_set, number_at, number_or, string_at, strings_at};
 use crate::reach::{reach_at, role_at};
 use crate::serve_words::serve_words;
 use crate::task::Task;
@@ -58,6 +58,8 @@ fn ask(alloc: Global, matches: &ArgMatches<'_>) -> Result<Task, CommandFault>
     Ok(Task::Ask {
         reach: reach_at(alloc, matches)?,
         file: string_at(alloc, matches, "file")?,
+        check: is_set(matches, "check"),
+        explain: is_set(matches, "explain"),
     })
 }
 

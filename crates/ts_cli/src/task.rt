@@ -47,6 +47,10 @@ pub enum Task {
         reach: Reach,
         /// The encoded question.
         file: String,
+        /// Whether an answer that is no valid chain gives another status.
+        check: bool,
+        /// Whether a second line explains the answer.
+        explain: bool,
     },
     /// Carry messages between nodes.
     Carry {

@@ -43,6 +43,8 @@ pub struct VerifyWords {
     pub policies: Oids,
     /// The purpose, if one is given.
     pub purpose: Option<Oid>,
+    /// Whether the verdict is printed as JSON.
+    pub json: bool,
 }
 
 /// The moment that is given, if it is not now.
@@ -82,5 +84,6 @@ pub(crate) fn verify_words(
         noany: is_set(matches, "noany"),
         policies: policies_at(alloc, matches)?,
         purpose: oid_at(alloc, matches, "purpose")?,
+        json: is_set(matches, "json"),
     })
 }

@@ -10,13 +10,22 @@
 //!   line feed. The first has the words of the finding: `valid` and the policies, or `invalid`, the
 //!   place of a certificate, counted from the anchor's side, and the reason; `Host` is the reason
 //!   of a leaf that is for another host. Out of memory is the only error.
+//! - [`json`]: `IsJson` (`specs/Fields`): one JSON object, whose fields say the finding: whether it
+//!   is valid, the place, the reason and its section, the policies and whether revocation was looked
+//!   at; besides the names of the certificate and of the anchor, and the second line of the text.
+//! - [`reason_line`]: a line of printable characters on a certificate of a chain and a reason, for
+//!   who has both from elsewhere.
 //!
 //! # Not promised
 //!
-//! Neither proved nor tested but for some lines: what the second line says.
+//! Neither proved nor tested but for some lines: what the second line says; that the names in the
+//! JSON are those of the certificate and the anchor.
 #![tactic(auto)]
 
+mod fields;
 mod printed;
+mod section;
 mod words;
 
-pub use printed::text;
+pub use fields::json;
+pub use printed::{reason_line, text};

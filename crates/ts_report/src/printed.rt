@@ -16,7 +16,7 @@ use ts_show::{Line, write_name};
 use ts_verify::{Finding, Report};
 
 /// An object identifier in dotted form, by its content octets.
-fn dotted(alloc: Global, content: &[u8]) -> Result<String, AllocError>
+pub(crate) fn dotted(alloc: Global, content: &[u8]) -> Result<String, AllocError>
     ensures { IfOk result (λ text. string_bytes text ≡ oid_text content.now) }
 {
     match OidRef::from_content(content) {
@@ -81,6 +81,26 @@ fn certificate_line(
     Ok(line)
 }
 
+/// The line on the certificate at a place of a chain, counted from 1, the anchor's side, that does
+/// not meet a condition: the place, the subject, and why.
+///
+/// # Errors
+///
+/// Out of memory.
+pub fn reason_line(
+    alloc: Global,
+    chain: &[Cert<'_>],
+    position: u8,
+    reason: &Reason<'_>,
+) -> Result<Line, AllocError> {
+    let Some(cert) = chain.get((position as usize).saturating_sub(1)) else {
+        return Line::of(alloc, b"no certificate has this place");
+    };
+    let mut line = certificate_line(alloc, position as usize, chain, cert)?;
+    write_reason(alloc, &mut line, cert, reason)?;
+    Ok(line)
+}
+
 /// The line on a certificate that does not meet a condition.
 fn invalid_line(
     alloc: Global,
@@ -91,13 +111,12 @@ fn invalid_line(
     let Some(cert) = report.chain.get((position as usize).saturating_sub(1)) else {
         return Line::of(alloc, b"no certificate has this place");
     };
-    let mut line = certificate_line(alloc, position as usize, &report.chain, cert)?;
     let is_first = position == 1 && matches!(reason, Reason::Signature | Reason::IssuerName);
-    if is_first && !cert.issuer().same(report.anchor.name) {
-        write_no_anchor(alloc, &mut line, cert)?;
-    } else {
-        write_reason(alloc, &mut line, cert, reason)?;
+    if !is_first || cert.issuer().same(report.anchor.name) {
+        return reason_line(alloc, &report.chain, position, reason);
     }
+    let mut line = certificate_line(alloc, position as usize, &report.chain, cert)?;
+    write_no_anchor(alloc, &mut line, cert)?;
     Ok(line)
 }
 
@@ -126,7 +145,7 @@ fn valid_line(alloc: Global, report: &Report<'_>) -> Result<Line, AllocError> {
 }
 
 /// The second line of a report, in plain words.
-fn explanation(alloc: Global, report: &Report<'_>) -> Result<Line, AllocError> {
+pub(crate) fn explanation(alloc: Global, report: &Report<'_>) -> Result<Line, AllocError> {
     match &report.finding {
         Finding::Valid(_) => valid_line(alloc, report),
         Finding::Invalid { position, reason } => invalid_line(alloc, report, *position, reason),

@@ -27,6 +27,8 @@ pub enum Fault {
     Unknown,
     /// A file is not one whole command or question, or holds no certificate or CRL.
     Field,
+    /// A CRL is not to be loaded: its issuer's key did not sign it, or it is not current.
+    BadCrl,
     /// A file is longer than a command's certificate or list may be.
     TooLong,
     /// A question has parts outside of its limits.
@@ -66,6 +68,7 @@ impl fmt::Display for Fault {
             Fault::Clock => "Clock",
             Fault::Unknown => "Unknown",
             Fault::Field => "Field",
+            Fault::BadCrl => "BadCrl",
             Fault::TooLong => "TooLong",
             Fault::OutOfLimits => "OutOfLimits",
             Fault::TableLine(number) => return write!(f, "TableLine({number})"),

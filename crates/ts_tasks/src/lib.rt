@@ -8,6 +8,11 @@
 //!
 //! - [`run`]: it is safe and ends, and each call that it makes is made where its contract allows
 //!   it; what it prints and which fault it ends with, no clause says.
+//! - [`ending_of`], [`ending_by`]: how a client's task ends, by what a node answers
+//!   (`specs/Endings`): the program ends with 1 for a command that is refused, and where a valid
+//!   chain is asked for and none is answered.
+//! - [`other_kind`]: what octets hold that are not of the wanted kind, where that is known
+//!   (`IsOther` in `specs/Others`).
 //! - [`read_file`]: `short`: no more octets than a frame may have.
 //! - [`submit`], [`ask`], [`tend`]: the peer that is asked can be asked again.
 //! - [`format_files`], [`migrate_files`], [`open_disks`], [`RecordLock`]: they end; what files give
@@ -17,11 +22,14 @@
 //!   `ts_verify`, whose clauses say what the verdict is.
 #![tactic(auto)]
 
+mod clock;
+mod ended;
 mod fault;
 mod files;
 mod grouping;
 mod keyed;
 mod keys;
+mod kinds;
 mod locking;
 mod making;
 mod material;
@@ -30,12 +38,15 @@ mod requests;
 mod running;
 mod upkeep;
 mod verifying;
+mod vouching;
 mod waiting;
 
+pub use ended::{Ended, ending_by, ending_of};
 pub use fault::Fault;
 pub use files::{format_files, migrate_files, open_disks, read_file};
+pub use kinds::other_kind;
 pub use locking::RecordLock;
-pub use requests::{ask, submit};
+pub use requests::{Said, ask, submit};
 pub use running::run;
 pub use upkeep::{Upkeep, tend};
 pub use verifying::verify_files;

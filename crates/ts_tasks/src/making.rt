@@ -4,9 +4,10 @@
 use crate::fault::Fault;
 use crate::files::{read_all, read_whole, second};
 use crate::material::{certificate_of, certificates_of, crl_of, crls_of, values_of};
+use crate::vouching::vouch_for;
 use std::alloc::Global;
 use std::io::{ErrorKind, Print, Read, Write};
-use std::rt::Files;
+use std::rt::{Clock, Files};
 use std::{fs, io};
 use ts_cli::{Change, CommandWords, QuestionWords, command_octets, id_text, question_octets};
 use ts_pem::{PemFault, is_pem, read_certificates, read_crls};
@@ -56,16 +57,26 @@ pub(crate) fn put(rt: &impl Print, octets: &[u8]) -> Result<(), Fault> {
 ///
 /// # Errors
 ///
-/// Those of the file with the certificate or list; `TooLong`; `File` where no id can be drawn;
-/// `Write`.
+/// Those of the file with the certificate or list; `BadCrl` where an issuer of the list is given
+/// and something speaks against it; `TooLong`; `File` where no id can be drawn; `Write`.
 pub fn make_command(
-    rt: &(impl AllocGlobal + Files + Print + Eprint),
+    rt: &(impl AllocGlobal + Files + Clock + Print + Eprint),
     words: &CommandWords,
 ) -> Result<(), Fault> {
     let alloc = rt.alloc();
     let contents = match &words.change {
         Change::Add { file } => certificate_of(rt, alloc, file.as_str(), words.force)?,
-        Change::Load { file } => crl_of(rt, alloc, file.as_str(), words.force)?,
+        Change::Load {
+            file,
+            issuers,
+            unchecked,
+        } => {
+            let octets = crl_of(rt, alloc, file.as_str(), words.force)?;
+            if !*unchecked && !issuers.is_empty() {
+                vouch_for(rt, alloc, file.as_str(), &octets, issuers)?;
+            }
+            octets
+        }
         _ => Vec::new(alloc),
     };
     let id = id_of(rt, words)?;

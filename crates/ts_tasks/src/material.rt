@@ -2,12 +2,14 @@
 
 use crate::fault::Fault;
 use crate::files::read_file;
+use crate::kinds::say_other;
 use std::alloc::Global;
 use std::rt::Files;
 use ts_cert::Cert;
 use ts_crl::Crl;
-use ts_pem::{PemFault, read_certificates, read_crls};
+use ts_pem::{PemFault, is_pem, read_certificates, read_crls};
 use ts_shape::CertFault;
+use ts_show::Kind;
 
 /// What a text of blocks holds, or the fault of the file, of which standard error says the line.
 pub(crate) fn values_of(
@@ -52,6 +54,49 @@ pub fn crls_of<R: Files + Eprint>(
 ) -> Result<Vec<Vec<u8>>, Fault> {
     let octets = read_file(rt, alloc, path)?;
     values_of(rt, path, read_crls(alloc, &octets))
+}
+
+/// The certificates, or the CRLs, of a file. Of one that has none standard error says what it holds.
+fn values_in<R: Files + Eprint>(
+    rt: &R,
+    alloc: Global,
+    path: &str,
+    wanted: Kind,
+) -> Result<Vec<Vec<u8>>, Fault> {
+    let octets = read_file(rt, alloc, path)?;
+    let read = match wanted {
+        Kind::List => read_crls(alloc, &octets),
+        _ => read_certificates(alloc, &octets),
+    };
+    let values = values_of(rt, path, read)?;
+    if values.is_empty() || !is_pem(&octets) {
+        let is_other = say_other(rt, alloc, path, wanted, &octets)?;
+        if is_other || values.is_empty() {
+            return Err(Fault::Field);
+        }
+    }
+    Ok(values)
+}
+
+/// The octets of all certificates, or of all CRLs, of some files.
+///
+/// # Errors
+///
+/// Those of [`certificates_of`]; `Field` where a file has none, or is known to be of another kind,
+/// which standard error says.
+pub(crate) fn octets_of<R: Files + Eprint>(
+    rt: &R,
+    alloc: Global,
+    files: &[String],
+    wanted: Kind,
+) -> Result<Vec<Vec<u8>>, Fault> {
+    let mut found = Vec::new(alloc);
+    for file in files {
+        for value in values_in(rt, alloc, file.as_str(), wanted)? {
+            found.push(value)?;
+        }
+    }
+    Ok(found)
 }
 
 /// The one value of a file that is to have one.

@@ -2,10 +2,12 @@
 
 ghost use Rattle.std.specs.Prelude.{All};
 
+use crate::ended::{Ended, ending_by, ending_of};
 use crate::fault::Fault;
 use crate::files::read_file;
 use crate::keyed::Reached;
 use crate::keys::key_in;
+use crate::making::put;
 use crate::waiting::submit_and_wait;
 use std::alloc::Global;
 use std::io::Print;
@@ -14,8 +16,9 @@ use std::random::RandomSource;
 use std::rt::{Clock, Files};
 use std::time::Duration;
 use ts_cli::Reach;
+use ts_explain::explained;
 use ts_lab::text::{outcome_text, reply_text};
-use ts_question::Question;
+use ts_question::{Answer, Question};
 use ts_serve::{Peer, TcpPeer, carry};
 use ts_store::Command;
 use ts_wire::{Feed, FeedError, Frame, FrameFault, WriteError, write_frame};
@@ -53,44 +56,66 @@ pub fn answer_of<P: Peer>(alloc: Global, peer: &mut P, request: &Frame) -> Resul
     frame_of(alloc, &answer)
 }
 
-/// The line that says what a command is answered.
-fn submit_line(alloc: Global, answer: &Frame) -> Result<String, Fault> {
+/// What a node answered, as a client says it.
+#[derive(Debug, Drop)]
+pub struct Said {
+    /// The line that is printed.
+    pub line: String,
+    /// How the task ends.
+    pub ended: Ended,
+}
+
+/// What is said of the answer to a command.
+fn submit_said(alloc: Global, answer: &Frame) -> Result<Said, Fault> {
     match answer {
         Frame::Started { position, ballot } => {
             let (position, ballot) = (*position, *ballot);
-            Ok(format!(in alloc; "submit started {position} {ballot}\n")?)
+            Ok(Said {
+                line: format!(in alloc; "submit started {position} {ballot}\n")?,
+                ended: Ended::Well,
+            })
         }
         Frame::Settled { position, outcome } => {
             let position = *position;
-            let outcome = outcome_text(alloc, *outcome)?;
-            Ok(format!(in alloc; "submit settled {position} {outcome}\n")?)
+            let text = outcome_text(alloc, *outcome)?;
+            Ok(Said {
+                line: format!(in alloc; "submit settled {position} {text}\n")?,
+                ended: ending_of(*outcome),
+            })
         }
         _ => Err(Fault::Frame(FrameFault::Kind)),
     }
 }
 
-/// Submits a command to a peer, and gives the line that says what it is answered.
+/// Submits a command to a peer. The line that says what it is answered, and how the task ends.
 ///
 /// # Errors
 ///
 /// Those of the exchange; the node's; `Frame` where the answer is none to a command.
-pub fn submit<P: Peer>(alloc: Global, peer: &mut P, command: Command) -> Result<String, Fault>
+pub fn submit<P: Peer>(alloc: Global, peer: &mut P, command: Command) -> Result<Said, Fault>
     requires { P.is_ready peer.old }
     ensures { P.is_ready peer.new }
 {
     let request = Frame::Submit { command };
     let answer = answer_of(alloc, peer, &request)?;
-    submit_line(alloc, &answer)
+    submit_said(alloc, &answer)
 }
 
 /// The line that says what a question is answered.
-fn ask_line(alloc: Global, answer: &Frame) -> Result<String, Fault> {
-    match answer {
-        Frame::Answer { answer } => {
-            let k = answer.k();
-            let reply = reply_text(alloc, answer.reply())?;
-            Ok(format!(in alloc; "ask {k} {reply}\n")?)
-        }
+fn ask_line(alloc: Global, answer: &Answer) -> Result<String, Fault> {
+    let k = answer.k();
+    let reply = reply_text(alloc, answer.reply())?;
+    Ok(format!(in alloc; "ask {k} {reply}\n")?)
+}
+
+/// Asks a peer a question, and gives the answer.
+fn asked<P: Peer>(alloc: Global, peer: &mut P, question: Question) -> Result<Answer, Fault>
+    requires { P.is_ready peer.old }
+    ensures { P.is_ready peer.new }
+{
+    let request = Frame::Question { question };
+    match answer_of(alloc, peer, &request)? {
+        Frame::Answer { answer } => Ok(answer),
         _ => Err(Fault::Frame(FrameFault::Kind)),
     }
 }
@@ -104,8 +129,7 @@ pub fn ask<P: Peer>(alloc: Global, peer: &mut P, question: Question) -> Result<S
     requires { P.is_ready peer.old }
     ensures { P.is_ready peer.new }
 {
-    let request = Frame::Question { question };
-    let answer = answer_of(alloc, peer, &request)?;
+    let answer = asked(alloc, peer, question)?;
     ask_line(alloc, &answer)
 }
 
@@ -164,7 +188,7 @@ fn submit_for<R: Files + Net + Clock + RandomSource + Eprint>(
     reach: &Reach,
     command: Command,
     seconds: u32,
-) -> Result<String, Fault> {
+) -> Result<Said, Fault> {
     let mut server = server_at(rt, alloc, reach)?;
     let longest = Duration::from_secs(seconds as u64);
     let answer = submit_and_wait(rt, alloc, &mut server, command, longest)?;
@@ -172,7 +196,7 @@ fn submit_for<R: Files + Net + Clock + RandomSource + Eprint>(
         let _ = eprintln!(rt; "trustd: not chosen within {seconds} seconds; it may be later");
         return Err(Fault::Unknown);
     }
-    submit_line(alloc, &answer)
+    submit_said(alloc, &answer)
 }
 
 /// Submits the command that a file holds to the server at an address, and prints what it is
@@ -187,21 +211,37 @@ pub fn submit_file(
     reach: &Reach,
     file: &str,
     wait: u32,
-) -> Result<(), Fault> {
+) -> Result<Ended, Fault> {
     let alloc = rt.alloc();
     let octets = read_file(rt, alloc, file)?;
     let Some(command) = Command::read(alloc, &octets)? else {
         return Err(Fault::Field);
     };
-    let line = if wait == 0 {
+    let said = if wait == 0 {
         submit(alloc, &mut server_at(rt, alloc, reach)?, command)
     } else {
         submit_for(rt, alloc, reach, command, wait)
     };
-    say(rt, told(rt, reach, line)?.as_str())
+    let said = told(rt, reach, said)?;
+    say(rt, said.line.as_str())?;
+    Ok(said.ended)
 }
 
-/// Asks the server at an address the question that a file holds, and prints the answer.
+/// Prints what the answer to a question means, whose octets these are.
+fn explain_answer(
+    rt: &impl Print,
+    alloc: Global,
+    octets: &[u8],
+    answer: &Answer,
+) -> Result<(), Fault> {
+    match Question::read(alloc, octets)? {
+        Some(question) => put(rt, &explained(alloc, &question, answer.reply())?),
+        None => Err(Fault::Field),
+    }
+}
+
+/// Asks the server at an address the question that a file holds, and prints the answer. It ends
+/// well, unless a valid chain is checked for and none is answered.
 ///
 /// # Errors
 ///
@@ -210,14 +250,21 @@ pub fn ask_file(
     rt: &(impl AllocGlobal + Files + Net + RandomSource + Print + Eprint),
     reach: &Reach,
     file: &str,
-) -> Result<(), Fault> {
+    check: bool,
+    explain: bool,
+) -> Result<Ended, Fault> {
     let alloc = rt.alloc();
     let octets = read_file(rt, alloc, file)?;
     let Some(question) = Question::read(alloc, &octets)? else {
         return Err(Fault::Field);
     };
-    let line = ask(alloc, &mut server_at(rt, alloc, reach)?, question);
-    say(rt, told(rt, reach, line)?.as_str())
+    let answer = asked(alloc, &mut server_at(rt, alloc, reach)?, question);
+    let answer = told(rt, reach, answer)?;
+    say(rt, ask_line(alloc, &answer)?.as_str())?;
+    if explain {
+        explain_answer(rt, alloc, &octets, &answer)?;
+    }
+    Ok(ending_by(check, answer.reply()))
 }
 
 /// Carries messages between the servers at these addresses, the first being node 1, for so many

@@ -1,7 +1,10 @@
 //! A task is run.
 
+ghost use Rattle.std.specs.Prelude.{◌≡◌, IsErr, Ok, OnErr, OnOk};
 ghost use Rattle.ts_cli.specs.Says.{IsInRange};
+ghost use Rattle.ts_tasks.specs.declared.ended.Ended.TheVariants.{Well};
 
+use crate::ended::Ended;
 use crate::fault::Fault;
 use crate::keys::print_key;
 use crate::making::{make_command, make_question, print_id, show_file};
@@ -15,7 +18,19 @@ use std::random::RandomSource;
 use std::rt::{Clock, Files};
 use ts_cli::Task;
 
-/// Runs a task, but the lab and a verdict without a node, which end with statuses of their own.
+/// A task that asks for no answer ends well, unless it fails.
+fn well(ended: Result<(), Fault>) -> Result<Ended, Fault>
+    ensures done { OnOk ended (result ≡ Ok Well) }
+    ensures failed { OnErr ended (IsErr result) }
+{
+    match ended {
+        Ok(()) => Ok(Ended::Well),
+        Err(fault) => Err(fault),
+    }
+}
+
+/// Runs a task of a client that asks for an answer, or another, but the lab and a verdict without a
+/// node, which end with statuses of their own.
 ///
 /// # Errors
 ///
@@ -28,16 +43,38 @@ pub fn run<
         + RandomSource
         + Print
         + Eprint,
+>(rt: &R, task: &Task) -> Result<Ended, Fault>
+    requires { IsInRange task.now }
+{
+    match task {
+        Task::Submit { reach, file, wait } => submit_file(rt, reach, file.as_str(), *wait),
+        Task::Ask {
+            reach,
+            file,
+            check,
+            explain,
+        } => ask_file(rt, reach, file.as_str(), *check, *explain),
+        other => well(run_other(rt, other)),
+    }
+}
+
+/// Runs a task that ends well unless it fails.
+fn run_other<
+    R: AllocGlobal
+        + Files<File = File>
+        + Net<Listener = TcpListener, Stream = TcpStream>
+        + Clock
+        + RandomSource
+        + Print
+        + Eprint,
 >(rt: &R, task: &Task) -> Result<(), Fault>
     requires { IsInRange task.now }
 {
     match task {
-        Task::Lab | Task::Verify(_) => Ok(()),
+        Task::Lab | Task::Verify(_) | Task::Submit { .. } | Task::Ask { .. } => Ok(()),
         Task::Format { file, id, nodes } => format_record(rt, file.as_str(), *id, *nodes),
         Task::Migrate { old, new } => migrate_record(rt, old.as_str(), new.as_str()),
         Task::Serve(words) => serve_record(rt, words),
-        Task::Submit { reach, file, wait } => submit_file(rt, reach, file.as_str(), *wait),
-        Task::Ask { reach, file } => ask_file(rt, reach, file.as_str()),
         Task::Carry { addresses, rounds } => carry_messages(rt, addresses, *rounds),
         Task::Status { reach } => tend_server(rt, reach, Upkeep::Status),
         Task::CatchUp { reach } => tend_server(rt, reach, Upkeep::CatchUp),

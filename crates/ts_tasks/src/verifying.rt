@@ -2,21 +2,23 @@
 
 ghost use Rattle.std.specs.Prelude.{◌≤◌, IfOk, length};
 
+use crate::clock::now;
 use crate::fault::Fault;
 use crate::making::put;
-use crate::material::{certificates_of, crls_of};
+use crate::material::octets_of;
+use crate::requests::say;
 use std::alloc::Global;
 use std::io::Print;
 use std::rt::{Clock, Files};
-use std::time::{SystemTime, UNIX_EPOCH};
 use ts_cert::Cert;
 use ts_check::NativeCheck;
 use ts_cli::VerifyWords;
 use ts_crl::Crl;
 use ts_host::Host;
 use ts_path::{Anchor, Inputs};
-use ts_report::text;
+use ts_report::{json, text};
 use ts_revoke::Crls;
+use ts_show::Kind;
 use ts_time::Moment;
 use ts_verify::{Finding, Report, verify};
 
@@ -25,37 +27,10 @@ const MAX_CERTIFICATES: usize = 33;
 
 /// The moment that is asked about: the one that is given, else that of the clock.
 fn moment_of<R: Clock>(rt: &R, words: &VerifyWords) -> Result<Moment, Fault> {
-    if let Some(moment) = words.moment {
-        return Ok(Moment(moment));
+    match words.moment {
+        Some(moment) => Ok(Moment(moment)),
+        None => now(rt),
     }
-    let Ok(now) = SystemTime::now(rt) else {
-        return Err(Fault::Clock);
-    };
-    match now.duration_since(UNIX_EPOCH) {
-        Ok(past) if past.as_secs() <= i64::MAX as u64 => Ok(Moment(past.as_secs() as i64)),
-        _ => Err(Fault::Clock),
-    }
-}
-
-/// The octets of all certificates, or of all CRLs, of some files.
-fn octets_of<R: Files + Eprint>(
-    rt: &R,
-    alloc: Global,
-    files: &[String],
-    are_crls: bool,
-) -> Result<Vec<Vec<u8>>, Fault> {
-    let mut found = Vec::new(alloc);
-    for file in files {
-        let values = if are_crls {
-            crls_of(rt, alloc, file.as_str())?
-        } else {
-            certificates_of(rt, alloc, file.as_str())?
-        };
-        for value in values {
-            found.push(value)?;
-        }
-    }
-    Ok(found)
 }
 
 /// The trust anchors. A bundle may hold certificates that this profile refuses: they are passed
@@ -166,6 +141,36 @@ fn purpose_of(alloc: Global, words: &VerifyWords) -> Result<Option<Vec<u8>>, Fau
     }
 }
 
+/// The policies that the user accepts, each as the content octets of its object identifier.
+fn policies_of(alloc: Global, words: &VerifyWords) -> Result<Vec<Vec<u8>>, Fault> {
+    let mut policies = Vec::new(alloc);
+    for policy in words.policies.as_slice() {
+        policies.push(Vec::from_slice(alloc, policy.as_ref().content)?)?;
+    }
+    Ok(policies)
+}
+
+/// What the files and the words hold. All is borrowed from here, so that it has one lifetime.
+#[derive(Drop)]
+struct Given {
+    anchors: Vec<Vec<u8>>,
+    certificates: Vec<Vec<u8>>,
+    crls: Vec<Vec<u8>>,
+    policies: Vec<Vec<u8>>,
+    purpose: Option<Vec<u8>>,
+}
+
+/// What is judged, as it lies in what is given.
+#[derive(Drop)]
+struct Views<'a> {
+    anchors: Vec<Anchor<'a>>,
+    certificates: Vec<Cert<'a>>,
+    lists: Vec<Crl<'a>>,
+    deltas: Vec<Crl<'a>>,
+    policies: Vec<&'a [u8]>,
+    purpose: Option<&'a [u8]>,
+}
+
 /// Octets, borrowed.
 fn borrowed(octets: &Option<Vec<u8>>) -> Option<&[u8]> {
     match octets {
@@ -174,30 +179,65 @@ fn borrowed(octets: &Option<Vec<u8>>) -> Option<&[u8]> {
     }
 }
 
-/// What the files of the words hold. All is borrowed from here, so that it has one lifetime.
-#[derive(Drop)]
-struct Given {
-    anchors: Vec<Vec<u8>>,
-    certificates: Vec<Vec<u8>>,
-    crls: Vec<Vec<u8>>,
-    purpose: Option<Vec<u8>>,
+/// Lists of octets, borrowed.
+fn all_borrowed(alloc: Global, lists: &[Vec<u8>]) -> Result<Vec<&[u8]>, Fault> {
+    let mut slices = Vec::new(alloc);
+    for list in lists {
+        slices.push(list.as_slice())?;
+    }
+    Ok(slices)
 }
 
-/// What path validation is asked beside the certificates, for any policy. Revocation is hard where
-/// there are CRLs, unless the words say otherwise.
-fn inputs_of<'a>(words: &VerifyWords, moment: Moment, given: &'a Given) -> Inputs<'a> {
+/// What is judged, of what is given.
+fn views_of<'a>(rt: &impl Eprint, alloc: Global, given: &'a Given) -> Result<Views<'a>, Fault>
+    ensures anchored { IfOk result (λ views. 1 ≤ length views.anchors.items) }
+    ensures some { IfOk result (λ views. 1 ≤ length views.certificates.items) }
+    ensures few { IfOk result (λ views. length views.certificates.items ≤ 33) }
+{
+    let anchors = anchors_in(rt, alloc, &given.anchors)?;
+    let certificates = certificates_in(rt, alloc, &given.certificates)?;
+    let (lists, deltas) = crls_in(rt, alloc, &given.crls)?;
+    let policies = all_borrowed(alloc, &given.policies)?;
+    Ok(Views {
+        anchors,
+        certificates,
+        lists,
+        deltas,
+        policies,
+        purpose: borrowed(&given.purpose),
+    })
+}
+
+/// What path validation is asked beside the certificates. Revocation is hard where there are CRLs,
+/// unless the words say otherwise.
+fn inputs_of<'a>(words: &VerifyWords, moment: Moment, views: &'a Views<'a>) -> Inputs<'a> {
+    let has_crls = !views.lists.is_empty() || !views.deltas.is_empty();
     Inputs {
         moment,
-        purpose: borrowed(&given.purpose),
-        user_policies: &[],
+        purpose: views.purpose,
+        user_policies: &views.policies,
         explicit_policy: words.explicit,
         inhibit_policy_mapping: words.nomap,
         inhibit_any_policy: words.noany,
         permitted_subtrees: &[],
         excluded_subtrees: &[],
-        hard: !given.crls.is_empty() && !words.soft,
+        hard: has_crls && !words.soft,
         use_deltas: words.deltas,
     }
+}
+
+/// Prints the verdict and what it means, as two lines or as one JSON object.
+fn print_report<R: AllocGlobal + Print>(
+    rt: &R,
+    words: &VerifyWords,
+    report: &Report<'_>,
+) -> Result<(), Fault> {
+    let alloc = rt.alloc();
+    if words.json {
+        let line = json(alloc, report)?;
+        return say(rt, format!(in alloc; "{line}\n")?.as_str());
+    }
+    put(rt, &text(alloc, report)?)
 }
 
 /// Judges what is given, and prints the verdict and what it means. Whether the chain is valid.
@@ -209,24 +249,22 @@ fn judge<R: AllocGlobal + Print + Eprint>(
 ) -> Result<bool, Fault> {
     let alloc = rt.alloc();
     let host = host_of(rt, words)?;
-    let anchors = anchors_in(rt, alloc, &given.anchors)?;
-    let certificates = certificates_in(rt, alloc, &given.certificates)?;
-    let (lists, deltas) = crls_in(rt, alloc, &given.crls)?;
-    let inputs = inputs_of(words, moment, given);
+    let views = views_of(rt, alloc, given)?;
+    let inputs = inputs_of(words, moment, &views);
     let crls = Crls {
-        lists: &lists,
-        deltas: &deltas,
+        lists: &views.lists,
+        deltas: &views.deltas,
     };
     let report = verify(
         alloc,
-        &certificates,
-        &anchors,
+        &views.certificates,
+        &views.anchors,
         &inputs,
         &crls,
         host,
         &NativeCheck,
     )?;
-    put(rt, &text(alloc, &report)?)?;
+    print_report(rt, words, &report)?;
     Ok(is_valid(&report))
 }
 
@@ -236,22 +274,18 @@ fn judge<R: AllocGlobal + Print + Eprint>(
 /// # Errors
 ///
 /// Those of the files; `Field` where one holds no certificate or CRL, or the host's name is none;
-/// `OutOfLimits` where there is no certificate, are more than 33, or a policy is named, which only
-/// a question to a node can; `Clock`; `Memory`; `Write`.
+/// `OutOfLimits` where there is no certificate, or are more than 33; `Clock`; `Memory`; `Write`.
 pub fn verify_files<R: AllocGlobal + Files + Clock + Print + Eprint>(
     rt: &R,
     words: &VerifyWords,
 ) -> Result<bool, Fault> {
     let alloc = rt.alloc();
-    if !words.policies.as_slice().is_empty() {
-        let _ = eprintln!(rt; "trustd: --policy is for questions to a node alone");
-        return Err(Fault::OutOfLimits);
-    }
     let moment = moment_of(rt, words)?;
     let given = Given {
-        anchors: octets_of(rt, alloc, &words.anchors, false)?,
-        certificates: octets_of(rt, alloc, &words.certificates, false)?,
-        crls: octets_of(rt, alloc, &words.crls, true)?,
+        anchors: octets_of(rt, alloc, &words.anchors, Kind::Certificate)?,
+        certificates: octets_of(rt, alloc, &words.certificates, Kind::Certificate)?,
+        crls: octets_of(rt, alloc, &words.crls, Kind::List)?,
+        policies: policies_of(alloc, words)?,
         purpose: purpose_of(alloc, words)?,
     };
     judge(rt, words, moment, &given)

@@ -125,7 +125,7 @@ with_inputs own = with_arguments own
 
 unfoldable pub verify : Shape
 verify = with_inputs (leaf (codes "verify") (needed (options (codes "anchor"))
-    ∷ options (codes "crl") ∷ needed (words (codes "certificates")) ∷ []))
+    ∷ options (codes "crl") ∷ needed (words (codes "certificates")) ∷ flag (codes "json") ∷ []))
 
 -- with the key that a node is shown
 unfoldable pub with_key : Shape → Shape
@@ -138,6 +138,10 @@ sending name = with_key (leaf name (word (codes "address") ∷ word (codes "file
 -- an address and a file, and how long to wait
 unfoldable pub submit : Shape
 submit = with_argument (sending (codes "submit")) (option (codes "wait"))
+
+-- what is made of the verdict that is printed
+unfoldable pub with_verdict : Shape → Shape
+with_verdict own = with_arguments own (flag (codes "check") ∷ flag (codes "explain") ∷ [])
 
 -- an address
 abbrev pub reaching : Text → Shape
@@ -158,8 +162,8 @@ named name = leaf name []
 -- the tasks of a node
 unfoldable pub node_tasks : App
 node_tasks = with_tasks (versioned (choice (codes "trustd") [] []))
-    (lab ∷ format ∷ migrate ∷ serve ∷ submit ∷ sending (codes "ask") ∷ carry
-    ∷ [])
+    (lab ∷ format ∷ migrate ∷ serve ∷ submit ∷ with_verdict (sending (codes "ask"))
+    ∷ carry ∷ [])
 
 -- the tasks of a node's upkeep, after others
 unfoldable pub with_upkeep : App → App
@@ -178,13 +182,18 @@ program = with_upkeep (with_tasks node_tasks
 abbrev pub naming : Text → Text → Shape
 naming name argument = leaf name (word argument ∷ [])
 
+-- a file, the certificates of its issuers, and whether they are not asked
+unfoldable pub load : Shape
+load = with_arguments (reading (codes "load"))
+    (options (codes "issuer") ∷ flag (codes "unchecked") ∷ [])
+
 unfoldable pub purposes : Shape
 purposes = leaf (codes "purposes") (word (codes "anchor") ∷ words (codes "purposes") ∷ [])
 
 unfoldable pub commands : App
 commands = with_tasks (with_rule (with_rule (choice (codes "command") [] []) (option (codes "id")))
     (flag (codes "force"))) (
-    reading (codes "add") ∷ naming (codes "withdraw") (codes "anchor") ∷ reading (codes "load")
+    reading (codes "add") ∷ naming (codes "withdraw") (codes "anchor") ∷ load
     ∷ naming (codes "drop") (codes "list")
     ∷ purposes ∷ leaf (codes "noop") [] ∷ []
     )

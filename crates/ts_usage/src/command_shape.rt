@@ -5,7 +5,9 @@ ghost use Rattle.clap.specs.Simple.{app_of};
 ghost use Rattle.ts_usage.specs.Shapes as shapes;
 ghost use Rattle.ts_usage.specs.Shapes.{IsLocal, IsShape};
 
-use crate::arguments::{among, choice, flag, leaf, option, reading, with, with_own, word, words};
+use crate::arguments::{
+    among, choice, flag, leaf, option, options, reading, with, with_own, word, words,
+};
 use clap::Command;
 use std::alloc::{AllocError, Global};
 
@@ -21,6 +23,19 @@ fn naming<'a>(
 {
     let help = "Its id, 64 lower-case hexadecimal digits";
     with(leaf(alloc, name, about), word(alloc, argument, "ID", help))
+}
+
+/// A CRL is added, checked where its issuer's certificate is given.
+fn load<'a>(alloc: Global) -> Result<Command<'a>, AllocError>
+    ensures shape { IfOk result (IsShape shapes.load) }
+    ensures local { IfOk result IsLocal }
+{
+    let what = "Adds a CRL, complete or delta";
+    let command = reading(alloc, "load", what, "CRL", "The CRL, in PEM or DER");
+    let help = "Write nothing unless one of these certificates signed the CRL, and it is current";
+    let command = with(command, options(alloc, "issuer", "CERT", help));
+    let help = "Write the command in spite of --issuer, without a check";
+    with(command, flag(alloc, "unchecked", help))
 }
 
 /// The purposes of an anchor.
@@ -54,9 +69,7 @@ pub fn commands<'a>(alloc: Global) -> Result<Command<'a>, AllocError>
         all,
         naming(alloc, "withdraw", "Removes a trust anchor", "anchor"),
     );
-    let what = "Adds a CRL, complete or delta";
-    let help = "The CRL, in PEM or DER";
-    let all = among(all, reading(alloc, "load", what, "CRL", help));
+    let all = among(all, load(alloc));
     let what = "Removes a CRL";
     let all = among(all, naming(alloc, "drop", what, "list"));
     let all = among(all, purposes(alloc));

@@ -24,6 +24,7 @@ mod arguments;
 mod command_shape;
 mod program_shape;
 mod question_shape;
+mod verdict_shape;
 mod verify_shape;
 
 pub use command_shape::commands;

@@ -8,6 +8,7 @@ ghost use Rattle.ts_usage.specs.Shapes.{IsApp, IsLocal, IsShape};
 use crate::arguments::{
     among, choice, flag, leaf, needed, option, options, reading, versioned, with, word, words,
 };
+use crate::verdict_shape::with_verdict;
 use crate::verify_shape::verify;
 use clap::Command;
 use std::alloc::{AllocError, Global};
@@ -221,7 +222,8 @@ fn node_tasks<'a>(alloc: Global) -> Result<Command<'a>, AllocError>
     let program = among(program, serve(alloc));
     let program = among(program, submit(alloc));
     let what = "Asks a node a question";
-    let program = among(program, sending(alloc, "ask", what, "An encoded question"));
+    let ask = sending(alloc, "ask", what, "An encoded question");
+    let program = among(program, with_verdict(alloc, ask));
     among(program, carry(alloc))
 }
 

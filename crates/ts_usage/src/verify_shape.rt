@@ -50,5 +50,7 @@ pub(crate) fn verify<'a>(alloc: Global) -> Result<Command<'a>, AllocError>
     let command = with(command, options(alloc, "crl", "FILE", help));
     let help = "The leaf and the certificates between, in PEM or DER, in any order";
     let command = with(command, needed(words(alloc, "certificates", "CERT", help)));
+    let help = "Print one JSON object on one line";
+    let command = with(command, flag(alloc, "json", help));
     with_inputs(alloc, command)
 }

@@ -9,5 +9,5 @@ returns c =
     let migrate = c.among-program-3.ensures _ _ format c.migrate.ensures.shape in
     let serve = c.among-program-4.ensures _ _ migrate c.serve.ensures.shape in
     let submit = c.among-program-5.ensures _ _ serve c.submit.ensures.shape in
-    let ask = c.among-program-6.ensures _ _ submit c.sending.ensures.shape in
+    let ask = c.among-program-6.ensures _ _ submit (c.with_verdict.ensures.shape _ c.sending-ask.ensures.shape) in
     c.among.ensures _ _ ask c.carry.ensures.shape

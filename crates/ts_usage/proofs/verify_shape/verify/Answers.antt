@@ -8,4 +8,5 @@ returns-clause-shape c =
     let anchor = c.with-command.ensures.shape _ _ (c.needed.ensures.rule ∙ ap needed c.options.ensures.rule) c.leaf-command.ensures.shape in
     let crl = c.with-command-2.ensures.shape _ _ c.options-2.ensures.rule anchor in
     let certificates = c.with-command-3.ensures.shape _ _ (c.needed-2.ensures.rule ∙ ap needed c.words.ensures.rule) crl in
-    c.with_inputs.ensures.shape _ certificates
+    let json = c.with-command-4.ensures.shape _ _ c.flag.ensures.rule certificates in
+    c.with_inputs.ensures.shape _ json

@@ -1,0 +1,7 @@
+-- The texts so far are those of the object identifiers so far.
+use Rattle.std.proofs.Common.{◌≡◌, map, take, string_bytes}
+use Rattle.ts_report.specs.Text.{oid_text}
+use Rattle.ts_report.proofs.fields.all_dotted.Given as goal
+
+abbrev pub invariant-loop-content : goal.invariant-loop-content
+invariant-loop-content l = map string_bytes l.texts.items ≡ map oid_text (map (λ p. p.now) (take l.content-index l.contents))
