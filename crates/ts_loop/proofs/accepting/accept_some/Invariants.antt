@@ -3,4 +3,4 @@ use Rattle.ts_links.specs.Calls.{IsQuiet}
 use Rattle.ts_loop.proofs.accepting.accept_some.Given as goal
 
 abbrev pub invariant-loop-accept : goal.invariant-loop-accept
-invariant-loop-accept l = IsQuiet l.initial.table l.table
+invariant-loop-accept g l = IsQuiet l.initial.table l.table

@@ -5,14 +5,18 @@ use Rattle.ts_loop.proofs.pumping.pump.Goals as goal
 pub returns-then-not-good-clause-reached : goal.returns-then-not-good-clause-reached
 returns-then-not-good-clause-reached g c = reached_then g.S.Service.turn _ _ _ _ _ _ (reached_quiet g.S.Service.turn _ _ _ c.read_once.ensures) c.take_turns-taken.ensures.reached
 
-pub returns-then-not-write_once-clause-reached : goal.returns-then-not-write_once-clause-reached
-returns-then-not-write_once-clause-reached g c =
-    then_quiet g.S.Service.turn _ _ _ _ _ (reached_then g.S.Service.turn _ _ _ _ _ _ (reached_quiet g.S.Service.turn _ _ _ c.read_once.ensures) c.take_turns-taken.ensures.reached) c.write_once.ensures
+pub returns-in_default-clause-reached : goal.returns-in_default-clause-reached
+returns-in_default-clause-reached g c =
+    then_quiet g.S.Service.turn _ _ _ _ _ (reached_then g.S.Service.turn _ _ _ _ _ _ (reached_quiet g.S.Service.turn _ _ _ c.read_once.ensures) c.take_turns-taken.ensures.reached) c.finish.ensures
 
 pub returns-clause-reached : goal.returns-clause-reached
 returns-clause-reached g c =
-    then_quiet g.S.Service.turn _ _ _ _ _ (reached_then g.S.Service.turn _ _ _ _ _ _ (reached_quiet g.S.Service.turn _ _ _ c.read_once.ensures) c.take_turns-taken.ensures.reached) c.write_once.ensures
+    then_quiet g.S.Service.turn _ _ _ _ _ (reached_then g.S.Service.turn _ _ _ _ _ _ (reached_quiet g.S.Service.turn _ _ _ c.read_once.ensures) c.take_turns-taken.ensures.reached) c.finish.ensures
+
+pub returns-then-more-clause-reached : goal.returns-then-more-clause-reached
+returns-then-more-clause-reached g c =
+    then_quiet g.S.Service.turn _ _ _ _ _ (reached_then g.S.Service.turn _ _ _ _ _ _ (reached_quiet g.S.Service.turn _ _ _ c.read_once.ensures) c.take_turns-taken.ensures.reached) c.finish.ensures
 
 pub returns-then-holds_back-clause-reached : goal.returns-then-holds_back-clause-reached
 returns-then-holds_back-clause-reached g c =
-    then_quiet g.S.Service.turn _ _ _ _ _ (reached_then g.S.Service.turn _ _ _ _ _ _ (reached_quiet g.S.Service.turn _ _ _ c.read_once.ensures) c.take_turns-taken.ensures.reached) c.write_once.ensures
+    then_quiet g.S.Service.turn _ _ _ _ _ (reached_then g.S.Service.turn _ _ _ _ _ _ (reached_quiet g.S.Service.turn _ _ _ c.read_once.ensures) c.take_turns-taken.ensures.reached) c.finish.ensures
