@@ -7,3 +7,4 @@ pub mod Sifted
 pub mod Lines
 pub mod Entering
 pub mod Entered
+pub mod Visiting

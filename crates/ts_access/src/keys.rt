@@ -27,7 +27,10 @@ fn number_of(word: &[u8]) -> Option<u32> {
 /// The number of a node that a word writes.
 fn node_of(word: &[u8]) -> Option<u8> {
     let number = number_of(word)?;
-    (1 <= number && number <= 9).then_some(number as u8)
+    if 1 <= number && number <= 9 {
+        return Some(number as u8);
+    }
+    None
 }
 
 /// The secret that a word writes in hexadecimal digits.
