@@ -1,5 +1,6 @@
 pub mod Faults
 pub mod Roles
+pub mod Pieces
 pub mod Keys
 pub mod Frames
 pub mod Sifting

@@ -43,6 +43,7 @@ mod fault;
 mod key;
 mod keys;
 mod line;
+mod piece;
 mod rights;
 mod sieve;
 mod visitor;
