@@ -3,3 +3,4 @@ pub mod Entries
 pub mod Numbers
 pub mod Reading
 pub mod Sieves
+pub mod Words

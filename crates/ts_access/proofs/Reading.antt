@@ -1,6 +1,7 @@
 -- Lines that add keys, one after another.
 use Rattle.std.proofs.Common.{◌≡◌, ◌∙◌, ◌+◌, ◌≤◌, ℕ, List, [], ◌∷◌, ◌++◌, length, refl, sym, ap, subst}
-use Rattle.std.proofs.Common.{append_assoc, arith, length-append, Option, Some, None, MatchOption, ⊤, inr}
+use Rattle.std.proofs.Common.{append_assoc, arith, length-append, Option, Some, None, MatchOption, inr, Bor, IfSome, option_map, ◌<◌}
+use Rattle.std.specs.Prelude.{⊤}
 use Rattle.std.proofs.lemmas.List.{append-nil}
 use Rattle.ts_access.specs.Keys.{Adds, AddsLine, IsRefused, IsWrongLine, StopsAt}
 use Rattle.ts_access.specs.Pieces.{lines_of, pieces_behind}
@@ -34,6 +35,11 @@ starts text = record {
   count = refl;
   room = omega arith;
 }
+
+pub fewer_left : (left : Option (Bor (List ℕ))) (n : ℕ) → IfSome left (λ r. length r.now < n)
+    → MatchOption (option_map (λ (r : Bor (List ℕ)). r.now) left) ⊤ (λ octets. length octets + 1 ≤ n)
+fewer_left None n fewer = tt
+fewer_left (Some r) n fewer = omega (arith, fewer)
 
 pub goes_on : (text octets line : List ℕ) (behind : Option (List ℕ)) (keys more : List Key)
     (number : ℕ) → ReadsOn text (Some octets) keys number

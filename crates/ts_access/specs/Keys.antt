@@ -26,7 +26,7 @@ abbrev pub IsNode : ℕ → Type 0
 IsNode node = (1 ≤ node) × (node ≤ 9)
 
 abbrev pub node_word : ℕ → List ℕ
-node_word node = 48 + node ∷ []
+node_word node = (48 + node) ∷ []
 
 -- the words of a role
 abbrev pub role_words : Role → List (List ℕ)

@@ -1,8 +1,7 @@
 //! A file of keys.
 
 ghost use Rattle.std.specs.Prelude.{◌≡◌, ◌≢◌, ◌++◌, [], ℕ, List, IfOk, IfErr, OnOk, MatchOption};
-ghost use Rattle.std.specs.Prelude.{option_map};
-ghost use Rattle.std.specs.Str.{string_bytes};
+ghost use Rattle.std.specs.Prelude.{option_map, string_bytes};
 ghost use Rattle.ts_access.specs.Keys.{Adds, AddsLine, IsKeyLine, IsNode, IsNumber, IsRefused};
 ghost use Rattle.ts_access.specs.Keys.{IsRole, IsSecret, IsWrongLine, is_skipped, key_found};
 ghost use Rattle.ts_access.specs.Keys.{line_text, node_word, role_text, role_words};
