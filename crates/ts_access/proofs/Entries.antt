@@ -50,7 +50,7 @@ length_one_more contents content = length-append contents (content ∷ [])
 
 -- ---- what came
 
-tells_more : (keys : List Key) (challenge : List ℕ) (key : Key) (greeting : Greeting)
+pub tells_more : (keys : List Key) (challenge : List ℕ) (key : Key) (greeting : Greeting)
     (contents : List (List ℕ)) (rest came piece : List ℕ)
     → Tells keys challenge key greeting contents rest came
     → Tells keys challenge key greeting contents (rest ++ piece) (came ++ piece)
@@ -102,7 +102,7 @@ vouches_more keys node challenge came piece handed v =
       admits = v.admits;
     }
 
-vouched_more : (keys : List Key) (node : ℕ) (challenge came piece handed : List ℕ)
+pub vouched_more : (keys : List Key) (node : ℕ) (challenge came piece handed : List ℕ)
     → IsVouched keys node challenge came handed
     → IsVouched keys node challenge (came ++ piece) handed
 vouched_more keys node challenge came piece handed (inl none) = inl none
@@ -140,7 +140,7 @@ at_vouched keys node challenge stages.Closed came handed at = at
 
 -- ---- one step
 
-opener_for : (key context : List ℕ) (old new : Opener) → new.start ≡ old.start
+pub opener_for : (key context : List ℕ) (old new : Opener) → new.start ≡ old.start
     → IsOpenerFor key context old → IsOpenerFor key context new
 opener_for key context old new start for =
     subst (λ s. IsOpenerFor key context record {
@@ -234,7 +234,7 @@ abbrev octets_of : Option (Vec ℕ Global) → List ℕ
 octets_of (Some octets) = octets.items
 octets_of None = []
 
-unmoved : (keys : List Key) (node : ℕ) (challenge : List ℕ) (old new : Line) (came handed : List ℕ)
+pub unmoved : (keys : List Key) (node : ℕ) (challenge : List ℕ) (old new : Line) (came handed : List ℕ)
     → new.sieve ≡ old.sieve → new.channel.opener ≡ old.channel.opener
     → Talks keys node challenge old came handed → Talks keys node challenge new came handed
 unmoved keys node challenge old new came handed sieve opener t =
@@ -255,7 +255,7 @@ line_on keys node challenge old new came handed None t g =
     (unmoved keys node challenge old new came handed g.0
     (g.3 t.key.secret (comes challenge t.greeting) t.for).0 t)
 
-abbrev After : List Key → ℕ → List ℕ → List ℕ → List ℕ → Stage → Type 0
+abbrev pub After : List Key → ℕ → List ℕ → List ℕ → List ℕ → Stage → Type 0
 After keys node challenge came handed stage = IsAt keys node challenge stage came handed
 
 step_on : (keys : List Key) (node : ℕ) (challenge : List ℕ) (old new : Stage)
@@ -280,7 +280,7 @@ step_on keys node challenge stages.Closed new came handed octets at s =
     (subst (After keys node challenge came handed) (sym s.1) at))
 
 -- the same connection
-at_same : (keys : List Key) (old new : Entrance) (came handed : List ℕ) → IsSame old new
+pub at_same : (keys : List Key) (old new : Entrance) (came handed : List ℕ) → IsSame old new
     → IsAt keys old.node old.challenge new.stage came handed → HasHandedOn keys new came handed
 at_same keys old new came handed same at =
     subst (λ k. IsAt keys k new.challenge new.stage came handed) (sym same.node)

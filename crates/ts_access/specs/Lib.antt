@@ -8,4 +8,5 @@ pub mod Sifted
 pub mod Lines
 pub mod Entering
 pub mod Entered
+pub mod Calls
 pub mod Visiting

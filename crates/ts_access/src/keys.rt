@@ -19,7 +19,9 @@ pub const MAX_KEYS: usize = 4_096;
 
 /// The first word of each role.
 const PEER: &[u8] = b"peer";
+
 const ADMIN: &[u8] = b"admin";
+
 const READER: &[u8] = b"reader";
 
 /// The number that a word writes in decimal, without leading zeros.

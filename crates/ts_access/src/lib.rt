@@ -42,6 +42,7 @@ mod entrance;
 mod fault;
 mod key;
 mod keys;
+pub mod laws;
 mod line;
 mod piece;
 mod rights;
