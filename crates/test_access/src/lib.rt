@@ -7,3 +7,7 @@
 mod keys_tests;
 #[cfg(test)]
 mod role_tests;
+#[cfg(test)]
+mod samples;
+#[cfg(test)]
+mod session_tests;

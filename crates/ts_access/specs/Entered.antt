@@ -79,3 +79,13 @@ IsAt keys node challenge stages.Closed came handed = IsVouched keys node challen
 abbrev pub HasHandedOn : List Key → Entrance → List ℕ → List ℕ → Type 0
 HasHandedOn keys entrance came handed =
     IsAt keys entrance.node entrance.challenge entrance.stage came handed
+
+-- what was handed on is what a key's role may ask of a front of what was sealed
+pub record IsFromHolder (keys : List Key) (node : ℕ) (key : Key) (greeting : Greeting)
+    (sent : List (List ℕ)) (handed : List ℕ) : Type 0 where
+  pub named : key_found keys greeting.key_id ≡ Some key
+  pub phase : Phase
+  pub seen : List ℕ
+  pub unseen : List ℕ
+  pub sent_is : concat sent ≡ seen ++ unseen
+  pub admits : Admits key.role node phase seen handed

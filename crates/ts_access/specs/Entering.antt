@@ -9,10 +9,9 @@ use Rattle.ts_guard.specs.declared.challenger.Challenger.{Challenger}
 use Rattle.ts_guard.specs.declared.hello.Greeting.{Greeting}
 use Rattle.ts_guard.specs.declared.session.Direction.TheVariants.{FromClient, FromServer}
 use Rattle.ts_guard.specs.Opening.{HasCome as Receives}
-use Rattle.ts_guard.specs.Sealing.{HasSealed, IsSealerFor, IsUnsealed}
 use Rattle.ts_guard.specs.declared.fault.GuardFault.{GuardFault}
 use Rattle.ts_access.specs.Keys.{key_found}
-use Rattle.ts_access.specs.Lines.{EndsBy, GoesOn}
+use Rattle.ts_access.specs.Lines.{EndsBy, GoesOn, SealsOn}
 use Rattle.ts_access.specs.Sifted.{IsSieve}
 use Rattle.ts_access.specs.declared.entrance.Entrance.{Entrance}
 use Rattle.ts_access.specs.declared.entrance.Stage.{Stage}
@@ -103,15 +102,9 @@ abbrev pub has_begun : Stage → Bool
 has_begun (stages.Open line) = true
 has_begun stage = false
 
--- a record was written behind other octets, or why not, whatever the key and the context that the
--- sealer is for; without a key nothing is
+-- what a call of `seal` does; without a key nothing
 abbrev pub SealsIn : Stage → List ℕ → List ℕ → Result Bool GuardFault → Stage → List ℕ → Type 0
-SealsIn (stages.Open old) octets before (Ok done) stage after = (done ≡ true) × (new : Line)
-    × (stage ≡ stages.Open new) × (new.sieve ≡ old.sieve)
-    × (new.channel.opener ≡ old.channel.opener)
-    × ((key context : List ℕ) → IsSealerFor key context old.channel.sealer
-    → HasSealed key context old.channel.sealer octets before new.channel.sealer after)
-SealsIn (stages.Open old) octets before (Err fault) stage after = (stage ≡ stages.Open old)
-    × (after ≡ before) × IsUnsealed old.channel.sealer octets fault
+SealsIn (stages.Open old) octets before result stage after = (new : Line)
+    × (stage ≡ stages.Open new) × SealsOn old octets before result new after
 SealsIn old octets before result stage after = (result ≡ Ok false) × (stage ≡ old)
     × (after ≡ before)

@@ -1,5 +1,6 @@
 pub mod Faults
 pub mod Roles
+pub mod Pieces
 pub mod Keys
 pub mod Frames
 pub mod Sifting
@@ -7,3 +8,5 @@ pub mod Sifted
 pub mod Lines
 pub mod Entering
 pub mod Entered
+pub mod Calls
+pub mod Visiting

@@ -28,16 +28,13 @@ abbrev pub Goes : Phase → Role → ℕ → List ℕ → Phase → Type 0
 Goes phases.Head role node octets phase = Starts role node octets phase
 Goes old role node octets phase = phase ≡ old
 
--- behind so many octets of a frame of which some were left
-abbrev pub behind : ℕ → ℕ → Phase
-behind left count = if nat_lt count left then phases.Frame (left - count) else phases.Head
-
--- as many octets of a frame as are there; all octets, behind a faulty length; and the refusal in a
--- forbidden frame's place, with all octets dropped
+-- what is left of a frame, or less, where no more is there; all octets, behind a faulty length; and
+-- the refusal in a forbidden frame's place, with all octets dropped
 abbrev pub Passes : Phase → List ℕ → List ℕ → List ℕ → Phase → Type 0
 Passes phases.Head held octets after phase = ⊥
 Passes (phases.Frame left) held octets after phase = (held ≡ octets ++ after)
-    × (length octets ≤ left) × (length octets ≡ left ⊎ after ≡ []) × (phase ≡ behind left (length octets))
+    × (((length octets ≡ left) × (phase ≡ phases.Head))
+    ⊎ ((length octets < left) × (after ≡ []) × (phase ≡ phases.Frame (left - length octets))))
 Passes phases.Faulty held octets after phase = (octets ≡ held) × (after ≡ [])
     × (phase ≡ phases.Faulty)
 Passes phases.Refused held octets after phase = (octets ≡ refusal) × (after ≡ [])

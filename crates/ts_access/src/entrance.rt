@@ -154,6 +154,17 @@ impl Entrance {
         }
     }
 
+    /// Goes on by one step.
+    fn go(&mut self, keys: &[Key]) -> Result<Option<Vec<u8>>, EntranceFault>
+        ensures same { IsSame self.old self.new }
+        ensures takes { Takes keys.now self.old result self.new }
+    {
+        let stage = replace(&mut self.stage, Stage::Closed);
+        let (stage, octets) = stage.step(self.alloc, self.node, keys)?;
+        self.stage = stage;
+        Ok(octets)
+    }
+
     /// Goes on by one step: the next octets to hand on to the reader of frames; or no octets, where
     /// the key was found or a record was opened, and there may be more at the next call; `None`
     /// where there is nothing more without more octets.
@@ -168,10 +179,7 @@ impl Entrance {
         ensures handed { (came handed : List ℕ) → HasHandedOn keys.now self.old came handed
             → HasHandedOn keys.now self.new came (handed ++ handed_by result) }
     {
-        let stage = replace(&mut self.stage, Stage::Closed);
-        let (stage, octets) = stage.step(self.alloc, self.node, keys)?;
-        self.stage = stage;
-        Ok(octets)
+        self.go(keys)
     }
 
     /// Seals 1 to 65,536 octets of the answers into one record, behind other octets; `false` where
@@ -188,10 +196,9 @@ impl Entrance {
         ensures handed { (keys : List Key) (came handed : List ℕ)
             → HasHandedOn keys self.old came handed → HasHandedOn keys self.new came handed }
     {
-        let Stage::Open(line) = &mut self.stage else {
-            return Ok(false);
-        };
-        line.channel.sealer.seal(octets, out)?;
-        Ok(true)
+        match &mut self.stage {
+            Stage::Open(line) => line.seal(octets, out),
+            _ => Ok(false),
+        }
     }
 }

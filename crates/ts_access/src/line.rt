@@ -1,11 +1,11 @@
 //! A connection whose key was found, as a server has it.
 
 ghost use Rattle.std.specs.Prelude.{◌≡◌, ◌+◌, ◌-◌, ◌^◌, length, min, IfErr, IfOk};
-ghost use Rattle.ts_access.specs.Lines.{EndsBy, GoesOn};
+ghost use Rattle.ts_access.specs.Lines.{EndsBy, GoesOn, SealsOn};
 
 use crate::fault::EntranceFault;
 use crate::sieve::Sieve;
-use ts_guard::Channel;
+use ts_guard::{Channel, GuardFault};
 
 /// What comes is opened and sifted, what leaves is sealed.
 #[derive(Drop)]
@@ -39,5 +39,15 @@ impl Line {
         self.sieve.push(&content)?;
         content.truncate(0);
         Ok(Some(content))
+    }
+
+    /// Seals octets into one record, behind other octets.
+    pub(crate) fn seal(&mut self, octets: &[u8], out: &mut Vec<u8>) -> Result<bool, GuardFault>
+        ensures { SealsOn self.old octets.now out.old.items result self.new out.new.items }
+    {
+        match self.channel.sealer.seal(octets, out) {
+            Ok(()) => Ok(true),
+            Err(fault) => Err(fault),
+        }
     }
 }

@@ -112,6 +112,17 @@ impl Sieve {
         self.held.len()
     }
 
+    /// Holds a piece, or drops it.
+    fn receive(&mut self, piece: &[u8]) -> Result<(), AllocError>
+        ensures came { OnOk result (Came self.old piece.now self.new) }
+        ensures unchanged { OnErr result (self.new ≡ self.old) }
+    {
+        match self.phase {
+            Phase::Refused => Ok(()),
+            _ => self.held.push(piece),
+        }
+    }
+
     /// Takes the next piece of the stream. Behind a frame that may not be asked it is dropped.
     ///
     /// # Errors
@@ -123,10 +134,7 @@ impl Sieve {
         ensures is { (stream handed : List ℕ) → IsSieve self.old stream handed
             → OnOk result (IsSieve self.new (stream ++ piece.now) handed) }
     {
-        match self.phase {
-            Phase::Refused => Ok(()),
-            _ => self.held.push(piece),
-        }
+        self.receive(piece)
     }
 
     /// Hands on what there is of a frame of which so many octets have not been handed on.
@@ -137,14 +145,16 @@ impl Sieve {
         ensures role { self.new.role ≡ self.old.role }
         ensures node { self.new.node ≡ self.old.node }
     {
-        let count = min(left, self.held.len());
-        let octets = Vec::from_slice(self.alloc, &self.held.octets()[..count])?;
-        self.held.skip(count);
-        self.phase = if count < left {
-            Phase::Frame(left - count)
-        } else {
-            Phase::Head
-        };
+        let count = self.held.len();
+        if count < left {
+            let octets = Vec::from_slice(self.alloc, self.held.octets())?;
+            self.held.clear();
+            self.phase = Phase::Frame(left - count);
+            return Ok(octets);
+        }
+        let octets = Vec::from_slice(self.alloc, &self.held.octets()[..left])?;
+        self.held.skip(left);
+        self.phase = Phase::Head;
         Ok(octets)
     }
 
@@ -176,16 +186,9 @@ impl Sieve {
         Ok(octets)
     }
 
-    /// The next octets to hand on, of one frame at most; `None` where there are none, or too few to
-    /// say whether their frame may be asked.
-    ///
-    /// # Errors
-    ///
-    /// Memory that is refused. Nothing changes then.
-    pub fn take(&mut self) -> Result<Option<Vec<u8>>, AllocError>
-        ensures sifts { Sifts self.old result self.new }
-        ensures is { (stream handed : List ℕ) → IsSieve self.old stream handed
-            → IsSieve self.new stream (handed ++ handed_by result) }
+    /// Hands on the next octets.
+    fn sift(&mut self) -> Result<Option<Vec<u8>>, AllocError>
+        ensures { Sifts self.old result self.new }
     {
         if self.held.len() == 0 {
             return Ok(None);
@@ -201,5 +204,19 @@ impl Sieve {
             Phase::Refused => self.refuse()?,
         };
         Ok(Some(octets))
+    }
+
+    /// The next octets to hand on, of one frame at most; `None` where there are none, or too few to
+    /// say whether their frame may be asked.
+    ///
+    /// # Errors
+    ///
+    /// Memory that is refused. Nothing changes then.
+    pub fn take(&mut self) -> Result<Option<Vec<u8>>, AllocError>
+        ensures sifts { Sifts self.old result self.new }
+        ensures is { (stream handed : List ℕ) → IsSieve self.old stream handed
+            → IsSieve self.new stream (handed ++ handed_by result) }
+    {
+        self.sift()
     }
 }
