@@ -1,11 +1,11 @@
 -- Texts that are cut at marks.
-use Rattle.std.proofs.Common.{◌≡◌, ◌∙◌, refl, sym, ℕ, ◌+◌, ◌<◌, true, false, Option, List, [], ◌∷◌}
+use Rattle.std.proofs.Common.{◌≡◌, ℕ, ◌+◌, ◌<◌, true, false, List, [], ◌∷◌}
 use Rattle.std.proofs.Common.{length, take, drop, get_or, arith}
 use Rattle.std.specs.List.{position_or_len}
 use Rattle.std.proofs.lemmas.List.Splits.{slice_split_first, slice_split_none}
 use Rattle.std.proofs.lemmas.List.Sums.{position_or_len_is}
 use Rattle.std.proofs.lemmas.List.Elements.{All-from_get_or}
-use Rattle.ts_access.specs.Pieces.{has_octets, is_mark, pieces_of}
+use Rattle.ts_access.specs.Pieces.{is_mark, pieces_of}
 use Rattle.ts_access.specs.declared.piece.Mark.{Mark}
 
 -- where none of the octets before a mark is one, the first piece ends there

@@ -1,8 +1,8 @@
 -- What a connection has handed on after one more call.
-use Rattle.std.proofs.Common.{◌≡◌, ◌⊎◌, ◌+◌, ◌∙◌, ℕ, List, [], ◌∷◌, ◌++◌, length, drop, refl, sym, ap}
+use Rattle.std.proofs.Common.{◌≡◌, ◌+◌, ◌∙◌, ℕ, List, [], ◌∷◌, ◌++◌, length, sym, ap}
 use Rattle.std.proofs.Common.{subst, inl, inr, append_assoc, Option, Some, None, Result, Ok}
 use Rattle.std.proofs.Common.{Err, arith, length-append}
-use Rattle.std.specs.List.{AllByRecursion, concat}
+use Rattle.std.specs.List.{concat}
 use Rattle.std.specs.declared.vec.Vec.{Vec}
 use Rattle.std.specs.declared.alloc.Global.{Global}
 use Rattle.std.proofs.lemmas.List.{append-nil}
@@ -13,8 +13,7 @@ use Rattle.ts_guard.specs.declared.challenger.Challenger.{Challenger}
 use Rattle.ts_guard.specs.declared.hello.Greeting.{Greeting}
 use Rattle.ts_guard.specs.declared.opener.Opener.{Opener}
 use Rattle.ts_access.specs.Entered.{HasHandedOn, IsAt, IsVouched, Talks, Tells, Vouches, comes}
-use Rattle.ts_access.specs.Entering.{Greets, HasCome, IsBegun, IsSame, Steps, Takes}
-use Rattle.ts_access.specs.Keys.{key_found}
+use Rattle.ts_access.specs.Entering.{IsBegun, IsSame, Steps, Takes}
 use Rattle.ts_access.specs.Lines.{GoesOn, HandsOn, OpensOne}
 use Rattle.ts_access.specs.Sifted.{Admits, IsSieve}
 use Rattle.ts_access.specs.Sifting.{handed_by}

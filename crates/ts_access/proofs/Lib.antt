@@ -4,3 +4,4 @@ pub mod Numbers
 pub mod Reading
 pub mod Runs
 pub mod Sieves
+pub mod Written

@@ -1,15 +1,14 @@
 -- What a connection has handed on after calls in any order.
-use Rattle.std.proofs.Common.{◌≡◌, ◌∙◌, ℕ, List, [], ◌∷◌, ◌++◌, refl, sym, ap, subst, append_assoc}
+use Rattle.std.proofs.Common.{◌≡◌, ◌∙◌, ℕ, List, [], ◌∷◌, ◌++◌, sym, ap, subst, append_assoc}
 use Rattle.std.proofs.Common.{Bool, Result}
 use Rattle.std.specs.List.{concat}
 use Rattle.std.proofs.lemmas.List.{append-nil}
 use Rattle.std.proofs.lemmas.List.Folds.{concat-append}
-use Rattle.ts_guard.specs.Opening.{HasCome as Receives, IsOpenerFor}
+use Rattle.ts_guard.specs.Opening.{HasCome as Receives}
 use Rattle.ts_guard.specs.declared.fault.GuardFault.{GuardFault}
-use Rattle.ts_guard.specs.declared.opener.Opener.{Opener}
 use Rattle.ts_access.specs.Calls.{Call, Calls, Pushed, Sealed, Took, came_in, handed_in}
 use Rattle.ts_access.specs.Entered.{HasHandedOn, IsAt, IsFromHolder, Talks, Tells, Vouches, comes}
-use Rattle.ts_access.specs.Entering.{HasCome, IsSame, SealsIn}
+use Rattle.ts_access.specs.Entering.{HasCome, SealsIn}
 use Rattle.ts_access.specs.Sifted.{IsSieve}
 use Rattle.ts_access.specs.Sifting.{handed_by}
 use Rattle.ts_access.specs.declared.entrance.Entrance.{Entrance}

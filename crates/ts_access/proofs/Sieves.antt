@@ -1,21 +1,20 @@
 -- What a sieve has handed on after one more call.
-use Rattle.std.proofs.Common.{◌≡◌, ◌≢◌, ◌⊎◌, ◌≤◌, ◌<◌, ◌+◌, ◌-◌, ◌∙◌, ◌^◌, ℕ, List, [], ◌∷◌, ◌++◌}
-use Rattle.std.proofs.Common.{length, take, true, false, refl, sym, ap, subst, arith, inl, inr}
+use Rattle.std.proofs.Common.{◌≡◌, ◌≢◌, ◌⊎◌, ◌≤◌, ◌<◌, ◌+◌, ◌-◌, ◌∙◌, ℕ, List, [], ◌∷◌, ◌++◌}
+use Rattle.std.proofs.Common.{length, take, true, refl, sym, ap, subst, arith, inl, inr}
 use Rattle.std.proofs.Common.{append_assoc, length-append, Result, Ok, Err, Option, Some, None, OnOk}
 use Rattle.std.specs.declared.vec.Vec.{Vec}
 use Rattle.std.specs.declared.alloc.AllocError.{AllocError}
 use Rattle.std.specs.declared.alloc.Global.{Global}
 use Rattle.std.specs.List.{AllByRecursion, concat}
-use Rattle.std.specs.Int.{to_be_bytes, w32}
 use Rattle.std.proofs.lemmas.List.{append-nil, take_all, take-append-le}
 use Rattle.std.proofs.lemmas.List.Folds.{concat-append}
 use Rattle.std.proofs.Math.Seq.{take-append_seam}
 use Rattle.ts_access.specs.Roles.{may, may_ask}
-use Rattle.ts_access.specs.Frames.{Heads, IsAllowed, IsFaulty, IsForbidden, IsLength, IsPart, IsShort}
+use Rattle.ts_access.specs.Frames.{Heads, IsAllowed, IsFaulty, IsForbidden, IsPart}
 use Rattle.ts_access.specs.Frames.{Says}
 use Rattle.ts_access.specs.Sifting.{Came, Goes, Hands, Passes, Sifts, Starts}
 use Rattle.ts_access.specs.Sifting.{handed_by, held_after, refusal}
-use Rattle.ts_access.specs.Sifted.{Admits, Ends, IsSieve, shown}
+use Rattle.ts_access.specs.Sifted.{Admits, IsSieve, shown}
 use Rattle.ts_access.specs.declared.key.Role.{Role}
 use Rattle.ts_access.specs.declared.key.Role.TheVariants.{Peer, Admin, Reader}
 use Rattle.ts_access.specs.declared.sieve.Phase.{Phase}

@@ -1,5 +1,5 @@
 -- Texts in lines, and lines in words.
-use Rattle.std.specs.Prelude.{ℕ, ◌==◌, ◌||◌, Bool, true, false, nat_eq, List, [], ◌∷◌, Option, None, Some}
+use Rattle.std.specs.Prelude.{ℕ, ◌||◌, Bool, true, false, nat_eq, List, [], ◌∷◌, Option, None, Some}
 use Rattle.std.specs.List.{filter, slice_split}
 use Rattle.ts_access.specs.declared.piece.Mark.{Mark}
 use Rattle.ts_access.specs.declared.piece.Mark.TheVariants.{LineFeed, Blank}

@@ -1,6 +1,6 @@
 -- What was handed on of a stream of frames: whole frames that the role may ask, and then a part of
 -- one more, or a faulty length and what follows it, or the refusal of a forbidden frame.
-use Rattle.std.specs.Prelude.{◌≡◌, ℕ, List, [], ◌∷◌, ◌++◌}
+use Rattle.std.specs.Prelude.{◌≡◌, ℕ, List, [], ◌++◌}
 use Rattle.std.specs.List.{AllByRecursion, concat}
 use Rattle.ts_access.specs.Frames.{IsAllowed, IsFaulty, IsForbidden, IsPart}
 use Rattle.ts_access.specs.Sifting.{refusal}

@@ -1,12 +1,14 @@
 //! Laws about connections with keys. Each is the contract of a function that does nothing.
 
-ghost use Rattle.std.specs.Prelude.{◌<◌, ◌^◌, [], ℕ, List, length};
+ghost use Rattle.std.specs.Prelude.{◌≡◌, ◌<◌, ◌^◌, [], ℕ, List, length};
 ghost use Rattle.ts_guard.specs.Session.{Fits};
 ghost use Rattle.ts_guard.specs.Streams.{AreSeals, NoneForged, Seal, SealedAs};
 ghost use Rattle.ts_guard.specs.declared.session.Direction.TheVariants.{FromClient};
 ghost use Rattle.ts_access.specs.Calls.{Call, Calls, came_in, handed_in};
 ghost use Rattle.ts_access.specs.Entered.{HasHandedOn, IsFromHolder, IsVouched, Vouches};
 ghost use Rattle.ts_access.specs.Entered.{session_of};
+ghost use Rattle.ts_access.specs.Keys.{IsKeyLine, IsRole, line_text};
+ghost use Rattle.hex.specs.Hex.{IsBytes};
 ghost use Rattle.ts_access.specs.declared.entrance.Entrance.{Entrance};
 ghost use Rattle.ts_access.specs.declared.key.Key.{Key};
 
@@ -38,3 +40,9 @@ pub fn from_the_holder_of_a_key()
     // For its clause alone.
     front_of_what_was_sealed();
 }
+
+/// The line that is written of a key names it.
+pub fn reads_what_it_writes()
+    ensures { (key : Key) → key.id < 2 ^ 32 → IsRole key.role → length key.secret ≡ 32
+        → IsBytes key.secret → IsKeyLine (line_text key) key }
+{}

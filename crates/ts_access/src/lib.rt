@@ -21,20 +21,30 @@
 //!
 //! What is proved of each call:
 //!
-//! - [`read_keys`]: the keys are exactly those that the lines name, in their order, each number once;
-//!   or a fault is the first line that is none, the number that is named again, or the limit
-//!   (`specs/Keys`).
-//! - [`key_line`]: a line that names this key.
+//! - [`read_keys`]: the keys are what the lines add, one after another; or the fault is that of the
+//!   first line that adds none, or that the text is too long (`specs/Keys`, `specs/Pieces`).
+//! - [`key_line`]: the line that names this key ([`laws::reads_what_it_writes`]).
 //! - [`key_of`]: the first key of this number.
 //! - [`may`]: whether a role may ask this of a node (`specs/Roles`).
-//! - [`Sieve`]: of a stream of frames what a role may ask, as it comes, up to the first frame that
-//!   the role may not ask (`specs/Sifting`).
-//! - [`Entrance`], [`Visitor`]: what each call does with what came (`specs/Entering`,
-//!   `specs/Visiting`).
+//! - [`Sieve::push`], [`Sieve::take`]: what is held and handed on (`specs/Sifting`), and that of the
+//!   stream so far it is whole frames that the role may ask, and a part of one more, or a faulty
+//!   length and what follows, or the refusal of a forbidden frame (`specs/Sifted`).
+//! - [`Entrance::hello`], [`Visitor::hello`]: the octets of the challenge, of the greeting.
+//! - [`Entrance::push`], [`Entrance::take`], [`Entrance::seal`]: the step from one stage to another
+//!   or exactly why there is none, and then nothing is let through any more (`specs/Entering`,
+//!   `specs/Lines`); and what was handed on of what came (`specs/Entered`).
+//! - [`Visitor::push`], [`Visitor::take`], [`Visitor::seal`]: the same of a client, which hands on
+//!   each content (`specs/Visiting`).
+//! - [`laws::only_what_the_role_may_ask`]: over every list of calls in any order: what came is a
+//!   greeting that names a key and records with this key's tags on this connection, and what was
+//!   handed on is what the key's role may ask of their contents.
+//! - [`laws::from_the_holder_of_a_key`]: if nobody else makes a key's tags, that is of a front of
+//!   what was sealed with it on this connection.
 //!
 //! # Not promised
 //!
-//! That the 32 octets of a challenge or a nonce are random, that a secret is secret, and all that
+//! That the keys are the same ones at each call (the laws are about calls with one list of keys), that
+//! the 32 octets of a challenge or a nonce are random, that a secret is secret, and all that
 //! `ts_guard` does not promise.
 #![tactic(auto)]
 
