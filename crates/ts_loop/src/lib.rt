@@ -1,17 +1,34 @@
-//! Many connections, served at once by one thread, over the sockets of `mio`.
+//! Many connections, served at once by one thread, over the sockets of `mio`; and what a node
+//! carries to its peers.
 //!
 //! ```text
-//! let counts = serve_all(&rt, alloc, &mut server, "127.0.0.1:7001", &Limits::usual())?;
+//! let limits = Limits::usual();
+//! let group = Group { carries: true, peers, tells: true };      // peers: node and address of each
+//! let mut access = Access { node: 1, keyring: Some(keyring), own: Some(key), open: false };
+//! let at = "10.0.0.1:7001";
+//! let counts = serve_all(&rt, alloc, &mut server, at, &limits, &group, &mut access)?;
 //! ```
 //!
 //! A round waits for events, at most 50 ms; accepts what waits; then visits each connection that has
-//! something to do: one read, at most 64 requests, one write, from a slot on that moves with each
-//! round. So no client keeps another from being answered for longer than a round takes. A
-//! connection that is late (`ts_links`) is closed. Where all slots are taken, the connection that
-//! has been idle longest makes room for a new one; where none is idle, the new one is closed. An
-//! `accept` that fails is counted, and tried again after 100 ms. After a fault in a frame's place
-//! its answer is written, the writing side is ended, and what still comes is read and dropped until
-//! the client ends or the time is over: else the system could take the answer away.
+//! something to do: one read, at most 64 requests, one write, from the slot on that is behind the
+//! one whose command was taken last. So no client keeps another from being answered for longer than
+//! a round takes, and of several that submit each has its turn. A connection that is late
+//! (`ts_links`) is closed. Where all slots are taken, the connection that has been idle longest
+//! makes room for a new one, or, where keys are wanted, the one that has shown none for the longest
+//! time; where there is none, the new one is closed. An `accept` that fails is counted, and tried
+//! again after 100 ms. After a fault in a frame's place its answer is written, the writing side is
+//! ended, and what still comes is read and dropped until the client ends or the time is over: else
+//! the system could take the answer away.
+//!
+//! Where keys are wanted, a lock stands between a socket and its connection (`ts_access`): what
+//! comes is handed on as the key's role may ask it, what leaves is sealed. A connection that shows no
+//! key for as long as a request may take is closed, and each is after an hour. The file of keys is
+//! read again within a second of its change.
+//!
+//! With a group the loop is also a client of its own node: on a connection without a socket it takes
+//! the node's messages, hands the node those to itself at once, and puts the others on a line to
+//! each peer, which is dialed again where it breaks (`ts_carrier`). While a command of a client is
+//! under way no other is taken; it is proposed again where its round was lost.
 //!
 //! A sync of the node's disks stops the round, and every connection waits for it.
 //!
@@ -19,14 +36,19 @@
 //!   `ts_links` were made from connections of which none was open, and the server is after a `Run`
 //!   of turns: those of the requests that these moves take, in their order. So the law
 //!   `ts_links::each_is_answered` speaks of each connection. `sound`: the node is.
+//! - [`laws::each_speaks_for_itself`]: of the frames that `ts_access` hands on: a peer's key brings
+//!   messages of that peer to this node alone, and only an admin's brings a command.
 //! - [`Counts`]: what was done, for whoever watches.
+//! - [`pause`]: some time passes, for a client that asks again.
 //!
 //! # Not promised
 //!
 //! Nothing says what a socket gives or takes: that the octets of a move `Came` are those that came,
-//! and those of `Left` reach the client, is the work of `read_once` and `write_once` in `door`.
-//! Nor that anything is accepted, read or written, that the system's time is right, or that a round
-//! ends soon. `bench/hostile` tries these over the loopback. What is counted.
+//! or that the lock let through, and those of `Left` reach the client, is the work of `read_once`
+//! and `write_once` in `door` and of `lock`. Nor that anything is accepted, read, written or
+//! carried, that a line brings only what the node gave, that the system's time is right, or that a
+//! round ends soon. `bench/hostile`, `tools/forge` and `bench/group` try these over the loopback.
+//! What is counted.
 #![tactic(auto)]
 
 mod accepting;
@@ -39,6 +61,7 @@ mod fault;
 mod frames;
 mod group;
 mod keyring;
+pub mod laws;
 mod limits;
 mod line;
 mod lock;
