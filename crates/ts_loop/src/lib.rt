@@ -9,10 +9,10 @@
 //! let counts = serve_all(&rt, alloc, &mut server, at, &limits, &group, &mut access)?;
 //! ```
 //!
-//! A round waits for events, at most 50 ms; accepts what waits; then visits each connection that has
-//! something to do: one read, at most 64 requests, one write, from the slot on that is behind the
-//! one whose command was taken last. So no client keeps another from being answered for longer than
-//! a round takes, and of several that submit each has its turn. A connection that is late
+//! A round waits for events, at most 50 ms; accepts what waits; then visits each connection that
+//! has something to do: one read, at most 64 requests, one write, from the slot on that is behind
+//! the one whose command was taken last. So no client keeps another from being answered for longer
+//! than a round takes, and of several that submit each has its turn. A connection that is late
 //! (`ts_links`) is closed. Where all slots are taken, the connection that has been idle longest
 //! makes room for a new one, or, where keys are wanted, the one that has shown none for the longest
 //! time; where there is none, the new one is closed. An `accept` that fails is counted, and tried
@@ -21,20 +21,20 @@
 //! the system could take the answer away.
 //!
 //! Where keys are wanted, a lock stands between a socket and its connection (`ts_access`): what
-//! comes is handed on as the key's role may ask it, what leaves is sealed. A connection that shows no
-//! key for as long as a request may take is closed, and each is after an hour. The file of keys is
-//! read again within a second of its change.
+//! comes is handed on as the key's role may ask it, what leaves is sealed. A connection that shows
+//! no key for as long as a request may take is closed, and each is after an hour. The file of keys
+//! is read again within a second of its change.
 //!
-//! With a group the loop is also a client of its own node: on a connection without a socket it takes
-//! the node's messages, hands the node those to itself at once, and puts the others on a line to
-//! each peer, which is dialed again where it breaks (`ts_carrier`). While a command of a client is
-//! under way no other is taken; it is proposed again where its round was lost.
+//! With a group the loop is also a client of its own node: on a connection without a socket it
+//! takes the node's messages, hands the node those to itself at once, and puts the others on a line
+//! to each peer, which is dialed again where it breaks (`ts_carrier`). While a command of a client
+//! is under way no other is taken; it is proposed again where its round was lost.
 //!
 //! A sync of the node's disks stops the round, and every connection waits for it.
 //!
-//! - [`serve_all`]: `served`: whatever the sockets give, in whatever pieces and order, only moves of
-//!   `ts_links` were made from connections of which none was open, and the server is after a `Run`
-//!   of turns: those of the requests that these moves take, in their order. So the law
+//! - [`serve_all`]: `served`: whatever the sockets give, in whatever pieces and order, only moves
+//!   of `ts_links` were made from connections of which none was open, and the server is after a
+//!   `Run` of turns: those of the requests that these moves take, in their order. So the law
 //!   `ts_links::each_is_answered` speaks of each connection. `sound`: the node is.
 //! - [`laws::each_speaks_for_itself`]: of the frames that `ts_access` hands on: a peer's key brings
 //!   messages of that peer to this node alone, and only an admin's brings a command.
