@@ -132,7 +132,7 @@ fn ordered(alloc: Global, order: &[usize]) -> Result<Vec<u8>, EntranceFault> {
     server.push(&octets)?;
     server.take(KEYS)?;
     let mut back = Vec::new(alloc);
-    server.seal(REQUESTS[0], &mut back)?;
+    server.seal(b"status", &mut back)?;
     let sets = [own, old, other];
     for place in order {
         let one = sets.get(*place / 3).and_then(|set| set.get(*place % 3));
