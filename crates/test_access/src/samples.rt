@@ -36,7 +36,8 @@ pub(crate) const REQUESTS: &[&[u8]] = &[
 ];
 
 /// The same, one after another.
-pub(crate) const ALL: &[u8] = b"\x00\x00\x00\x02\x02\x15\x00\x00\x00\x05\x02\x11abc\x00\x00\x00\x02\x02\x13";
+pub(crate) const ALL: &[u8] =
+    b"\x00\x00\x00\x02\x02\x15\x00\x00\x00\x05\x02\x11abc\x00\x00\x00\x02\x02\x13";
 
 /// How many octets of these are handed on, by how many records came.
 pub(crate) const HANDED: [usize; 4] = [0, 6, 6, 21];

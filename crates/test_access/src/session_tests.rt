@@ -1,7 +1,8 @@
 //! Sessions, and everything that can be wrong with one.
 
 use crate::samples::{
-    ALL, CHALLENGE, HANDED, KEYS, NONCE, REQUESTS, drain, greeting, handed, records, session, visitor,
+    ALL, CHALLENGE, HANDED, KEYS, NONCE, REQUESTS, drain, greeting, handed, records, session,
+    visitor,
 };
 use std::alloc::Global;
 use std::test::Fail;
@@ -131,7 +132,7 @@ fn ordered(alloc: Global, order: &[usize]) -> Result<Vec<u8>, EntranceFault> {
     server.push(&octets)?;
     server.take(KEYS)?;
     let mut back = Vec::new(alloc);
-    server.seal(REQUESTS[0], &mut back)?;
+    server.seal(b"status", &mut back)?;
     let sets = [own, old, other];
     for place in order {
         let one = sets.get(*place / 3).and_then(|set| set.get(*place % 3));
@@ -148,7 +149,11 @@ fn hands_on_the_session_in_its_order_alone(rt: HostRuntime) -> Result<(), Fail> 
             Err(_) => Vec::from_slice(rt.alloc(), b"fault")?,
         };
         let octets = HANDED.get(*count).copied().unwrap_or(0);
-        assert_eq!(rt; got.as_slice(), ALL.get(..octets).unwrap_or(b"-"), "{order:?}");
+        assert_eq!(rt;
+            got.as_slice(),
+            ALL.get(..octets).unwrap_or(b"-"),
+            "{order:?}"
+        );
     }
     Ok(())
 }

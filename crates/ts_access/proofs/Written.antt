@@ -1,5 +1,6 @@
 -- The line that is written of a key names it.
-use Rattle.std.proofs.Common.{◌≡◌, ◌∙◌, ◌+◌, ◌≤◌, ◌<◌, ◌^◌, ℕ, List, [], ◌∷◌, ◌++◌, length, codes, refl, sym, ap}
+use Rattle.std.proofs.Common.{◌≡◌, ◌∙◌, ◌+◌, ◌≤◌, ◌<◌, ◌^◌, ℕ, List, [], ◌∷◌, ◌++◌}
+use Rattle.std.proofs.Common.{length, codes, refl, sym, ap}
 use Rattle.std.proofs.Common.{subst, arith, true, false, cond, Ok}
 use Rattle.std.specs.List.{filter, onto_first, slice_split}
 use Rattle.std.specs.Fmt.{decimal}

@@ -29,7 +29,8 @@ pub record IsGreeted (challenger : Challenger) (greeting : Greeting) : Type 0 wh
       ≡ greeting_octets greeting.key_id greeting.nonce ++ drop 42 challenger.held
 
 -- the connection of the key that the greeting names
-pub record IsBegun (node : ℕ) (keys : List Key) (challenger : Challenger) (line : Line) : Type 0 where
+pub record IsBegun (node : ℕ) (keys : List Key) (challenger : Challenger) (line : Line)
+    : Type 0 where
   pub greeting : Greeting
   pub key : Key
   pub greets : IsGreeted challenger greeting

@@ -1,5 +1,5 @@
--- What the holder of a key may ask of a node. A frame is u32 length | u8 version | u8 kind | fields,
--- and the fields of a message between nodes begin with u8 from | u8 to.
+-- What the holder of a key may ask of a node. A frame is u32 length | u8 version | u8 kind |
+-- fields, and the fields of a message between nodes begin with u8 from | u8 to.
 use Rattle.std.specs.Prelude.{ℕ, Bool, false, ◌||◌, ◌&&◌, nat_eq, nat_le, List, ◌∷◌}
 use Rattle.ts_access.specs.declared.key.Role.{Role}
 use Rattle.ts_access.specs.declared.key.Role.TheVariants.{Peer, Admin, Reader}

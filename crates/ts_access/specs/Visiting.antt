@@ -90,7 +90,8 @@ has_begun (visits.Open channel) = true
 has_begun visit = false
 
 -- a record of it was sealed, and nothing else changed
-abbrev pub SealsNext : Channel → List ℕ → List ℕ → Result Bool GuardFault → Channel → List ℕ → Type 0
+abbrev pub SealsNext : Channel → List ℕ → List ℕ → Result Bool GuardFault → Channel → List ℕ
+    → Type 0
 SealsNext old octets before result new after = (new.opener ≡ old.opener)
     × IsSealed old.sealer octets before result new.sealer after
 

@@ -1,6 +1,7 @@
 //! The server's side of a connection with keys.
 
-ghost use Rattle.std.specs.Prelude.{◌≡◌, ◌-◌, ◌^◌, ◌++◌, [], ℕ, List, min, false, OnOk, OnErr, MatchResult};
+ghost use Rattle.std.specs.Prelude.{◌≡◌, ◌-◌, ◌^◌, ◌++◌, [], ℕ, List, min, false, OnOk, OnErr};
+ghost use Rattle.std.specs.Prelude.{MatchResult};
 ghost use Rattle.ts_guard.specs.Hello.{challenge_octets};
 ghost use Rattle.ts_access.specs.Entered.{HasHandedOn};
 ghost use Rattle.ts_access.specs.Entering.{Greets, HasCome, IsSame, IsUngreeted, Steps, Stops};

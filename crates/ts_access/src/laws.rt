@@ -26,8 +26,8 @@ pub fn only_what_the_role_may_ask()
         → IsVouched keys entrance.node entrance.challenge came handed }
 {}
 
-/// If nobody but the holders of a key makes its tags, then what was handed on is what the key's role
-/// may ask of a front of what was sealed with it on this connection.
+/// If nobody but the holders of a key makes its tags, then what was handed on is what the key's
+/// role may ask of a front of what was sealed with it on this connection.
 pub fn from_the_holder_of_a_key()
     ensures { (keys : List Key) (node : ℕ) (challenge came handed : List ℕ)
         (v : Vouches keys node challenge came handed) (seals : List Seal)

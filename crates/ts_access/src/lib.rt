@@ -2,10 +2,10 @@
 //!
 //! ```text
 //! let keys = read_keys(alloc, b"7 admin 000102..1f\n")?;
-//! let mut server = Entrance::new(alloc, node, challenge);      // server.hello() goes to the client
-//! let mut client = Visitor::new(alloc, 7, secret, nonce);      // client.hello() goes to the server
+//! let mut server = Entrance::new(alloc, node, challenge);     // server.hello() goes to the client
+//! let mut client = Visitor::new(alloc, 7, secret, nonce);     // client.hello() goes to the server
 //! client.push(&server.hello())?;
-//! client.take()?;                                              // Some(no octets): it has begun
+//! client.take()?;                                             // Some(no octets): it has begun
 //! client.seal(&request, &mut out)?;
 //! server.push(&client.hello())?;
 //! server.push(&out)?;
@@ -15,9 +15,9 @@
 //! server.seal(&answer, &mut out)?;
 //! ```
 //!
-//! The crate has values alone: no socket, no file, no clock, no randomness. Below it `ts_guard` lets
-//! through what was sealed with a key; here the key is found by the number that the client names,
-//! and of what was let through only what the key's role may ask is handed on, frame by frame.
+//! The crate has values alone: no socket, no file, no clock, no randomness. Below it `ts_guard`
+//! lets through what was sealed with a key; here the key is found by the number that the client
+//! names, and of what was let through only what the key's role may ask is handed on, frame by frame.
 //!
 //! What is proved of each call:
 //!
@@ -26,8 +26,8 @@
 //! - [`key_line`]: the line that names this key ([`laws::reads_what_it_writes`]).
 //! - [`key_of`]: the first key of this number.
 //! - [`may`]: whether a role may ask this of a node (`specs/Roles`).
-//! - [`Sieve::push`], [`Sieve::take`]: what is held and handed on (`specs/Sifting`), and that of the
-//!   stream so far it is whole frames that the role may ask, and a part of one more, or a faulty
+//! - [`Sieve::push`], [`Sieve::take`]: what is held and handed on (`specs/Sifting`), and that of
+//!   the stream so far it is whole frames that the role may ask, and a part of one more, or a faulty
 //!   length and what follows, or the refusal of a forbidden frame (`specs/Sifted`).
 //! - [`Entrance::hello`], [`Visitor::hello`]: the octets of the challenge, of the greeting.
 //! - [`Entrance::push`], [`Entrance::take`], [`Entrance::seal`]: the step from one stage to another
@@ -43,8 +43,8 @@
 //!
 //! # Not promised
 //!
-//! That the keys are the same ones at each call (the laws are about calls with one list of keys), that
-//! the 32 octets of a challenge or a nonce are random, that a secret is secret, and all that
+//! That the keys are the same ones at each call (the laws are about calls with one list of keys),
+//! that the 32 octets of a challenge or a nonce are random, that a secret is secret, and all that
 //! `ts_guard` does not promise.
 #![tactic(auto)]
 

@@ -1,7 +1,8 @@
 //! What a role may ask of a node.
 
 ghost use Rattle.std.specs.Prelude.{◌≡◌};
-ghost use Rattle.ts_access.specs.Roles.{is_change, is_message, is_question, is_turned, may, may_ask};
+ghost use Rattle.ts_access.specs.Roles.{is_change, is_message, is_question, is_turned};
+ghost use Rattle.ts_access.specs.Roles.{may, may_ask};
 
 use crate::key::Role;
 
@@ -49,8 +50,8 @@ fn may_ask(role: Role, node: u8, kind: u8, fields: &[u8]) -> bool
     }
 }
 
-/// Whether a key of this role may ask of the node what a frame asks. The frame is all of its octets,
-/// or the first eight.
+/// Whether a key of this role may ask of the node what a frame asks. The frame is all of its
+/// octets, or the first eight.
 pub fn may(role: Role, node: u8, frame: &[u8]) -> bool
     ensures { result ≡ may role node frame.now }
 {

@@ -38,7 +38,8 @@ pub enum Phase {
     Refused,
 }
 
-/// Hands on a stream of frames as it comes, up to the first frame that a role may not ask of a node.
+/// Hands on a stream of frames as it comes, up to the first frame that a role may not ask of a
+/// node.
 #[derive(Drop)]
 pub struct Sieve {
     alloc: Global,
@@ -139,8 +140,8 @@ impl Sieve {
 
     /// Hands on what there is of a frame of which so many octets have not been handed on.
     fn pass(&mut self, left: usize) -> Result<Vec<u8>, AllocError>
-        ensures passes { IfOk result (λ octets. Passes (phases.Frame left) self.old.held octets.items
-            self.new.held self.new.phase) }
+        ensures passes { IfOk result (λ octets. Passes (phases.Frame left) self.old.held
+            octets.items self.new.held self.new.phase) }
         ensures unchanged { OnErr result (self.new ≡ self.old) }
         ensures role { self.new.role ≡ self.old.role }
         ensures node { self.new.node ≡ self.old.node }
