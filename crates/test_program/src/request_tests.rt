@@ -95,43 +95,21 @@ fn a_command_is_submitted_and_a_question_asked(rt: HostRuntime) -> Result<(), Fa
     Ok(())
 }
 
-/// Replies to the question, and what they mean.
-const REPLIES: &[(Reply, &str)] = &[
-    (
-        Reply::NotYet { prefix: 3 },
-        "the node knows 3 commands, fewer than the question is about\n",
-    ),
-    (
-        Reply::NoPath,
-        "no chain of these certificates is valid under a trust anchor of the store\n",
-    ),
-    (
-        Reply::Malformed {
-            index: 1,
-            fault: 1,
-            place: 7,
-        },
-        "certificate 1 of the question is none: it breaks the rule at octet 7\n",
-    ),
-    (
-        Reply::Invalid {
-            position: 1,
-            reason: Reason::Expired,
-        },
-        "no certificate has this place\n",
-    ),
-];
-
 #[test]
 fn replies_are_explained(rt: HostRuntime) -> Result<(), Fail> {
     let alloc = rt.alloc();
     let Some(question) = Question::read(alloc, QUESTION)? else {
         panic!(&rt; "no question");
     };
-    for (reply, wanted) in REPLIES {
-        let text = explained(alloc, &question, reply)?;
-        assert_eq!(rt; text.as_slice(), wanted.as_bytes());
-    }
+    let text = explained(alloc, &question, &Reply::NotYet { prefix: 3 })?;
+    let wanted = b"the node knows 3 commands, fewer than the question is about\n";
+    assert!(rt; text.as_slice() == wanted.as_slice());
+    let expired = Reply::Invalid {
+        position: 1,
+        reason: Reason::Expired,
+    };
+    let text = explained(alloc, &question, &expired)?;
+    assert!(rt; text.as_slice() == b"no certificate has this place\n".as_slice());
     Ok(())
 }
 
