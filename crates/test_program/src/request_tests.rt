@@ -10,8 +10,9 @@ use std::alloc::{AllocError, Global};
 use std::test::Fail;
 use ts_answer::Answers;
 use ts_disk::MemDisk;
+use ts_explain::explained;
 use ts_node::Node;
-use ts_question::Question;
+use ts_question::{Question, Reason, Reply};
 use ts_record::Record;
 use ts_serve::{Server, ServerPeer, carry};
 use ts_sig::DigestCheck;
@@ -91,6 +92,24 @@ fn a_command_is_submitted_and_a_question_asked(rt: HostRuntime) -> Result<(), Fa
         ask(alloc, &mut peers[0], question)?.as_str(),
         "ask 1 Malformed 1 Truncated\n"
     );
+    Ok(())
+}
+
+#[test]
+fn replies_are_explained(rt: HostRuntime) -> Result<(), Fail> {
+    let alloc = rt.alloc();
+    let Some(question) = Question::read(alloc, QUESTION)? else {
+        panic!(&rt; "no question");
+    };
+    let text = explained(alloc, &question, &Reply::NotYet { prefix: 3 })?;
+    let wanted = b"the node knows 3 commands, fewer than the question is about\n";
+    assert!(rt; text.as_slice() == wanted.as_slice());
+    let expired = Reply::Invalid {
+        position: 1,
+        reason: Reason::Expired,
+    };
+    let text = explained(alloc, &question, &expired)?;
+    assert!(rt; text.as_slice() == b"no certificate has this place\n".as_slice());
     Ok(())
 }
 

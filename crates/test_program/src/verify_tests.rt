@@ -43,6 +43,18 @@ const LINES: &[(&str, Result<bool, Fault>)] = &[
         Ok(false),
     ),
     (
+        "--anchor ts_tasks_verify.pem --at 20270101000000Z --policy 1.2.3 --json ts_tasks_verify.pem",
+        Ok(true),
+    ),
+    (
+        "--anchor ts_tasks_verify.pem --at 20270101000000Z --policy 1.2.3 --explicit ts_tasks_verify.pem",
+        Ok(false),
+    ),
+    (
+        "--anchor ts_tasks_verify.pem --crl ts_tasks_verify.pem ts_tasks_verify.pem",
+        Err(Fault::Field),
+    ),
+    (
         "--anchor ts_tasks_verify.pem --host a..b ts_tasks_verify.pem",
         Err(Fault::Field),
     ),

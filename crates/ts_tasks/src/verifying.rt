@@ -208,20 +208,24 @@ fn views_of<'a>(rt: &impl Eprint, alloc: Global, given: &'a Given) -> Result<Vie
     })
 }
 
-/// What path validation is asked beside the certificates. Revocation is hard where there are CRLs,
-/// unless the words say otherwise.
-fn inputs_of<'a>(words: &VerifyWords, moment: Moment, views: &'a Views<'a>) -> Inputs<'a> {
-    let has_crls = !views.lists.is_empty() || !views.deltas.is_empty();
+/// What path validation is asked beside the certificates, with these policies and this purpose.
+fn inputs_of<'a>(
+    words: &VerifyWords,
+    moment: Moment,
+    policies: &'a [&'a [u8]],
+    purpose: Option<&'a [u8]>,
+    hard: bool,
+) -> Inputs<'a> {
     Inputs {
         moment,
-        purpose: views.purpose,
-        user_policies: &views.policies,
+        purpose,
+        user_policies: policies,
         explicit_policy: words.explicit,
         inhibit_policy_mapping: words.nomap,
         inhibit_any_policy: words.noany,
         permitted_subtrees: &[],
         excluded_subtrees: &[],
-        hard: has_crls && !words.soft,
+        hard,
         use_deltas: words.deltas,
     }
 }
@@ -240,25 +244,38 @@ fn print_report<R: AllocGlobal + Print>(
     put(rt, &text(alloc, report)?)
 }
 
-/// Judges what is given, and prints the verdict and what it means. Whether the chain is valid.
-fn judge<R: AllocGlobal + Print + Eprint>(
+/// Judges what was read, and prints the verdict and what it means. Whether the chain is valid.
+/// Revocation is hard where there are CRLs, unless the words say otherwise.
+fn judge<'a, R: AllocGlobal + Print + Eprint>(
     rt: &R,
     words: &VerifyWords,
     moment: Moment,
-    given: &Given,
-) -> Result<bool, Fault> {
+    host: Option<Host<'_>>,
+    views: Views<'a>,
+) -> Result<bool, Fault>
+    requires anchored { 1 ≤ length views.anchors.items }
+    requires some { 1 ≤ length views.certificates.items }
+    requires few { length views.certificates.items ≤ 33 }
+{
     let alloc = rt.alloc();
-    let host = host_of(rt, words)?;
-    let views = views_of(rt, alloc, given)?;
-    let inputs = inputs_of(words, moment, &views);
+    let Views {
+        anchors,
+        certificates,
+        lists,
+        deltas,
+        policies,
+        purpose,
+    } = views;
+    let hard = !words.soft && (!lists.is_empty() || !deltas.is_empty());
+    let inputs = inputs_of(words, moment, &policies, purpose, hard);
     let crls = Crls {
-        lists: &views.lists,
-        deltas: &views.deltas,
+        lists: &lists,
+        deltas: &deltas,
     };
     let report = verify(
         alloc,
-        &views.certificates,
-        &views.anchors,
+        &certificates,
+        &anchors,
         &inputs,
         &crls,
         host,
@@ -288,5 +305,7 @@ pub fn verify_files<R: AllocGlobal + Files + Clock + Print + Eprint>(
         policies: policies_of(alloc, words)?,
         purpose: purpose_of(alloc, words)?,
     };
-    judge(rt, words, moment, &given)
+    let host = host_of(rt, words)?;
+    let views = views_of(rt, alloc, &given)?;
+    judge(rt, words, moment, host, views)
 }
