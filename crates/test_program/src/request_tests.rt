@@ -90,7 +90,7 @@ fn a_command_is_submitted_and_a_question_asked(rt: HostRuntime) -> Result<(), Fa
     };
     assert_eq!(rt;
         ask(alloc, &mut peers[0], question)?.as_str(),
-        "ask 1 Malformed 1 Truncated\n"
+        "ask 2 Malformed 1 Truncated\n"
     );
     Ok(())
 }

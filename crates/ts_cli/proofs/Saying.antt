@@ -7,7 +7,7 @@ use Rattle.ts_cli.specs.Serving.{IsServe, IsServable}
 use Rattle.ts_cli.specs.declared.serve_words.ServeWords.{ServeWords}
 use Rattle.ts_cli.specs.Says.{SaysTask, SaysAny, IsInRange}
 use Rattle.ts_cli.specs.declared.task.Task.{Task}
-use Rattle.ts_cli.specs.declared.task.Task.TheVariants.{Lab, Format, Migrate, Serve, Verify, Submit, Ask, Carry, Status, CatchUp, Compact, Command, Question, Id, Show}
+use Rattle.ts_cli.specs.declared.task.Task.TheVariants.{Lab, Format, Migrate, Serve, Verify, Submit, Ask, Carry, Status, CatchUp, Compact, Command, Question, Id, Show, Keygen}
 
 pub says_any : (own : List Row) (name : Text) (rows : List Row) (task : Task) → SaysTask name rows task → SaysAny own name rows task
 says_any own name rows (Command words) says = absurd says
@@ -17,12 +17,13 @@ says_any own name rows (Format file id nodes) says = says
 says_any own name rows (Migrate old new) says = says
 says_any own name rows (Serve words) says = says
 says_any own name rows (Verify words) says = says
-says_any own name rows (Submit address file wait) says = says
-says_any own name rows (Ask address file check explain) says = says
+says_any own name rows (Submit reach file wait) says = says
+says_any own name rows (Ask reach file check explain) says = says
 says_any own name rows (Carry addresses rounds) says = says
-says_any own name rows (Status address) says = says
-says_any own name rows (CatchUp address) says = says
-says_any own name rows (Compact address) says = says
+says_any own name rows (Status reach) says = says
+says_any own name rows (CatchUp reach) says = says
+says_any own name rows (Compact reach) says = says
+says_any own name rows (Keygen role) says = says
 says_any own name rows (Id file) says = says
 says_any own name rows (Show file) says = says
 
@@ -56,13 +57,14 @@ in_range own name rows (Carry addresses rounds) says =
     (omega (arith, count, says.least), omega (arith, count, says.most), says.rounds_is.is.from, says.rounds_is.is.to)
 in_range own name rows Lab says = tt
 in_range own name rows (Migrate old new) says = tt
-in_range own name rows (Submit address file wait) says =
+in_range own name rows (Submit reach file wait) says =
     to-most (first_of (codes "wait") rows) 1 3600 0 wait says.1 (omega arith)
-in_range own name rows (Ask address file check explain) says = tt
+in_range own name rows (Ask reach file check explain) says = tt
 in_range own name rows (Command words) says = tt
 in_range own name rows (Question words) says = tt
-in_range own name rows (Status address) says = tt
-in_range own name rows (CatchUp address) says = tt
-in_range own name rows (Compact address) says = tt
+in_range own name rows (Status reach) says = tt
+in_range own name rows (CatchUp reach) says = tt
+in_range own name rows (Compact reach) says = tt
+in_range own name rows (Keygen role) says = tt
 in_range own name rows (Id file) says = tt
 in_range own name rows (Show file) says = tt
