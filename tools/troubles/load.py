@@ -128,7 +128,7 @@ class Load:
 
     def start(self):
         nodes = [node.number for node in self.stage.nodes]
-        for place, number in enumerate(nodes * 2):
+        for place, number in enumerate(nodes + nodes[:2]):
             self.threads.append(Submitter(self, f"s{place}", number))
         for place, number in enumerate(nodes):
             self.threads.append(Asker(self, f"q{place}", number))
@@ -215,15 +215,15 @@ class Submitter(Talker):
 
     def turn(self):
         command, node = self.load.command(), self.some_node()
-        is_done = self.submit(node, command)
+        is_done = self.submit(node, command, self.chance.choice((1.5, 10, 10, 10)))
         if self.chance.random() < 0.06:
-            self.submit(self.chance.choice(self.load.stage.nodes).number, command)
+            self.submit(self.chance.choice(self.load.stage.nodes).number, command, 10)
         until = time.monotonic() + self.chance.choice((0, 4, 4, 8))
         while not is_done and time.monotonic() < until and not self.load.stopping.is_set():
             self.load.stopping.wait(POLL)
             if self.chance.random() < 0.02:
                 node = self.some_node()
-                is_done = self.submit(node, command)
+                is_done = self.submit(node, command, 10)
             else:
                 is_done = self.outcome(node, command)
         self.load.stopping.wait(self.chance.random() * 0.15)

@@ -7,7 +7,7 @@ import books
 import plan
 import wire
 from judge import Judge
-from load import History, Load, octets_of
+from load import History, Load, Talker, octets_of
 
 # After this many seconds a group that was healed and doesn't know all commands is a fault.
 LATEST, PROMPT = 60, 10
@@ -24,6 +24,8 @@ class Run:
         self.active, self.events, self.shift = [], 0, 0.0
         self.healing, self.healed, self.samples, self.seconds = None, [], {}, []
         self.restarts, self.compacting = {}, {}
+        # When nothing was troubled.
+        self.calm, self.calm_since = [], None
 
     # ---- what is said
 
@@ -38,8 +40,12 @@ class Run:
 
     def begin(self, it):
         self.events += 1
+        if self.calm_since is not None:
+            self.calm.append((self.calm_since, self.stage.clock()))
+            self.calm_since = None
         self.say(f"begins: {plan.words(it)}")
-        self.active.append(it)
+        if it["until"] > it["at"]:
+            self.active.append(it)
         getattr(self, "begin_" + it["kind"], self.set_ways)(it)
 
     def end(self, it):
@@ -179,11 +185,6 @@ class Run:
             self.judge.find(f"a second server ended with {status}: {text[-200:]}",
                             node=node.number)
 
-    def end_second(self, _it):
-        pass
-
-    end_replay = end_second
-
     # ---- healing
 
     def heal(self, _it=None):
@@ -209,7 +210,7 @@ class Run:
         if not behind:
             self.healed.append(took)
             self.say(f"all nodes know them {took:.2f} s after healing")
-            self.healing = None
+            self.healing, self.calm_since = None, self.stage.clock()
         elif took > LATEST:
             for number in behind:
                 known = self.stage.node(number).answers(2)
@@ -288,16 +289,36 @@ class Run:
         while self.healing:
             self.tick()
 
-    def level(self):
-        """Waits until all nodes know the same number of commands, with no load."""
-        begun = self.stage.clock()
-        while self.stage.clock() < begun + LATEST:
+    def submit_at_each(self):
+        """Once all is healed, each node has a command settled that is submitted there."""
+        for node in self.stage.nodes:
+            talker, command = Talker(self.load, "last", node.number), self.load.command("noop")
+            begun, tried, is_done = self.stage.clock(), -10, False
+            while not is_done and self.stage.clock() < begun + LATEST:
+                if self.stage.clock() > tried + 10:
+                    tried = self.stage.clock()
+                    is_done = talker.submit(node.number, command, 10)
+                else:
+                    time.sleep(0.05)
+                    is_done = talker.outcome(node.number, command)
+            if not is_done:
+                self.judge.find(f"a command isn't settled {LATEST} s after it was submitted, when "
+                                "all is healed", node=node.number)
+
+    def level(self, still):
+        """Waits until all nodes know the same number of commands, with no load, and no more for so
+        many seconds: a command that a client gave up may still wait at a node."""
+        begun = since = self.stage.clock()
+        before = None
+        while self.stage.clock() < begun + 3 * LATEST:
             known = [node.answers(2) for node in self.stage.nodes]
-            if None not in known and len(set(known)) == 1 and known[0] >= self.load.highest:
+            if known != before or None in known:
+                before, since = known, self.stage.clock()
+            if len(set(known)) == 1 and self.stage.clock() > since + still:
                 return known[0]
             self.supervise()
             time.sleep(0.1)
-        self.judge.find(f"{LATEST} s after the load ended the nodes know {known}, and "
+        self.judge.find(f"{3 * LATEST} s after the load ended the nodes know {known}, and "
                         f"{self.load.highest} are settled", node=0)
         return min(k or 0 for k in known)
 
@@ -326,6 +347,13 @@ class Run:
             self.judge.find(f"{what} isn't answered at the end", entry)
         elif what == "outcome" and answer.kind != wire.SETTLED and key in self.judge.ids:
             self.judge.find(f"id {key.hex()} was settled, and is not known", entry)
+
+    def unanswered(self):
+        """How many requests had no answer, and how many of them while nothing was troubled."""
+        none = [entry for entry in self.history.entries if entry.answer is None]
+        calm = sum(any(begin <= entry.begun and entry.ended <= end for begin, end in self.calm)
+                   for entry in none)
+        return len(none), calm
 
     def availability(self):
         """Of the seconds in which a node reached a majority all the time, in how many a command

@@ -8,6 +8,7 @@ import sys
 import tempfile
 import threading
 import time
+from array import array
 
 import wire
 from load import History, Load, Talker, octets_of
@@ -15,6 +16,8 @@ from material import Lab
 from stage import Stage
 
 CLIENTS = 4
+# Of how many questions at k the answer is kept.
+MOST = 500_000
 
 
 class Soaker(Talker):
@@ -55,17 +58,20 @@ class Notes:
     """How long answers took, and what is wrong with them. Of the replies a hash is kept."""
 
     def __init__(self):
-        self.times, self.replies, self.wrong, self.lock = [], {}, [], threading.Lock()
-        self.none = 0
+        self.at, self.took, self.none = array("d"), array("d"), 0
+        self.replies, self.wrong, self.lock = {}, [], threading.Lock()
 
     def take(self, now, took, answer, check):
         with self.lock:
-            self.times.append((now, took))
+            self.at.append(now)
+            self.took.append(took)
             if answer is None:
                 self.none += 1
             elif check and check[1] is not None and answer.kind == wire.ANSWER:
                 key, value = hash(check), hash(answer.reply)
-                if self.replies.setdefault(key, value) != value and len(self.replies) < 2_000_000:
+                if len(self.replies) < MOST:
+                    self.replies.setdefault(key, value)
+                if self.replies.get(key, value) != value:
                     self.wrong.append(f"WRONG at {now:.1f} s: a question at {check[1]} is answered "
                                       f"otherwise than before: {answer.reply.hex()}")
 
@@ -88,8 +94,8 @@ def size_of(node):
     return rss, len(os.listdir(f"/proc/{node.process.pid}/fd"))
 
 
-def percentile(times, begin, end, share):
-    took = sorted(took for at, took in times if begin <= at < end)
+def percentile(notes, begin, end, share):
+    took = sorted(took for at, took in zip(notes.at, notes.took) if begin <= at < end)
     return 1000 * took[int(len(took) * share)] if took else float("nan")
 
 
@@ -113,7 +119,7 @@ def main(options):
         shutil.rmtree(logs, ignore_errors=True)
     for line in notes.wrong:
         print(line)
-    print(f"{len(notes.times)} requests, {len(notes.times) - notes.none} answers judged, "
+    print(f"{len(notes.at)} requests, {len(notes.at) - notes.none} answers judged, "
           f"{len(notes.wrong)} wrong")
     return 1 if notes.wrong or notes.none else 0
 
@@ -130,12 +136,12 @@ def watch(seconds, stage, load, notes):
         rss, files = size_of(stage.node(1))
         own = resource.getrusage(resource.RUSAGE_SELF).ru_maxrss
         print(f"  {(stage.clock() - begun) / 60:6.1f} min: {rss} KiB, {files} open files, "
-              f"{load.highest} commands, {len(notes.times)} requests (the tool: {own} KiB)",
+              f"{load.highest} commands, {len(notes.at)} requests (the tool: {own} KiB)",
               flush=True)
     load.stop()
     for name, begin in (("first", 0.0), ("last", 0.9)):
         first = begun + seconds * begin
-        times = [percentile(notes.times, first, first + seconds / 10, s) for s in (0.5, 0.99)]
+        times = [percentile(notes, first, first + seconds / 10, s) for s in (0.5, 0.99)]
         print(f"latency in the {name} tenth: {times[0]:.2f} ms in the middle, {times[1]:.2f} ms at "
               "99 in a hundred")
     sys.stdout.flush()
