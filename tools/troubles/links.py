@@ -3,9 +3,10 @@ to what passes what it is told on standard input, a line of JSON each.
 
 A way is up, or holds what comes ("hold", in one or both directions), loses it ("void"), or ends its
 connections and takes none ("cut"). It may delay, end a connection in the middle of a frame, and
-drop, repeat or swap messages between nodes; a dropped message is answered in the node's place, as a
-node that got it and lost it would. Requests other than messages always pass. Messages that passed
-may be sent again much later ("replay")."""
+drop, repeat or swap messages between nodes, or send some of them late, when others have overtaken
+them. Such a message is answered in the node's place, as a node that got it and lost it would.
+Requests other than messages always pass. Messages that passed may be sent again much later
+("replay")."""
 import asyncio
 import collections
 import json
@@ -16,7 +17,7 @@ import sys
 
 DONE_0 = bytes.fromhex("00000006022000000000")
 UP = {"mode": "up", "there": True, "back": True, "delay": 0, "jitter": 0, "snap": 0, "drop": 0,
-      "twice": 0, "swap": 0}
+      "twice": 0, "swap": 0, "late": 0, "kinds": [], "by": 0}
 
 
 async def frame_of(reader):
@@ -58,8 +59,16 @@ class Link:
         self.changed = asyncio.Event()
 
     async def replay(self, count):
-        """Sends messages that passed before again, on a connection of its own."""
-        frames = [self.chance.choice(self.seen) for _ in range(count)] if self.seen else []
+        """Sends messages that passed before again."""
+        await self.send([self.chance.choice(self.seen) for _ in range(count)] if self.seen else [])
+
+    async def send_late(self, frame):
+        """Sends a message after others that were made behind it."""
+        await asyncio.sleep(self.now["by"] * self.chance.random())
+        await self.send([frame])
+
+    async def send(self, frames):
+        """Sends messages on a connection of their own."""
         try:
             reader, writer = await asyncio.wait_for(asyncio.open_connection(*self.target), 2)
             for frame in frames:
@@ -149,7 +158,10 @@ class Passage:
             writer.write(frame)
             return await writer.drain()
         link.seen.append(frame)
-        if link.happens("drop"):
+        is_late = frame[5] in link.now["kinds"] and link.happens("late")
+        if is_late:
+            asyncio.ensure_future(link.send_late(frame))
+        if is_late or link.happens("drop"):
             self.expected.append("made up")
             return self.make_up()
         frames = [frame]

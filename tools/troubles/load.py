@@ -9,7 +9,7 @@ import time
 
 import wire
 
-POLL = 0.03
+POLL = 0.05
 KINDS = ("noop",) * 9 + ("add",) * 4 + ("load",) * 5 + ("withdraw",) * 3 + ("drop",) * 2 + (
     "purposes", "malformed")
 
@@ -215,7 +215,8 @@ class Submitter(Talker):
 
     def turn(self):
         command, node = self.load.command(), self.some_node()
-        is_done = self.submit(node, command, self.chance.choice((1.5, 10, 10, 10)))
+        patience = 1.5 if self.chance.random() < 0.05 else 10
+        is_done = self.submit(node, command, patience)
         if self.chance.random() < 0.06:
             self.submit(self.chance.choice(self.load.stage.nodes).number, command, 10)
         until = time.monotonic() + self.chance.choice((0, 4, 4, 8))
@@ -268,16 +269,18 @@ def octets_of(what, k):
 
 
 class Probe(Talker):
-    """Submits a command each second to its home node, and looks whether it is settled within one.
-    What it saw is kept by the second in which it began."""
+    """Submits a command to its home node, the next one a second later, and looks whether it is
+    settled within one. What it saw is kept by the seconds; while it waits none is good."""
 
     def turn(self):
-        load, begun = self.load, self.load.stage.clock()
-        command = load.command("noop")
-        is_done = self.submit(self.home, command, 1.0)
-        while not is_done and load.stage.clock() < begun + 1 and not load.stopping.is_set():
+        load, clock = self.load, self.load.stage.clock
+        command, begun = load.command("noop"), clock()
+        is_done = self.submit(self.home, command, 10)
+        while not is_done and clock() < begun + 10 and not load.stopping.is_set():
             load.stopping.wait(POLL)
             is_done = self.outcome(self.home, command)
-        took = load.stage.clock() - begun
+        took = clock() - begun
+        for second in range(int(begun) + 1, int(begun + took)):
+            load.probes[self.home, second] = False
         load.probes[self.home, int(begun)] = is_done and took <= 1
         load.stopping.wait(max(0.05, 1 - took))

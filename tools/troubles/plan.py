@@ -4,10 +4,10 @@ A trouble is a dict: `at` and `until` in seconds since the start, `kind`, and wh
 import random
 
 ROUND, QUIET = 30.0, 4.0
-ALL = "cut slow lossy replay kill power blackout flap pause full write sync drag second compact"
-WEIGHTS = {"cut": 9, "slow": 4, "lossy": 5, "replay": 4, "kill": 4, "power": 4, "blackout": 1.2,
-           "flap": 1.2, "pause": 4, "full": 2, "write": 2, "sync": 2, "drag": 3, "second": 1,
-           "compact": 2}
+# How often each kind begins, against the others.
+WEIGHTS = {"cut": 9, "slow": 4, "lossy": 4, "late": 5, "replay": 5, "kill": 4, "power": 4,
+           "blackout": 1.2, "flap": 1.2, "pause": 4, "full": 2, "write": 2, "sync": 2, "drag": 3,
+           "second": 1, "compact": 2}
 # Troubles in which a node is away, or may be.
 DOWN = {"kill", "power", "flap", "pause", "full", "write", "sync"}
 EIO, ENOSPC = 5, 28
@@ -63,6 +63,13 @@ def lossy(chance, nodes):
     return {"ways": some_ways(chance, nodes), "state": {**state, "jitter": chance.choice((0, 20))}}
 
 
+def late(chance, nodes):
+    """Messages of some kinds (1 Prepare to 5 Accepted) come up to seconds too late."""
+    kinds = chance.choice(([4], [4], [4, 5], [5], [2], [2, 5], [1, 4], [1, 2, 3, 4, 5]))
+    state = {"late": chance.choice((0.3, 0.7, 1)), "kinds": kinds, "by": chance.choice((0.3, 1, 4))}
+    return {"ways": some_ways(chance, nodes), "state": state}
+
+
 def about_node(chance, nodes, kind):
     """What a trouble of one node says besides."""
     it = {"node": chance.choice(nodes)}
@@ -81,10 +88,10 @@ def about_node(chance, nodes, kind):
 
 def details(chance, nodes, kind):
     if kind == "replay":
-        return {"ways": some_ways(chance, nodes), "count": chance.choice((5, 30, 100))}
+        return {"ways": some_ways(chance, nodes), "count": chance.choice((10, 50, 150))}
     if kind == "blackout":
         return {}
-    maker = {"cut": cut, "slow": slow, "lossy": lossy}.get(kind)
+    maker = {"cut": cut, "slow": slow, "lossy": lossy, "late": late}.get(kind)
     return maker(chance, nodes) if maker else about_node(chance, nodes, kind)
 
 

@@ -81,6 +81,7 @@ class Node:
         self.stage, self.number = stage, number
         self.folder = os.path.join(stage.folder, f"n{number}")
         self.record = os.path.join(self.folder, "record")
+        self.ballast = os.path.join(self.folder, "ballast")
         self.errors = os.path.join(stage.folder, f"node{number}.err")
         self.control = os.path.join(stage.folder, f"control{number}")
         self.undo = os.path.join(stage.folder, f"undo{number}")
@@ -110,7 +111,7 @@ class Node:
     def fill(self):
         """No room is left on the disk."""
         try:
-            with open(os.path.join(self.folder, "ballast"), "ab", buffering=0) as file:
+            with open(self.ballast, "ab", buffering=0) as file:
                 for size in (1 << 20, 4096, 1):
                     try:
                         while file.write(b"x" * size) == size:
@@ -122,7 +123,7 @@ class Node:
 
     def free(self):
         try:
-            os.remove(os.path.join(self.folder, "ballast"))
+            os.remove(self.ballast)
         except OSError:
             pass
 
@@ -139,11 +140,14 @@ class Node:
 
     def lose_power(self, chance):
         """What a loss of power may do to the files of a node that is dead."""
-        lost = 0
+        lost, was_full = 0, os.path.exists(self.ballast)
+        self.free()
         for n, path in enumerate((self.record, self.record + ".b")):
             log = f"{self.undo}.{n}"
             if os.path.exists(log):
                 lost += undone(path, log, chance)
+        if was_full:
+            self.fill()
         return lost
 
     # ---- the process
