@@ -148,7 +148,7 @@ class Run:
         node = self.stage.node(it["node"])
         node.free()
         node.device({0: 0, 1: 0, 5: 0})
-        node.sick = self.stage.clock() + 5
+        node.sick = self.stage.clock() + 10
 
     end_write = end_sync = end_full
 
@@ -236,7 +236,7 @@ class Run:
         node.wanted = False
         words = node.last_words()
         self.say(f"  node {node.number} ended with {status}: {' '.join(words)}")
-        if status != 1 or now > node.sick:
+        if status != 1 or now > node.sick and node.failures() == node.failed_before:
             self.judge.find(f"it ended with {status}: {' '.join(words)}", node=node.number)
         if any(word in " ".join(words) for word in ("Damaged", "NotFormatted", "OldVersion")):
             self.judge.find(f"its record isn't opened: {' '.join(words)}", node=node.number)

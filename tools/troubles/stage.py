@@ -87,7 +87,7 @@ class Node:
         self.undo = os.path.join(stage.folder, f"undo{number}")
         self.process, self.wanted, self.paused, self.life = None, False, False, 0
         # Until when a failure of the device may be why the process ends.
-        self.sick = 0
+        self.sick, self.failed_before = 0, 0
         self.mounted = False
         with open(self.control, "wb") as file:
             file.write(bytes(32))
@@ -170,6 +170,7 @@ class Node:
             self.process = subprocess.Popen(
                 self.words(), stdin=subprocess.DEVNULL, stdout=errors, stderr=errors,
                 env=self.environment(), preexec_fn=dies_with_tool)
+        self.failed_before = self.failures()
         self.life, self.wanted, self.paused = self.life + 1, True, False
 
     def kill(self):
