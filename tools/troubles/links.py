@@ -15,6 +15,8 @@ import socket
 import struct
 import sys
 
+from watch import Watch
+
 DONE_0 = bytes.fromhex("00000006022000000000")
 UP = {"mode": "up", "there": True, "back": True, "delay": 0, "jitter": 0, "snap": 0, "drop": 0,
       "twice": 0, "swap": 0, "late": 0, "kinds": [], "by": 0}
@@ -29,9 +31,10 @@ async def frame_of(reader):
 class Link:
     """The way from one node to another, and its connections."""
 
-    def __init__(self, chance, port, host, target):
-        self.chance, self.port, self.host, self.target = chance, port, host, target
-        self.now, self.passages = dict(UP), set()
+    def __init__(self, chance, ends, watch, where):
+        self.chance, self.ends, self.watch = chance, ends, watch
+        self.port, self.host, self.target = where[0], where[1], tuple(where[2])
+        self.now, self.passages, self.newest = dict(UP), set(), None
         self.seen = collections.deque(maxlen=400)
         self.changed = asyncio.Event()
 
@@ -45,7 +48,7 @@ class Link:
             there = await asyncio.wait_for(asyncio.open_connection(*self.target), 5)
         except (OSError, asyncio.TimeoutError):
             return reset(writer)
-        passage = Passage(self, (reader, writer), there)
+        passage = self.newest = Passage(self, (reader, writer), there)
         self.passages.add(passage)
         await passage.run()
         self.passages.discard(passage)
@@ -104,7 +107,7 @@ class Passage:
     async def run(self):
         there, back = asyncio.Queue(300), asyncio.Queue(300)
         self.tasks = [asyncio.ensure_future(it) for it in (
-            self.read(self.node[0], there), self.read(self.peer[0], back),
+            self.read(self.node[0], there, self.see), self.read(self.peer[0], back),
             self.carry(there, "there", self.ask), self.carry(back, "back", self.answer))]
         await asyncio.wait(self.tasks, return_when=asyncio.FIRST_COMPLETED)
         self.end()
@@ -116,11 +119,18 @@ class Passage:
         reset(self.node[1])
         reset(self.peer[1])
 
-    async def read(self, reader, queue):
+    def see(self, frame):
+        """What a node sent is watched in the order in which it was made: on the newest of its
+        connections."""
+        if self.link.newest is self:
+            self.link.watch.take(*self.link.ends, frame)
+
+    async def read(self, reader, queue, see=lambda frame: None):
         loop, due = asyncio.get_event_loop(), 0
         try:
             while True:
                 frame, now = await frame_of(reader), self.link.now
+                see(frame)
                 wait = now["delay"] + now["jitter"] * self.link.chance.random()
                 due = max(due, loop.time() + wait / 1000)
                 await queue.put((due, frame))
@@ -191,9 +201,11 @@ class Passage:
 async def main():
     plan = json.loads(sys.argv[1])
     chance = random.Random(plan["seed"])
+    watch = Watch(plan["nodes"], lambda node, what: print(json.dumps([node, what]), flush=True))
     links = {}
-    for name, (port, host, target) in plan["links"].items():
-        links[name] = Link(random.Random(chance.random()), port, host, tuple(target))
+    for name, where in plan["links"].items():
+        ends = int(name[0]), int(name[1])
+        links[name] = Link(random.Random(chance.random()), ends, watch, where)
         await links[name].listen()
     loop = asyncio.get_event_loop()
     reader = asyncio.StreamReader()

@@ -267,6 +267,9 @@ class Run:
         self.sample()
         self.keep_compacting()
         self.judge.catch_up()
+        while self.stage.heard:
+            node, what = self.stage.heard.pop(0)
+            self.judge.find(f"on the way between nodes: {what}", node=node)
         if self.healing:
             self.look_at_healing()
         time.sleep(0.02 if self.compacting else 0.1)

@@ -10,6 +10,7 @@ import socket
 import struct
 import subprocess
 import sys
+import threading
 import time
 
 import wire
@@ -215,7 +216,7 @@ class Stage:
         self.port, self.ways, self.proxy, self.spaces = None, {}, None, []
         self.shim = os.path.join(folder, "disk.so")
         self.nodes = [Node(self, number) for number in range(1, count + 1)]
-        self.states = {}
+        self.states, self.heard = {}, []
 
     def clock(self):
         return time.monotonic() - self.begun
@@ -257,13 +258,19 @@ class Stage:
                     port = self.port + 10 * node.number + other.number
                     self.ways[node.number, other.number] = "127.0.0.1", port
                     links[f"{node.number}{other.number}"] = port, "127.0.0.1", other.address
-        plan = json.dumps({"seed": self.seed * 10 + count, "links": links})
+        plan = json.dumps({"seed": self.seed * 10 + count, "nodes": count, "links": links})
         self.proxy = subprocess.Popen(
             [sys.executable, os.path.join(HERE, "links.py"), plan], stdin=subprocess.PIPE,
             stdout=subprocess.PIPE, stderr=open(os.path.join(self.folder, "links.err"), "wb"),
             text=True, preexec_fn=dies_with_tool)
         if self.proxy.stdout.readline() != "ready\n":
             raise RuntimeError("the lines between the nodes can't be made")
+        threading.Thread(target=self.listen, daemon=True).start()
+
+    def listen(self):
+        """Hears what is wrong with what passes between the nodes."""
+        for line in self.proxy.stdout:
+            self.heard.append(json.loads(line))
 
     def make_spaces(self):
         """A network namespace for each node, on one bridge."""
