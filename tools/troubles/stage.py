@@ -346,7 +346,7 @@ def free_ports(count):
     """The first of so many ports of the loopback that nobody listens at."""
     chance = random.Random(os.getpid())
     for _ in range(100):
-        first = chance.randrange(20000, 60000, 100)
+        first = chance.randrange(20000, 32000, 100)
         held = []
         try:
             for port in range(first, first + count):

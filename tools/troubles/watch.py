@@ -19,7 +19,10 @@ class Watch:
     def __init__(self, nodes, say):
         self.nodes, self.say = nodes, say
         self.promised, self.told = {}, {}
-        # Of a position and ballot: the command, and who has taken it; of a position what is chosen.
+        # Of a position and ballot: whether all promises that were seen report a vote.
+        self.bound = {}
+        # Of a position by ballots: the commands; of both: who has taken it; of a position: what is
+        # chosen.
         self.proposed, self.voters, self.chosen = {}, {}, {}
         self.count = 0
 
@@ -41,6 +44,8 @@ class Watch:
             if kind == PROMISE:
                 self.promise((source, target, position), ballot, rest)
             elif kind in (ACCEPT, ACCEPTED):
+                if kind == ACCEPT:
+                    self.keep_to_votes(source, position, ballot, digest(rest))
                 self.propose(source, position, ballot, digest(rest))
             if kind == ACCEPTED:
                 self.vote((source, target, position), ballot, digest(rest))
@@ -60,13 +65,23 @@ class Watch:
             self.wrong(node, f"its promise of {ballot} at {position} reports a vote for {reported}")
         if vote[0]:
             self.propose(node, position, reported, digest(vote[9:]))
+        key = position, ballot
+        self.bound[key] = self.bound.get(key, True) and vote[0] == 1
         if ballot < self.promised.get(place, 0):
             self.wrong(node, f"it promises {ballot} at {position} after {self.promised[place]}")
         self.promised[place] = max(ballot, self.promised.get(place, 0))
 
+    def keep_to_votes(self, node, position, ballot, command):
+        """Where each promise reports a vote, the command of one is proposed again."""
+        if self.bound.get((position, ballot)) and not any(
+                lower < ballot and old == command
+                for lower, old in self.proposed.get(position, {}).items()):
+            self.wrong(node, f"it proposes another command at {position} with ballot {ballot} than "
+                             "the promises report")
+
     def propose(self, node, position, ballot, command):
         """One command is proposed with a ballot at a position."""
-        old = self.proposed.setdefault((position, ballot), command)
+        old = self.proposed.setdefault(position, {}).setdefault(ballot, command)
         if old != command:
             self.wrong(node, f"two commands at {position} with ballot {ballot}")
 
