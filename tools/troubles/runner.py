@@ -1,6 +1,7 @@
 """A run: the schedule is played on the stage while the load goes on, and the judge looks."""
 import random
 import subprocess
+import threading
 import time
 
 import books
@@ -327,29 +328,32 @@ class Run:
 
     def ask_again(self):
         """Each node is asked for each id and each question that was answered."""
-        asked = list(self.judge.replies)
-        for node in self.stage.nodes:
-            client = wire.Client(node.address)
-            for name, command in self.load.commands.items():
-                if command.first is not None:
-                    self.again(client, node, "outcome", name, wire.frame(wire.OUTCOME, name))
-            for what, k in asked:
-                self.again(client, node, "question", (what, k), octets_of(what, k))
-            client.close()
-            self.judge.catch_up()
+        asked = [("outcome", name, wire.frame(wire.OUTCOME, name))
+                 for name, command in self.load.commands.items() if command.first is not None]
+        asked += [("question", (what, k), octets_of(what, k)) for what, k in self.judge.replies]
+        threads = [threading.Thread(target=self.ask_node, args=(node, asked))
+                   for node in self.stage.nodes]
+        for thread in threads:
+            thread.start()
+        for thread in threads:
+            thread.join()
+        self.judge.catch_up()
         self.judge.unknown_after()
 
-    def again(self, client, node, what, key, octets):
-        for _ in range(3):
+    def ask_node(self, node, asked):
+        client, place, tries = wire.Client(node.address), 0, 0
+        while place < len(asked) and tries < 5:
+            some = asked[place:place + 50]
             begun = self.stage.clock()
-            answer = client.call(octets, 10)
-            entry = self.history.add(begun, "end", node.number, what, key, answer)
-            if answer is not None:
-                break
-        if answer is None:
-            self.judge.find(f"{what} isn't answered at the end", entry)
-        elif what == "outcome" and answer.kind != wire.SETTLED and key in self.judge.ids:
-            self.judge.find(f"id {key.hex()} was settled, and is not known", entry)
+            answers = client.calls([octets for _, _, octets in some], 20)
+            for (what, key, _), answer in zip(some, answers):
+                entry = self.history.add(begun, "end", node.number, what, key, answer)
+                if what == "outcome" and answer.kind != wire.SETTLED and key in self.judge.ids:
+                    self.judge.find(f"id {key.hex()} was settled, and is not known", entry)
+            place, tries = place + len(answers), 0 if answers else tries + 1
+        client.close()
+        if place < len(asked):
+            self.judge.find(f"{asked[place][0]} isn't answered at the end", node=node.number)
 
     def unanswered(self):
         """How many requests had no answer, and how many of them while nothing was troubled."""

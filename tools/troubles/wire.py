@@ -154,16 +154,23 @@ class Client:
         self.it = None
 
     def call(self, octets, timeout):
+        answers = self.calls([octets], timeout)
+        return answers[0] if answers else None
+
+    def calls(self, requests, timeout):
+        """The answers to requests that are sent at once: those that came."""
+        answers = []
         try:
             if self.it is None:
                 self.it = socket.create_connection(self.address, timeout=timeout)
                 self.it.setsockopt(socket.IPPROTO_TCP, socket.TCP_NODELAY, 1)
             self.it.settimeout(timeout)
-            self.it.sendall(octets)
-            return Answer(self.all_of(number(self.all_of(4))))
+            self.it.sendall(b"".join(requests))
+            for _ in requests:
+                answers.append(Answer(self.all_of(number(self.all_of(4)))))
         except (OSError, IndexError, struct.error):
             self.close()
-            return None
+        return answers
 
     def all_of(self, count):
         got = b""
