@@ -158,8 +158,9 @@ class Client:
         return answers[0] if answers else None
 
     def calls(self, requests, timeout):
-        """The answers to requests that are sent at once: those that came."""
-        answers = []
+        """The answers to requests that are sent at once: those that came. Where a connection
+        that was used before has ended, another one is made, once."""
+        answers, is_used = [], self.it is not None
         try:
             if self.it is None:
                 self.it = socket.create_connection(self.address, timeout=timeout)
@@ -168,8 +169,12 @@ class Client:
             self.it.sendall(b"".join(requests))
             for _ in requests:
                 answers.append(Answer(self.all_of(number(self.all_of(4)))))
+        except TimeoutError:
+            self.close()
         except (OSError, IndexError, struct.error):
             self.close()
+            if is_used and not answers:
+                return self.calls(requests, timeout)
         return answers
 
     def all_of(self, count):
