@@ -3,6 +3,7 @@
 `Judge.take` looks at the entries of the history one by one, in the order in which they ended, so
 that a fault is found while the run goes on. It knows of the nodes what they answered, no more."""
 import bisect
+import os
 
 import wire
 
@@ -37,7 +38,8 @@ class Judge:
         """Something is wrong."""
         when = entry.ended if entry else self.load.stage.clock()
         node = entry.node if entry else node
-        place = f"{self.history.path}:{entry.line}" if entry else self.load.stage.folder
+        logs = os.path.dirname(self.history.path)
+        place = f"{self.history.path}:{entry.line}" if entry else f"{logs}/schedule"
         line = f"WRONG at {when:.3f} s, node {node}: {what} ({place})"
         self.wrong.append(line)
         self.log(line)

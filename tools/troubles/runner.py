@@ -82,6 +82,7 @@ class Run:
             f", {lost} writes that weren't synced are lost or torn" if power else ""))
 
     def start_node(self, node):
+        self.restarts.pop(node.number, None)
         if not node.is_up():
             node.start()
 
@@ -228,7 +229,6 @@ class Run:
             if status is not None:
                 self.node_ended(node, status, now)
             elif not node.is_up() and self.restarts.get(node.number, now + 1) <= now:
-                self.restarts.pop(node.number)
                 if not self.keeps_down(node.number):
                     self.start_node(node)
 

@@ -304,11 +304,13 @@ class Stage:
 
     def set_way(self, source, target, state):
         """How the way from a node to another is, for the connections that the first one makes."""
+        if self.net == "spaces" and not state.get("there", True):
+            state = {}
         if self.states.get((source, target), {}) == state:
             return
         self.states[source, target] = state
         if self.net == "spaces":
-            good = state.get("mode", "up") == "up" or not state.get("there", True)
+            good = state.get("mode", "up") == "up"
             self.pass_packets(self.node(source), self.node(target), good)
         else:
             self.tell_way(source, target, state)
