@@ -175,7 +175,7 @@ class Talker(threading.Thread):
         for link in self.links.values():
             link.close()
 
-    def ask(self, node, what, key, octets, timeout=1.5):
+    def ask(self, node, what, key, octets, timeout=3):
         link = self.links.get(node)
         if link is None:
             link = self.links[node] = wire.Client(self.load.stage.node(node).address)
@@ -190,7 +190,7 @@ class Talker(threading.Thread):
             return self.home
         return self.chance.choice(self.load.stage.nodes).number
 
-    def submit(self, node, command, timeout=1.5):
+    def submit(self, node, command, timeout=10):
         with self.load.lock:
             command.sent += 1
             if command.first is None:
@@ -247,7 +247,7 @@ class Asker(Talker):
             self.ask(node, "compact", None, wire.frame(wire.COMPACT))
         else:
             self.ask(node, "catchup", None, wire.frame(wire.CATCH_UP))
-        load.stopping.wait(self.chance.random() * 0.08)
+        load.stopping.wait(self.chance.random() * 0.12)
 
     def question(self, node):
         load = self.load

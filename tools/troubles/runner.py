@@ -12,6 +12,8 @@ from load import History, Load, Talker, octets_of
 
 # After this many seconds a group that was healed and doesn't know all commands is a fault.
 LATEST, PROMPT = 60, 10
+# How many seconds a machine that has much else to do is given at the end.
+PATIENT = 600
 
 
 class Run:
@@ -199,26 +201,27 @@ class Run:
             self.start_node(node)
         self.set_ways()
         target = self.load.highest
-        self.healing = self.stage.clock(), target, {node.number for node in self.stage.nodes}
+        waited = {node.number: node.waited() for node in self.stage.nodes}
+        self.healing = self.stage.clock(), target, waited
         self.say(f"all is healed; {target} commands are known to be settled")
 
     def look_at_healing(self):
+        """Which nodes know all by now. What a node waits for a processor isn't counted."""
         begun, target, behind = self.healing
-        for number in sorted(behind):
-            known = self.stage.node(number).answers(0.3)
-            if known is not None and known >= target:
-                behind.discard(number)
         took = self.stage.clock() - begun
+        for number, waited in sorted(behind.items()):
+            node = self.stage.node(number)
+            known = node.answers(0.3 if took < LATEST else 3)
+            if known is not None and known >= target:
+                del behind[number]
+            elif took - (node.waited() - waited) > LATEST or took > 10 * LATEST:
+                self.judge.find(f"{took:.0f} s after healing it knows {known} of {target}; for "
+                                f"{node.waited() - waited:.0f} s it had no processor", node=number)
+                del behind[number]
         if not behind:
             self.healed.append(took)
             self.say(f"all nodes know them {took:.2f} s after healing")
             self.healing, self.calm_since = None, self.stage.clock()
-        elif took > LATEST:
-            for number in behind:
-                known = self.stage.node(number).answers(2)
-                self.judge.find(f"{took:.0f} s after healing it knows {known} of {target}",
-                                node=number)
-            self.healing = None
 
     # ---- looking after the nodes
 
@@ -298,7 +301,7 @@ class Run:
         for node in self.stage.nodes:
             talker, command = Talker(self.load, "last", node.number), self.load.command("noop")
             begun, tried, is_done = self.stage.clock(), -10, False
-            while not is_done and self.stage.clock() < begun + LATEST:
+            while not is_done and self.stage.clock() < begun + PATIENT:
                 if self.stage.clock() > tried + 10:
                     tried = self.stage.clock()
                     is_done = talker.submit(node.number, command, 10)
@@ -306,7 +309,7 @@ class Run:
                     time.sleep(0.05)
                     is_done = talker.outcome(node.number, command)
             if not is_done:
-                self.judge.find(f"a command isn't settled {LATEST} s after it was submitted, when "
+                self.judge.find(f"a command isn't settled {PATIENT} s after it was submitted, when "
                                 "all is healed", node=node.number)
 
     def level(self, still):
@@ -314,7 +317,7 @@ class Run:
         many seconds: a command that a client gave up may still wait at a node."""
         begun = since = self.stage.clock()
         before = None
-        while self.stage.clock() < begun + 3 * LATEST:
+        while self.stage.clock() < begun + PATIENT:
             known = [node.answers(2) for node in self.stage.nodes]
             if known != before or None in known:
                 before, since = known, self.stage.clock()
@@ -322,7 +325,7 @@ class Run:
                 return known[0]
             self.supervise()
             time.sleep(0.1)
-        self.judge.find(f"{3 * LATEST} s after the load ended the nodes know {known}, and "
+        self.judge.find(f"{PATIENT} s after the load ended the nodes know {known}, and "
                         f"{self.load.highest} are settled", node=0)
         return min(k or 0 for k in known)
 

@@ -194,6 +194,14 @@ class Node:
             return None
         return self.process.poll()
 
+    def waited(self):
+        """For how many seconds the process has waited for a processor that others had."""
+        try:
+            with open(f"/proc/{self.process.pid}/schedstat", encoding="ascii") as file:
+                return int(file.read().split()[1]) / 1e9
+        except (OSError, AttributeError):
+            return 0.0
+
     def last_words(self):
         with open(self.errors, "rb") as file:
             text = file.read().decode(errors="replace")
