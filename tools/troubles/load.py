@@ -176,9 +176,10 @@ class Talker(threading.Thread):
             link.close()
 
     def ask(self, node, what, key, octets, timeout=3):
-        link = self.links.get(node)
+        role = "reader" if what in ("question", "outcome", "status") else "admin"
+        link = self.links.get((node, role))
         if link is None:
-            link = self.links[node] = wire.Client(self.load.stage.node(node).address)
+            link = self.links[node, role] = self.load.stage.node(node).client(role)
         begun = self.load.stage.clock()
         answer = link.call(octets, timeout)
         if answer is None:

@@ -7,7 +7,7 @@ ROUND, QUIET = 30.0, 4.0
 # How often each kind begins, against the others.
 WEIGHTS = {"cut": 9, "slow": 4, "lossy": 4, "late": 5, "replay": 5, "kill": 4, "power": 4,
            "blackout": 1.2, "flap": 1.2, "pause": 4, "full": 2, "write": 2, "sync": 2, "drag": 3,
-           "second": 1, "compact": 2}
+           "second": 1, "compact": 2, "keys": 4}
 # Troubles in which a node is away, or may be.
 DOWN = {"kill", "power", "flap", "pause", "full", "write", "sync"}
 EIO, ENOSPC = 5, 28
@@ -80,6 +80,9 @@ def about_node(chance, nodes, kind):
         it.update(passing=chance.randrange(40), error=EIO, stays=chance.randrange(2))
     elif kind == "drag":
         it.update(micros=chance.choice((3_000, 20_000, 100_000)))
+    elif kind == "keys":
+        it.update(what=chance.choice(("change", "change", "spoil", "leave out")),
+                  peer=chance.choice([node for node in nodes if node != it["node"]]))
     elif kind == "flap":
         it.update(pauses=[round(chance.choice((0.01, 0.05, 0.2, 0.6)) * chance.random(), 3)
                           for _ in range(chance.randrange(2, 7))], power=chance.randrange(2))

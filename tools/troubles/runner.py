@@ -163,10 +163,29 @@ class Run:
         self.stage.node(it["node"]).device({4: 0})
 
     def begin_compact(self, it):
-        self.compacting[it["node"]] = wire.Client(self.stage.node(it["node"]).address)
+        self.compacting[it["node"]] = self.stage.node(it["node"]).client("admin")
 
     def end_compact(self, it):
         self.compacting.pop(it["node"], None)
+
+    def begin_keys(self, it):
+        keys, node = self.stage.keys, it["node"]
+        if it["what"] == "change":
+            keys.announce()
+        elif it["what"] == "spoil":
+            # A node that is started with such a file ends.
+            self.stage.node(node).sick = float("inf")
+            keys.spoil(node)
+        else:
+            keys.leave_out(node, it["peer"])
+
+    def end_keys(self, it):
+        keys, node = self.stage.keys, it["node"]
+        if it["what"] == "change":
+            keys.exchange()
+        else:
+            keys.leave_out(node, None)
+            self.stage.node(node).sick = self.stage.clock() + 10
 
     def begin_second(self, it):
         """A second server of a record is refused, as long as the first one lives."""
@@ -344,7 +363,7 @@ class Run:
         self.judge.unknown_after()
 
     def ask_node(self, node, asked):
-        client, place, tries = wire.Client(node.address), 0, 0
+        client, place, tries = node.client(), 0, 0
         while place < len(asked) and tries < 5:
             some = asked[place:place + 50]
             begun = self.stage.clock()

@@ -30,7 +30,7 @@ class Soaker(Talker):
 
     def turn(self):
         if self.client is None:
-            self.client = wire.Client(self.load.stage.node(1).address)
+            self.client = self.load.stage.node(1).client()
         octets, check = self.request()
         begun = time.perf_counter()
         answer = self.client.call(octets, 10)

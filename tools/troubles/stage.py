@@ -13,6 +13,7 @@ import sys
 import threading
 import time
 
+import keyring
 import wire
 
 HERE = os.path.dirname(os.path.abspath(__file__))
@@ -158,8 +159,14 @@ class Node:
         host, port = listen or self.address
         peers = [f"--peer={other.number}={stage.way(self, other)}" for other in stage.nodes
                  if other is not self]
+        speakers = stage.keys.words(self.number) if stage.keys else ["--open"]
         return stage.inside(self) + [stage.program, "serve", self.record, "--listen",
-                                     f"{host}:{port}", "--open", *peers, *stage.options]
+                                     f"{host}:{port}", *speakers, *peers, *stage.options]
+
+    def client(self, role="reader"):
+        """A connection of a client with this role."""
+        keys = self.stage.keys
+        return wire.Client(self.address, (lambda: keys.clients[role]) if keys else None)
 
     def environment(self):
         return {**os.environ, "LD_PRELOAD": self.stage.shim, "TROUBLE_CONTROL": self.control,
@@ -208,7 +215,7 @@ class Node:
         return [line for line in text.splitlines() if line][-1:]
 
     def answers(self, timeout=0.5):
-        client = wire.Client(self.address)
+        client = self.client()
         answer = client.call(wire.frame(wire.STATUS), timeout)
         client.close()
         return answer.k if answer is not None and answer.kind == wire.PREFIX else None
@@ -217,8 +224,10 @@ class Node:
 class Stage:
     """The group, and what is between its nodes."""
 
-    def __init__(self, program, count, seed, net, disks, options, folder):
+    def __init__(self, program, count, seed, net, disks, options, folder, sealed=False):
         self.program, self.net, self.disks, self.options = program, net, disks, options
+        chance = random.Random(f"keys {seed}")
+        self.keys = keyring.Keys(folder, count, chance) if sealed else None
         self.folder, self.seed, self.begun = folder, seed, time.monotonic()
         self.tag = f"trb{os.getpid() % 100000}"
         self.port, self.ways, self.proxy, self.spaces = None, {}, None, []

@@ -4,6 +4,8 @@ Nothing here is taken from the program: it reads octets by that page alone."""
 import socket
 import struct
 
+import sealed
+
 SUBMIT, QUESTION, OUTCOME, CATCH_UP, STATUS, COMPACT = 0x10, 0x11, 0x13, 0x14, 0x15, 0x16
 DONE, STARTED, SETTLED, ANSWER, UNKNOWN, NODE_FAULT, FRAME_FAULT, PREFIX = range(0x20, 0x28)
 REFUSALS = ("", "AnchorThere", "NoAnchor", "Malformed", "OlderCrl", "CriticalCrlExtension",
@@ -143,10 +145,11 @@ def reply_words(reply, names, anchors):
 
 class Client:
     """A connection to a node, which is made again where it broke. A call answers `None` where no
-    answer came: what was asked may have been done all the same."""
+    answer came: what was asked may have been done all the same. `key` gives the key to connect
+    with, if there are keys."""
 
-    def __init__(self, address):
-        self.address, self.it = address, None
+    def __init__(self, address, key=None):
+        self.address, self.key, self.it = address, key, None
 
     def close(self):
         if self.it is not None:
@@ -163,19 +166,25 @@ class Client:
         answers, is_used = [], self.it is not None
         try:
             if self.it is None:
-                self.it = socket.create_connection(self.address, timeout=timeout)
-                self.it.setsockopt(socket.IPPROTO_TCP, socket.TCP_NODELAY, 1)
+                self.it = self.connect(timeout)
             self.it.settimeout(timeout)
             self.it.sendall(b"".join(requests))
             for _ in requests:
                 answers.append(Answer(self.all_of(number(self.all_of(4)))))
         except TimeoutError:
             self.close()
-        except (OSError, IndexError, struct.error):
+        except (OSError, EOFError, IndexError, struct.error):
             self.close()
             if is_used and not answers:
                 return self.calls(requests, timeout)
         return answers
+
+    def connect(self, timeout):
+        if self.key is not None:
+            return sealed.Channel(self.address, self.key(), timeout)
+        it = socket.create_connection(self.address, timeout=timeout)
+        it.setsockopt(socket.IPPROTO_TCP, socket.TCP_NODELAY, 1)
+        return it
 
     def all_of(self, count):
         got = b""
