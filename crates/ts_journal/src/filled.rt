@@ -61,25 +61,17 @@ pub fn format_with<D: Disk>(
         × (DeviceFailed (D.state a.old) (D.state a.new)
         ⊎ DeviceFailed (D.state b.old) (D.state b.new))) }
 {
-    lay(
-        b,
-        &head_octets(&Owner {
-            node,
-            nodes,
-            group,
-            generation: 0,
-        }),
-        &[0],
-    )?;
-    lay(
-        a,
-        &head_octets(&Owner {
-            node,
-            nodes,
-            group,
-            generation: 1,
-        }),
-        text,
-    )?;
+    let live = Owner {
+        node,
+        nodes,
+        group,
+        generation: 1,
+    };
+    let shut = Owner {
+        generation: 0,
+        ..live
+    };
+    lay(b, &head_octets(&shut), &[0])?;
+    lay(a, &head_octets(&live), text)?;
     put(a, LIVE_GATE, &[1])
 }

@@ -13,32 +13,11 @@ use ts_disk::{Disk, DiskFault};
 pub fn head_octets(owner: &Owner) -> [u8; 24]
     ensures { result ≡ head (header_of_owner owner.now) }
 {
+    let (node, nodes) = (owner.node, owner.nodes);
     let [a, b, c, d, e, f, g, h] = owner.generation.to_be_bytes();
     let [i, j, k, l] = owner.group.to_be_bytes();
     [
-        0x54,
-        0x53,
-        0x52,
-        0x45,
-        0x43,
-        0,
-        0,
-        2,
-        owner.node,
-        owner.nodes,
-        0,
-        0,
-        i,
-        j,
-        k,
-        l,
-        a,
-        b,
-        c,
-        d,
-        e,
-        f,
-        g,
+        0x54, 0x53, 0x52, 0x45, 0x43, 0, 0, 2, node, nodes, 0, 0, i, j, k, l, a, b, c, d, e, f, g,
         h,
     ]
 }
@@ -51,35 +30,12 @@ fn write_head<D: Disk>(disk: &mut D, owner: &Owner, live: u8) -> Result<(), Disk
     ensures fault { IfErr result (λ fault. fault ≡ Failed) }
     ensures cause { HasCause (D.state disk.old) (D.state disk.new) result }
 {
+    let (node, nodes) = (owner.node, owner.nodes);
     let [a, b, c, d, e, f, g, h] = owner.generation.to_be_bytes();
     let [i, j, k, l] = owner.group.to_be_bytes();
     let octets = [
-        0x54,
-        0x53,
-        0x52,
-        0x45,
-        0x43,
-        0,
-        0,
-        2,
-        owner.node,
-        owner.nodes,
-        0,
-        0,
-        i,
-        j,
-        k,
-        l,
-        a,
-        b,
-        c,
-        d,
-        e,
-        f,
-        g,
-        h,
-        live,
-        0,
+        0x54, 0x53, 0x52, 0x45, 0x43, 0, 0, 2, node, nodes, 0, 0, i, j, k, l, a, b, c, d, e, f, g,
+        h, live, 0,
     ];
     disk.write_at(0, &octets)?;
     disk.sync()
@@ -111,24 +67,16 @@ pub fn format<D: Disk>(
         × (DeviceFailed (D.state a.old) (D.state a.new)
         ⊎ DeviceFailed (D.state b.old) (D.state b.new))) }
 {
-    write_head(
-        a,
-        &Owner {
-            node,
-            nodes,
-            group,
-            generation: 1,
-        },
-        1,
-    )?;
-    write_head(
-        b,
-        &Owner {
-            node,
-            nodes,
-            group,
-            generation: 0,
-        },
-        0,
-    )
+    let live = Owner {
+        node,
+        nodes,
+        group,
+        generation: 1,
+    };
+    let shut = Owner {
+        generation: 0,
+        ..live
+    };
+    write_head(a, &live, 1)?;
+    write_head(b, &shut, 0)
 }
