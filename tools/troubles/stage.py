@@ -259,7 +259,7 @@ class Stage:
         for node in self.nodes:
             node.make_disk()
             run(self.program, "format", node.record, "--id", str(node.number), "--nodes",
-                str(len(self.nodes)))
+                str(len(self.nodes)), "--group", "731402")
             node.start()
 
     def make_ways(self):

@@ -7,11 +7,12 @@ use ts_journal::{Choice, Look, Owner, Stage, choose, format, look_at};
 const OWNER: Owner = Owner {
     node: 1,
     nodes: 3,
+    group: 0x0102_0304,
     generation: 1,
 };
 
 const HEAD: [u8; 26] = [
-    0x54, 0x53, 0x52, 0x45, 0x43, 0, 0, 2, 1, 3, 0, 0, 0, 0, 0, 0, 0, 0, 0, 0, 0, 0, 0, 1, 1, 0,
+    0x54, 0x53, 0x52, 0x45, 0x43, 0, 0, 2, 1, 3, 0, 0, 1, 2, 3, 4, 0, 0, 0, 0, 0, 0, 0, 1, 1, 0,
 ];
 
 #[test]
@@ -19,7 +20,7 @@ fn a_format_leaves_the_first_disk_in_use(rt: HostRuntime) -> Result<(), Fail> {
     let alloc = rt.alloc();
     let mut a = MemDisk::new(alloc, Vec::new(alloc))?;
     let mut b = MemDisk::new(alloc, Vec::new(alloc))?;
-    format(&mut a, &mut b, 1, 3)?;
+    format(&mut a, &mut b, 1, 3, 0x0102_0304)?;
     assert_eq!(rt; a.octets(), HEAD.as_slice());
     let looks = (look_at(a.octets()), look_at(b.octets()), look_at(&[]));
     assert_eq!(rt; looks, (Look::Right(OWNER), Look::Shut, Look::Short));

@@ -73,7 +73,7 @@ fn fault_of(alloc: Global, a: &[u8], b: &[u8]) -> Result<Option<Fault>, AllocErr
 fn a_format_writes_a_head_on_each_disk(rt: HostRuntime) -> Result<(), Fail> {
     let alloc = rt.alloc();
     let (mut a, mut b) = (empty(alloc)?, empty(alloc)?);
-    Record::<MemDisk, Word>::format(&mut a, &mut b, 1, 3)?;
+    Record::<MemDisk, Word>::format(&mut a, &mut b, 1, 3, 0)?;
     let heads = (a.octets(), b.octets().len());
     assert_eq!(rt; heads, (HEAD_A.as_slice(), 26));
     Ok(())
@@ -82,7 +82,7 @@ fn a_format_writes_a_head_on_each_disk(rt: HostRuntime) -> Result<(), Fail> {
 /// The disks of a record to which no facts were appended, and then one.
 fn appended(alloc: Global) -> Result<Option<(MemDisk, MemDisk)>, Fail> {
     let (mut a, mut b) = (empty(alloc)?, empty(alloc)?);
-    Record::<MemDisk, Word>::format(&mut a, &mut b, 1, 3)?;
+    Record::<MemDisk, Word>::format(&mut a, &mut b, 1, 3, 0)?;
     let Ok(mut record) = Record::<MemDisk, Word>::open(alloc, a, b) else {
         return Ok(None);
     };
@@ -137,7 +137,7 @@ fn an_append_makes_four_calls(rt: HostRuntime) -> Result<(), Fail> {
 /// The disks of a record to which two facts were appended, and then a third.
 fn with_three_facts(alloc: Global) -> Result<Option<(MemDisk, MemDisk)>, Fail> {
     let (mut a, mut b) = (empty(alloc)?, empty(alloc)?);
-    Record::<MemDisk, Word>::format(&mut a, &mut b, 2, 3)?;
+    Record::<MemDisk, Word>::format(&mut a, &mut b, 2, 3, 0)?;
     let Ok(mut record) = Record::<MemDisk, Word>::open(alloc, a, b) else {
         return Ok(None);
     };
@@ -265,7 +265,7 @@ const CRASHES: [(u64, Torn, bool); 15] = [
 /// is broken then.
 fn stopped(alloc: Global, calls: u64, torn: Torn) -> Result<(usize, Option<Fault>), Fail> {
     let (mut a, mut b) = (empty(alloc)?, empty(alloc)?);
-    Record::<MemDisk, Word>::format(&mut a, &mut b, 1, 3)?;
+    Record::<MemDisk, Word>::format(&mut a, &mut b, 1, 3, 0)?;
     a.set_fuse(calls.saturating_add(2));
     let Ok(mut record) = Record::<MemDisk, Word>::open(alloc, a, b) else {
         return Ok((99, None));
@@ -301,7 +301,7 @@ fn a_crash_leaves_the_facts_before_or_after(rt: HostRuntime) -> Result<(), Fail>
 /// A record of four bodies.
 fn with_four_bodies(alloc: Global) -> Result<Option<(MemDisk, MemDisk)>, Fail> {
     let (mut a, mut b) = (empty(alloc)?, empty(alloc)?);
-    Record::<MemDisk, Word>::format(&mut a, &mut b, 1, 3)?;
+    Record::<MemDisk, Word>::format(&mut a, &mut b, 1, 3, 0)?;
     let Ok(mut record) = Record::<MemDisk, Word>::open(alloc, a, b) else {
         return Ok(None);
     };

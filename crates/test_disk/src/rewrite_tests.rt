@@ -30,7 +30,7 @@ fn rewritten(
     third: usize,
 ) -> Result<Option<(usize, u32, MemDisk, MemDisk)>, Fail> {
     let (mut a, mut b) = (empty(alloc)?, empty(alloc)?);
-    Record::<MemDisk, Word>::format(&mut a, &mut b, 1, 3)?;
+    Record::<MemDisk, Word>::format(&mut a, &mut b, 1, 3, 0)?;
     a.set_fuse(fuse.0);
     b.set_fuse(fuse.1);
     let Ok(mut record) = Record::<MemDisk, Word>::open(alloc, a, b) else {
@@ -129,7 +129,7 @@ fn a_crash_in_a_rewrite_keeps_the_force(rt: HostRuntime) -> Result<(), Fail> {
 fn the_last_generation_is_not_rewritten(rt: HostRuntime) -> Result<(), Fail> {
     let alloc = rt.alloc();
     let (mut a, mut b) = (empty(alloc)?, empty(alloc)?);
-    Record::<MemDisk, Word>::format(&mut a, &mut b, 1, 3)?;
+    Record::<MemDisk, Word>::format(&mut a, &mut b, 1, 3, 0)?;
     let mut image = a.octets().to_vec(alloc)?;
     for i in 16..24 {
         if let Some(octet) = image.get_mut(i) {

@@ -181,7 +181,7 @@ impl Member {
     {
         let mut a = MemDisk::new(alloc, Vec::new(alloc))?;
         let mut b = MemDisk::new(alloc, Vec::new(alloc))?;
-        if Record::<MemDisk, Number>::format(&mut a, &mut b, node, nodes).is_err() {
+        if Record::<MemDisk, Number>::format(&mut a, &mut b, node, nodes, 0).is_err() {
             return Err(AllocError);
         }
         trouble.set(node, false, &mut a);

@@ -19,16 +19,17 @@ const LINES: &[(&str, &str)] = &[
     ("question chain --help", "Help"),
     (
         "format r --id 1 --nodes 3",
-        "Format { file: \"r\", id: 1, nodes: 3 }",
+        "Format { file: \"r\", id: 1, nodes: 3, group: 0 }",
     ),
     (
-        "format r --id 9 --nodes 9",
-        "Format { file: \"r\", id: 9, nodes: 9 }",
+        "format r --id 9 --nodes 9 --group 4294967295",
+        "Format { file: \"r\", id: 9, nodes: 9, group: 4294967295 }",
     ),
     ("format r --id 4 --nodes 3", "Value(Node)"),
     ("format r --id 0 --nodes 3", "Value(Node)"),
     ("format r --id 1 --nodes 10", "Value(Nodes)"),
     ("format r --id 01 --nodes 3", "Value(Node)"),
+    ("format r --id 1 --nodes 3 --group 0", "Value(Group)"),
     ("format r --id 1", "Wrong"),
     ("migrate o n", "Migrate { old: \"o\", new: \"n\" }"),
     ("migrate o", "Wrong"),
@@ -100,6 +101,10 @@ const LINES: &[(&str, &str)] = &[
     (
         "status a:1",
         "Status { reach: Reach { address: \"a:1\", key: None } }",
+    ),
+    (
+        "identify a:1",
+        "Identify { reach: Reach { address: \"a:1\", key: None } }",
     ),
     (
         "catchup a:1",

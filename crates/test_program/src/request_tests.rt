@@ -32,7 +32,7 @@ fn lone(alloc: Global) -> Result<Option<Lone>, AllocError>
 {
     let mut a = MemDisk::new(alloc, Vec::new(alloc))?;
     let mut b = MemDisk::new(alloc, Vec::new(alloc))?;
-    if Record::<MemDisk, Command>::format(&mut a, &mut b, 1, 1).is_err() {
+    if Record::<MemDisk, Command>::format(&mut a, &mut b, 1, 1, 0).is_err() {
         return Ok(None);
     }
     let Ok(node) = Node::open(alloc, a, b, Answers::new(alloc, DigestCheck)) else {

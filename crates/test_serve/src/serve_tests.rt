@@ -49,6 +49,11 @@ const QUESTION_AT_5: &[u8] =
 const ROWS: &[(&[u8], &[u8])] = &[
     (b"", b""),
     (STATUS, b"\x00\x00\x00\x06\x02\x27\x00\x00\x00\x00"),
+    // Node 1 of 1, of no group.
+    (
+        b"\x00\x00\x00\x02\x02\x17",
+        b"\x00\x00\x00\x08\x02\x28\x01\x01\x00\x00\x00\x00",
+    ),
     (SUBMIT, STARTED),
     (OUTCOME, UNKNOWN),
     (
@@ -87,7 +92,7 @@ const FAULTS: &[(&[u8], u8)] = &[
     // An answer, well formed; one that is not; a frame of a kind that there isn't.
     (b"\x00\x00\x00\x07\x02\x23\x00\x00\x00\x01\x04", 3),
     (b"\x00\x00\x00\x07\x02\x23\x00\x00\x00\x01\x0a", 4),
-    (b"\x00\x00\x00\x02\x02\x17", 3),
+    (b"\x00\x00\x00\x02\x02\x18", 3),
     (b"\x00\x00\x00\x03\x02\x15\x00", 5),
 ];
 
@@ -102,7 +107,7 @@ fn server(alloc: Global, me: u8, nodes: u8, passing: u64) -> Result<Option<Serve
 {
     let mut a = MemDisk::new(alloc, Vec::new(alloc))?;
     let mut b = MemDisk::new(alloc, Vec::new(alloc))?;
-    if Record::<MemDisk, Command>::format(&mut a, &mut b, me, nodes).is_err() {
+    if Record::<MemDisk, Command>::format(&mut a, &mut b, me, nodes, 0).is_err() {
         return Ok(None);
     }
     a.set_fuse(passing);

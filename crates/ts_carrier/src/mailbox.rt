@@ -62,6 +62,19 @@ impl Mailbox {
         Ok(is_full)
     }
 
+    /// Makes octets ready to be sent before all frames that wait.
+    ///
+    /// # Errors
+    ///
+    /// Memory that is refused. Nothing changes then.
+    pub fn begin(&mut self, octets: &[u8]) -> Result<(), AllocError>
+        ensures ready { OnOk result (self.new.ready ≡ self.old.ready ++ octets.now) }
+        ensures unchanged { OnErr result (self.new.ready ≡ self.old.ready) }
+        ensures frames { self.new.frames ≡ self.old.frames }
+    {
+        self.ready.push(octets)
+    }
+
     /// Makes the first frame that waits ready to be sent.
     ///
     /// # Errors

@@ -7,13 +7,13 @@ use Rattle.ts_cli.specs.Serving.{IsServe, IsServable}
 use Rattle.ts_cli.specs.declared.serve_words.ServeWords.{ServeWords}
 use Rattle.ts_cli.specs.Says.{SaysTask, SaysAny, IsInRange}
 use Rattle.ts_cli.specs.declared.task.Task.{Task}
-use Rattle.ts_cli.specs.declared.task.Task.TheVariants.{Lab, Format, Migrate, Serve, Verify, Submit, Ask, Carry, Status, CatchUp, Compact, Command, Question, Id, Show, Keygen}
+use Rattle.ts_cli.specs.declared.task.Task.TheVariants.{Lab, Format, Migrate, Serve, Verify, Submit, Ask, Carry, Status, Identify, CatchUp, Compact, Command, Question, Id, Show, Keygen}
 
 pub says_any : (own : List Row) (name : Text) (rows : List Row) (task : Task) → SaysTask name rows task → SaysAny own name rows task
 says_any own name rows (Command words) says = absurd says
 says_any own name rows (Question words) says = absurd says
 says_any own name rows Lab says = says
-says_any own name rows (Format file id nodes) says = says
+says_any own name rows (Format file id nodes group) says = says
 says_any own name rows (Migrate old new) says = says
 says_any own name rows (Serve words) says = says
 says_any own name rows (Verify words) says = says
@@ -21,6 +21,7 @@ says_any own name rows (Submit reach file wait) says = says
 says_any own name rows (Ask reach file check explain) says = says
 says_any own name rows (Carry addresses rounds) says = says
 says_any own name rows (Status reach) says = says
+says_any own name rows (Identify reach) says = says
 says_any own name rows (CatchUp reach) says = says
 says_any own name rows (Compact reach) says = says
 says_any own name rows (Keygen role) says = says
@@ -49,7 +50,7 @@ servable rows words s = record {
 
 -- what is asked for is in range
 pub in_range : (own : List Row) (name : Text) (rows : List Row) (task : Task) → SaysAny own name rows task → IsInRange task
-in_range own name rows (Format file id nodes) says = (says.id_is.is.from, says.id_is.is.to, says.nodes_is.is.to)
+in_range own name rows (Format file id nodes group) says = (says.id_is.is.from, says.id_is.is.to, says.nodes_is.is.to)
 in_range own name rows (Serve words) says = servable rows words says.1
 in_range own name rows (Verify words) says = tt
 in_range own name rows (Carry addresses rounds) says =
@@ -63,6 +64,7 @@ in_range own name rows (Ask reach file check explain) says = tt
 in_range own name rows (Command words) says = tt
 in_range own name rows (Question words) says = tt
 in_range own name rows (Status reach) says = tt
+in_range own name rows (Identify reach) says = tt
 in_range own name rows (CatchUp reach) says = tt
 in_range own name rows (Compact reach) says = tt
 in_range own name rows (Keygen role) says = tt

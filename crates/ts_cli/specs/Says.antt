@@ -24,13 +24,15 @@ use Rattle.ts_cli.specs.declared.question_words.Subject.TheVariants.{Chain, Sear
 use Rattle.ts_cli.specs.declared.task.Task.{Task}
 use Rattle.ts_cli.specs.declared.task.Task.TheVariants.{Lab, Format, Migrate, Serve, Verify, Submit}
 use Rattle.ts_cli.specs.declared.task.Task.TheVariants.{Ask, Carry, Status, CatchUp, Compact, Command}
-use Rattle.ts_cli.specs.declared.task.Task.TheVariants.{Question, Id, Show, Keygen}
+use Rattle.ts_cli.specs.declared.task.Task.TheVariants.{Question, Id, Show, Keygen, Identify}
 
-pub record IsFormat (name : Text) (rows : List Row) (file : Text) (id nodes : ℕ) : Type 0 where
+pub record IsFormat (name : Text) (rows : List Row) (file : Text)
+    (id nodes group : ℕ) : Type 0 where
   pub name_is : name ≡ codes "format"
   pub file_is : IsAt (codes "file") rows file
   pub id_is : IsNumberAt (codes "id") rows 1 nodes id
   pub nodes_is : IsNumberAt (codes "nodes") rows 1 9 nodes
+  pub group_is : IsNumberOr (codes "group") rows 1 4294967295 0 group
 
 pub record IsMigration (name : Text) (rows : List Row) (old new : Text) : Type 0 where
   pub name_is : name ≡ codes "migrate"
@@ -53,7 +55,7 @@ pub record IsCarry (name : Text) (rows : List Row) (addresses : List Text)
   pub most : length addresses ≤ 9
   pub rounds_is : IsNumberAt (codes "rounds") rows 1 1000000 rounds
 
--- `status`, `catchup` and `compact`, by their names
+-- `status`, `identify`, `catchup` and `compact`, by their names
 pub record IsReaching (name expected : Text) (rows : List Row) (reach : Reach) : Type 0 where
   pub name_is : name ≡ expected
   pub reach_is : IsReach rows reach
@@ -172,7 +174,8 @@ SaysQuestion name rows words = IsAsked words.subject name rows
 
 abbrev pub SaysTask : Text → List Row → Task → Type 0
 SaysTask name rows Lab = name ≡ codes "lab"
-SaysTask name rows (Format file id nodes) = IsFormat name rows (string_bytes file) id nodes
+SaysTask name rows (Format file id nodes group) =
+    IsFormat name rows (string_bytes file) id nodes group
 SaysTask name rows (Migrate old new) = IsMigration name rows (string_bytes old) (string_bytes new)
 SaysTask name rows (Serve words) = (name ≡ codes "serve") × IsServe rows words
 SaysTask name rows (Verify words) = (name ≡ codes "verify") × IsVerify rows words
@@ -184,6 +187,7 @@ SaysTask name rows (Ask reach file check explain) =
 SaysTask name rows (Carry addresses rounds) =
     IsCarry name rows (map string_bytes addresses.items) rounds
 SaysTask name rows (Status reach) = IsReaching name (codes "status") rows reach
+SaysTask name rows (Identify reach) = IsReaching name (codes "identify") rows reach
 SaysTask name rows (CatchUp reach) = IsReaching name (codes "catchup") rows reach
 SaysTask name rows (Compact reach) = IsReaching name (codes "compact") rows reach
 SaysTask name rows (Keygen role) = (name ≡ codes "keygen") × IsRole rows role
@@ -197,7 +201,8 @@ abbrev pub SaysAny : List Row → Text → List Row → Task → Type 0
 SaysAny own name rows (Command words) = SaysCommand own name rows words
 SaysAny own name rows (Question words) = SaysQuestion name rows words
 SaysAny own name rows Lab = SaysTask name rows Lab
-SaysAny own name rows (Format file id nodes) = SaysTask name rows (Format file id nodes)
+SaysAny own name rows (Format file id nodes group) =
+    SaysTask name rows (Format file id nodes group)
 SaysAny own name rows (Migrate old new) = SaysTask name rows (Migrate old new)
 SaysAny own name rows (Serve words) = SaysTask name rows (Serve words)
 SaysAny own name rows (Verify words) = SaysTask name rows (Verify words)
@@ -206,6 +211,7 @@ SaysAny own name rows (Ask reach file check explain) =
     SaysTask name rows (Ask reach file check explain)
 SaysAny own name rows (Carry addresses rounds) = SaysTask name rows (Carry addresses rounds)
 SaysAny own name rows (Status reach) = SaysTask name rows (Status reach)
+SaysAny own name rows (Identify reach) = SaysTask name rows (Identify reach)
 SaysAny own name rows (CatchUp reach) = SaysTask name rows (CatchUp reach)
 SaysAny own name rows (Compact reach) = SaysTask name rows (Compact reach)
 SaysAny own name rows (Keygen role) = SaysTask name rows (Keygen role)
@@ -225,7 +231,7 @@ AsksFor words task = Asks (app_in (group_of words)) (words_in (group_of words) w
 
 -- the numbers of a task are in range
 abbrev pub IsInRange : Task → Type 0
-IsInRange (Format file id nodes) = (1 ≤ id) × (id ≤ nodes) × (nodes ≤ 9)
+IsInRange (Format file id nodes group) = (1 ≤ id) × (id ≤ nodes) × (nodes ≤ 9)
 IsInRange (Serve words) = IsServable words
 IsInRange (Verify words) = Unit {0}
 IsInRange (Carry addresses rounds) =
@@ -237,6 +243,7 @@ IsInRange (Ask reach file check explain) = Unit {0}
 IsInRange (Command words) = Unit {0}
 IsInRange (Question words) = Unit {0}
 IsInRange (Status reach) = Unit {0}
+IsInRange (Identify reach) = Unit {0}
 IsInRange (CatchUp reach) = Unit {0}
 IsInRange (Compact reach) = Unit {0}
 IsInRange (Keygen role) = Unit {0}

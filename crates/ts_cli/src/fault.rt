@@ -29,6 +29,7 @@ pub enum WrongValue {
     Peer,
     /// No number of seconds to wait.
     Wait,
+    Group,
     /// No role.
     Role,
     /// No number of rounds.
@@ -69,6 +70,7 @@ impl fmt::Display for WrongValue {
             WrongValue::Seconds => "--idle and --request are numbers of seconds from 1 to 3600",
             WrongValue::AtOnce => "--connections-at-once is a number from 1 to 4096",
             WrongValue::Peer => "--peer is the number of a node, 1 to 9, = and its address",
+            WrongValue::Group => "--group is a number from 1 to 4294967295",
             WrongValue::Wait => "--wait is a number of seconds from 1 to 3600",
             WrongValue::Role => "a role is admin, reader, or peer with --node from 1 to 9",
             WrongValue::Rounds => "--rounds is a number from 1 to 1000000",

@@ -30,6 +30,7 @@ fn format(alloc: Global, matches: &ArgMatches<'_>) -> Result<Task, CommandFault>
         file: string_at(alloc, matches, "file")?,
         id: id as u8,
         nodes: nodes as u8,
+        group: number_or(matches, "group", 1, u32::MAX, 0, WrongValue::Group)?,
     })
 }
 
@@ -96,6 +97,9 @@ pub(crate) fn task_named(
         "ask" => ask(alloc, matches),
         "carry" => carry(alloc, matches),
         "status" => Ok(Task::Status {
+            reach: reach_at(alloc, matches)?,
+        }),
+        "identify" => Ok(Task::Identify {
             reach: reach_at(alloc, matches)?,
         }),
         "catchup" => Ok(Task::CatchUp {

@@ -20,6 +20,8 @@ pub enum Task {
         id: u8,
         /// How many nodes there are.
         nodes: u8,
+        /// The number of the group; 0 is none.
+        group: u32,
     },
     /// Make a record from one of version 1.
     Migrate {
@@ -61,6 +63,11 @@ pub enum Task {
     },
     /// Print how many commands a node knows.
     Status {
+        /// The node, and the key that it is shown.
+        reach: Reach,
+    },
+    /// Print which node of which group it is.
+    Identify {
         /// The node, and the key that it is shown.
         reach: Reach,
     },

@@ -1,5 +1,5 @@
 -- What is on two disks while a journal is written that has bodies from the start.
-use Rattle.std.proofs.Common.{Result, Ok, Err, OnOk, ◌≡◌, ◌≢◌, ◌≤◌, ◌⊎◌, inl, inr, ⊎_elim, ℕ, false, List, [], ◌∷◌, ◌++◌, length, replicate, drop, refl, sym, ◌∙◌, ap, subst, arith, append_assoc, length-append}
+use Rattle.std.proofs.Common.{◌^◌, ◌<◌, Result, Ok, Err, OnOk, ◌≡◌, ◌≢◌, ◌≤◌, ◌⊎◌, inl, inr, ⊎_elim, ℕ, false, List, [], ◌∷◌, ◌++◌, length, replicate, drop, refl, sym, ◌∙◌, ap, subst, arith, append_assoc, length-append}
 use Rattle.std.specs.List.{flat_map}
 use Rattle.ts_disk.specs.Disk.{State, IsDisk, IsDurable, Call, Same, Torn, written, EveryImage}
 use Rattle.ts_journal.specs.Images.{Header, Member, head, Block, block, bodies_in, IsFresh, IsText, front, Stands, IsShut, Begins, IsUnused, InUse, OpensFrom, AllOrNone, AnyPair, EveryPair}
@@ -83,7 +83,7 @@ nothing_yet h bodies old new run = weaker IsUnused (Filled h bodies) old new (λ
 -- a pair of fresh disks does not open
 pub none_yet : (bodies : List (List ℕ)) (a b : State) → IsDisk a → IsDisk b → IsFresh a → IsFresh b → EveryPair (AllOrNone bodies) a b a b
 none_yet bodies a b is other first second =
-    let h : Header = record { node = 1; nodes = 1; generation = 1 } in
+    let h : Header = record { node = 1; nodes = 1; group = 0; generation = 1 } in
     pairs h bodies a b a b (nothing_yet h bodies a a (rests a is first)) (rests b other second)
 
 -- the live gate is opened last
@@ -95,11 +95,11 @@ opens_gate h bodies old mid new run stands torn =
 live_first : (h : Header) (text old new : List ℕ) → (begun : Begins (head h) text old) → new ≡ written old 24 (1 ∷ []) → (rest : List ℕ) × (new ≡ head h ++ (1 ∷ text ++ rest))
 live_first h text old new begun is = (begun.0, is ∙ written_gate (head h) (text ++ begun.0) old 24 0 begun.1 refl 1)
 
-opens : (m : Member) (blocks : List Block) (text first : List ℕ) (a b : State) → 1 ≤ m.node → m.node ≤ m.nodes → m.nodes ≤ 9 → IsText blocks text → IsDurable a → IsDurable b
-    → Begins (head (record { node = m.node; nodes = m.nodes; generation = 1 })) text first → a.read ≡ written first 24 (1 ∷ []) → IsShut b.read → AnyPair (OpensFrom m false (bodies_in blocks)) a b
+opens : (m : Member) (group : ℕ) (blocks : List Block) (text first : List ℕ) (a b : State) → 1 ≤ m.node → m.node ≤ m.nodes → m.nodes ≤ 9 → group < 2 ^ 32 → IsText blocks text → IsDurable a → IsDurable b
+    → Begins (head (record { node = m.node; nodes = m.nodes; group = group; generation = 1 })) text first → a.read ≡ written first 24 (1 ∷ []) → IsShut b.read → AnyPair (OpensFrom m false (bodies_in blocks)) a b
 unfolding stands_shut
-opens m blocks text first a b from to most is one other begun a_is shut ca cb left_a left_b =
-    let h : Header = record { node = m.node; nodes = m.nodes; generation = 1 } in
+opens m group blocks text first a b from to most small is one other begun a_is shut ca cb left_a left_b =
+    let h : Header = record { node = m.node; nodes = m.nodes; group = group; generation = 1 } in
     let s = stands_shut h blocks text first is begun in
     let live : Stands h 1 (bodies_in blocks) a.read = record {
       blocks = blocks;
@@ -112,17 +112,17 @@ opens m blocks text first a b from to most is one other begun a_is shut ca cb le
       );
     } in
     subst (λ c. InUse m (bodies_in blocks) c cb) (sym (one ca left_a)) (subst (λ c. InUse m (bodies_in blocks) a.read c) (sym (other cb left_b))
-    (record { header = h; owner = refl; right = record { node_from = from; node_to = to; nodes_to = most; generation_to = omega arith }; live = 1; is_live = omega arith; stands = live; behind = inl shut }))
+    (record { header = h; owner = refl; right = record { node_from = from; node_to = to; nodes_to = most; group_to = small; generation_to = omega arith }; live = 1; is_live = omega arith; stands = live; behind = inl shut }))
 
 -- the same, where the last write is answered
 pub gate_opened : {T E : Type 0} (h : Header) (text old new : List ℕ) (result : Result T E) → Begins (head h) text old → OnOk result (new ≡ written old 24 (1 ∷ [])) → OnOk result ((rest : List ℕ) × (new ≡ head h ++ (1 ∷ text ++ rest)))
 gate_opened h text old new (Ok x) begun is = live_first h text old new begun is
 gate_opened h text old new (Err e) begun is = tt
 
-pub opens_now : {T E : Type 0} (m : Member) (text first : List ℕ) (a b : State) (result : Result T E) → 1 ≤ m.node → m.node ≤ m.nodes → m.nodes ≤ 9 → IsDurable b
-    → Begins (head (record { node = m.node; nodes = m.nodes; generation = 1 })) text first → Begins (head (record { node = m.node; nodes = m.nodes; generation = 0 })) (0 ∷ []) b.read
+pub opens_now : {T E : Type 0} (m : Member) (group : ℕ) (text first : List ℕ) (a b : State) (result : Result T E) → 1 ≤ m.node → m.node ≤ m.nodes → m.nodes ≤ 9 → group < 2 ^ 32 → IsDurable b
+    → Begins (head (record { node = m.node; nodes = m.nodes; group = group; generation = 1 })) text first → Begins (head (record { node = m.node; nodes = m.nodes; group = group; generation = 0 })) (0 ∷ []) b.read
     → OnOk result (IsDurable a) → OnOk result (a.read ≡ written first 24 (1 ∷ []))
     → OnOk result ((blocks : List Block) → IsText blocks text → AnyPair (OpensFrom m false (bodies_in blocks)) a b)
-opens_now m text first a b (Ok x) from to most other begun shut durable is = λ blocks text_is.
-    opens m blocks text first a b from to most text_is durable other begun is (head (record { node = m.node; nodes = m.nodes; generation = 0 }), refl, (0 ∷ shut.0, shut.1))
-opens_now m text first a b (Err e) from to most other begun shut durable is = tt
+opens_now m group text first a b (Ok x) from to most small other begun shut durable is = λ blocks text_is.
+    opens m group blocks text first a b from to most small text_is durable other begun is (head (record { node = m.node; nodes = m.nodes; group = group; generation = 0 }), refl, (0 ∷ shut.0, shut.1))
+opens_now m group text first a b (Err e) from to most small other begun shut durable is = tt

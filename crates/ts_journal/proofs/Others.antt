@@ -23,25 +23,25 @@ other_moves state true current old new P Q is durable run first second ca cb lef
 other_moves state false current old new P Q is durable run first second ca cb left_a left_b =
     subst (λ c. Q c cb) (sym (still (state current) is durable ca left_a)) (first cb (run.each cb left_b) refl)
 
-used_by : {D : Type 0} (state : D → State) (j : Journal D) (bodies copied : List (List ℕ)) (other : List ℕ) → Holds state bodies copied j → Behind j.generation other → InUse (member_in j) bodies (state j.current).read other
+used_by : {D : Type 0} (state : D → State) (j : Journal D) (bodies copied : List (List ℕ)) (other : List ℕ) → Holds state bodies copied j → Behind (header_of j) other → InUse (member_in j) bodies (state j.current).read other
 used_by state j bodies copied other holds behind = record { header = header_of j; owner = refl; right = holds.right; live = holds.live; is_live = holds.is_live; stands = holds.journal.stands; behind = behind }
 
 -- at each moment of a step before the last, the journal opens from the disk in use
-pub behind_moves : {D : Type 0} (state : D → State) → ((d : D) → IsDisk (state d)) → (j : Journal D) (new : D) (bodies copied : List (List ℕ)) → Holds state bodies copied j → EveryImage (Behind j.generation) (state j.spare) (state new)
+pub behind_moves : {D : Type 0} (state : D → State) → ((d : D) → IsDisk (state d)) → (j : Journal D) (new : D) (bodies copied : List (List ℕ)) → Holds state bodies copied j → EveryImage (Behind (header_of j)) (state j.spare) (state new)
     → EveryPair (OpensFrom (member_in j) j.swapped bodies) (state (disk_a j)) (state (disk_b j)) (state (cond j.swapped new j.current)) (state (cond j.swapped j.current new))
 behind_moves state lawful j new bodies copied holds run =
-    other_moves state j.swapped j.current j.spare new (Behind j.generation) (OpensFrom (member_in j) j.swapped bodies) (lawful j.current) holds.journal.durable run
+    other_moves state j.swapped j.current j.spare new (Behind (header_of j)) (OpensFrom (member_in j) j.swapped bodies) (lawful j.current) holds.journal.durable run
     (λ c behind is. (from (member_in j) j.swapped bodies (state j.current).read c (used_by state j bodies copied c holds behind)).0 is)
     (λ c behind is. (from (member_in j) j.swapped bodies (state j.current).read c (used_by state j bodies copied c holds behind)).1 is)
 
-pub shut_is_behind : (generation : ℕ) (old new : State) → EveryImage IsShut old new → EveryImage (Behind generation) old new
-shut_is_behind generation old new run = weaker IsShut (Behind generation) old new (λ c shut. inl shut) run
+pub shut_is_behind : (h : Header) (old new : State) → EveryImage IsShut old new → EveryImage (Behind h) old new
+shut_is_behind h old new run = weaker IsShut (Behind h) old new (λ c shut. inl shut) run
 
 -- while bodies are appended to a disk that is shut
-pub copying_is_behind : (h : Header) (bodies : List (List ℕ)) (body : List ℕ) (end generation : ℕ) (octets : List ℕ) (old new : State) → IsJournal h 0 bodies end old → IsBody body → octets ≡ entry body
-    → EveryImage (Appends end octets old.read) old new → EveryImage (Behind generation) old new
-copying_is_behind h bodies body end generation octets old new j fits are run =
-    weaker (Appends end octets old.read) (Behind generation) old new
+pub copying_is_behind : (h k : Header) (bodies : List (List ℕ)) (body : List ℕ) (end : ℕ) (octets : List ℕ) (old new : State) → IsJournal h 0 bodies end old → IsBody body → octets ≡ entry body
+    → EveryImage (Appends end octets old.read) old new → EveryImage (Behind k) old new
+copying_is_behind h k bodies body end octets old new j fits are run =
+    weaker (Appends end octets old.read) (Behind k) old new
     (λ c either. inl (⊎_elim (λ shut. shut_while h bodies c (stands_before h 0 bodies end old c j shut))
     (λ wide. shut_while h (bodies ++ body ∷ []) c (stands_after h 0 bodies body end old c j fits (subst (λ t. Opened (take end old.read) t c) are wide))) either)) run
 
@@ -72,12 +72,12 @@ torn_live h copied old c s torn =
       | inr wide ↦ inr (get_or c 24 0, wide, stands)
     ]
 
-pub earlier : (h : Header) (live : ℕ) (bodies : List (List ℕ)) (image : List ℕ) → IsRight h → live ≢ 0 → Stands h live bodies image → IsEarlier (h.generation + 1) image
+pub earlier : (h : Header) (live : ℕ) (bodies : List (List ℕ)) (image : List ℕ) → IsRight h → live ≢ 0 → Stands h live bodies image → IsEarlier (next h) image
 earlier h live bodies image right wide s =
-    (h, live, flat_map block s.blocks ++ (0 ∷ s.closed.0), right, wide, omega arith, s.closed.1 ∙ append_assoc (head h) (live ∷ flat_map block s.blocks) (0 ∷ s.closed.0))
+    (h.generation, live, flat_map block s.blocks ++ (0 ∷ s.closed.0), right, wide, omega arith, s.closed.1 ∙ append_assoc (head h) (live ∷ flat_map block s.blocks) (0 ∷ s.closed.0))
 
 pub next_right : (h : Header) → IsRight h → h.generation + 1 < 2 ^ 64 → IsRight (next h)
-next_right h right room = record { node_from = right.node_from; node_to = right.node_to; nodes_to = right.nodes_to; generation_to = room }
+next_right h right room = record { node_from = right.node_from; node_to = right.node_to; nodes_to = right.nodes_to; group_to = right.group_to; generation_to = room }
 
 -- a rewrite of which all bodies are on the other disk
 pub record IsReady {D : Type 0} (state : D → State) (bodies copied : List (List ℕ)) (j : Journal D) : Type 0 where
@@ -135,16 +135,16 @@ live_journal h bodies end old new j durable is = record {
 }
 
 -- two disks after a format
-pub formatted : {D T E : Type 0} (state : D → State) (a b : D) (result : Result T E) (node nodes : ℕ) (rest more : List ℕ) → 1 ≤ node → node ≤ nodes → nodes ≤ 9
-    → IsDurable (state a) → (state a).read ≡ head (record { node = node; nodes = nodes; generation = 1 }) ++ (1 ∷ 0 ∷ rest)
-    → OnOk result (IsDurable (state b)) → OnOk result ((state b).read ≡ head (record { node = node; nodes = nodes; generation = 0 }) ++ (0 ∷ 0 ∷ more))
+pub formatted : {D T E : Type 0} (state : D → State) (a b : D) (result : Result T E) (node nodes group : ℕ) (rest more : List ℕ) → 1 ≤ node → node ≤ nodes → nodes ≤ 9 → group < 2 ^ 32
+    → IsDurable (state a) → (state a).read ≡ head (record { node = node; nodes = nodes; group = group; generation = 1 }) ++ (1 ∷ 0 ∷ rest)
+    → OnOk result (IsDurable (state b)) → OnOk result ((state b).read ≡ head (record { node = node; nodes = nodes; group = group; generation = 0 }) ++ (0 ∷ 0 ∷ more))
     → OnOk result (AnyPair (Opens (record { node = node; nodes = nodes }) []) (state a) (state b))
-formatted state a b (Err e) node nodes rest more from to most a_durable a_is b_durable b_is = tt
-formatted state a b (Ok x) node nodes rest more from to most a_durable a_is b_durable b_is = λ ca cb left_a left_b.
-    let h : Header = record { node = node; nodes = nodes; generation = 1 } in
-    let right : IsRight h = record { node_from = from; node_to = to; nodes_to = most; generation_to = omega arith } in
+formatted state a b (Err e) node nodes group rest more from to most small a_durable a_is b_durable b_is = tt
+formatted state a b (Ok x) node nodes group rest more from to most small a_durable a_is b_durable b_is = λ ca cb left_a left_b.
+    let h : Header = record { node = node; nodes = nodes; group = group; generation = 1 } in
+    let right : IsRight h = record { node_from = from; node_to = to; nodes_to = most; group_to = small; generation_to = omega arith } in
     let j = begun_journal h 1 (state a) rest a_durable a_is in
-    let shut : IsShut (state b).read = (head (record { node = node; nodes = nodes; generation = 0 }), refl, (0 ∷ more, b_is)) in
+    let shut : IsShut (state b).read = (head (record { node = node; nodes = nodes; group = group; generation = 0 }), refl, (0 ∷ more, b_is)) in
     subst (λ c. Opens (member_of h) [] c cb) (sym (a_durable ca left_a)) (subst (λ c. Opens (member_of h) [] (state a).read c) (sym (b_durable cb left_b))
     (inl (record { header = h; owner = refl; right = right; live = 1; is_live = omega arith; stands = j.stands; behind = inl shut })))
 

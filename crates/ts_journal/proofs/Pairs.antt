@@ -28,7 +28,7 @@ spare_durable StageClosed h copied end disk is = is.0
 spare_durable Begun h copied end disk is = is.0
 spare_durable Copying h copied end disk is = is.0.durable
 
-pub spare_behind : (stage : Stage) (h : Header) (copied : List (List ℕ)) (end : ℕ) (disk : State) → IsSpare stage h copied end disk → Behind h.generation disk.read
+pub spare_behind : (stage : Stage) (h : Header) (copied : List (List ℕ)) (end : ℕ) (disk : State) → IsSpare stage h copied end disk → Behind h disk.read
 spare_behind Live h copied end disk is = inr is.1
 spare_behind StageClosed h copied end disk is = inl is.1
 spare_behind Begun h copied end disk is = inl is.1
@@ -51,7 +51,7 @@ pub from : (member : Member) (swapped : Bool) (bodies : List (List ℕ)) (image 
 from member true bodies image other used = ((λ is. absurd (cc is)), (λ is. used))
 from member false bodies image other used = ((λ is. used), (λ is. absurd (cc is)))
 
-in_use : (h : Header) (live : ℕ) (bodies : List (List ℕ)) (image other : List ℕ) → IsRight h → live ≢ 0 → Behind h.generation other → Stands h live bodies image → InUse (member_of h) bodies image other
+in_use : (h : Header) (live : ℕ) (bodies : List (List ℕ)) (image other : List ℕ) → IsRight h → live ≢ 0 → Behind h other → Stands h live bodies image → InUse (member_of h) bodies image other
 in_use h live bodies image other right wide behind stands = record { header = h; owner = refl; right = right; live = live; is_live = wide; stands = stands; behind = behind }
 
 -- at each moment of an append to the disk in use

@@ -3,21 +3,22 @@ use Rattle.std.proofs.Common.{Result, Ok, Err, OnOk, ◌≡◌, inl, inr, ℕ, �
 use Rattle.std.proofs.lemmas.List.{drop_at}
 use Rattle.std.proofs.lemmas.Bool.{cases_eq}
 use Rattle.ts_disk.specs.Disk.{State, IsDisk, IsDurable, Call, Same, Torn, written, EveryImage}
-use Rattle.ts_journal.specs.Images.{head, IsShut, IsEarlier, Behind, Begins}
+use Rattle.ts_journal.specs.Images.{Header, at_generation, head, IsShut, IsEarlier, Behind, Begins}
 use Rattle.ts_journal.proofs.Gates.{torn_behind, written_behind, torn_gate, written_gate}
 use Rattle.ts_journal.proofs.Moments.{started, goes_on}
 
 -- the live gate of an earlier generation is torn: it is shut, or as it was
-pub torn_shut : (generation : ℕ) (image c : List ℕ) → IsEarlier generation image → Torn 24 1 image c → Behind generation c
-torn_shut generation image c is torn =
-    let torn_is : c ≡ head is.0 ++ (get_or c 24 0 ∷ is.2) = torn_gate (head is.0) is.2 image 24 is.1 is.6 refl c torn in
+pub torn_shut : (h : Header) (image c : List ℕ) → IsEarlier h image → Torn 24 1 image c → Behind h c
+torn_shut h image c is torn =
+    let octets = head (at_generation h is.0) in
+    let torn_is : c ≡ octets ++ (get_or c 24 0 ∷ is.2) = torn_gate octets is.2 image 24 is.1 is.6 refl c torn in
     elim (cases_eq (get_or c 24 0) 0) [
-      | inl shut ↦ inl (head is.0, refl, (is.2, torn_is ∙ ap (λ g. head is.0 ++ (g ∷ is.2)) shut))
+      | inl shut ↦ inl (octets, refl, (is.2, torn_is ∙ ap (λ g. octets ++ (g ∷ is.2)) shut))
       | inr wide ↦ inr (is.0, get_or c 24 0, is.2, is.3, wide, is.5, torn_is)
     ]
 
-pub written_shut : (generation : ℕ) (image : List ℕ) → IsEarlier generation image → IsShut (written image 24 (0 ∷ []))
-written_shut generation image is = (head is.0, refl, (is.2, written_gate (head is.0) is.2 image 24 is.1 is.6 refl 0))
+pub written_shut : (h : Header) (image : List ℕ) → IsEarlier h image → IsShut (written image 24 (0 ∷ []))
+written_shut h image is = (head (at_generation h is.0), refl, (is.2, written_gate (head (at_generation h is.0)) is.2 image 24 is.1 is.6 refl 0))
 
 -- the octets before a closed live gate are torn
 pub torn_head : (image c : List ℕ) → IsShut image → Torn 0 24 image c → IsShut c

@@ -1,7 +1,7 @@
 -- Which of two disks is in use: the one of the greatest generation among those whose live gate is
--- open.
+-- open; none where two are live and not of one node and group.
 use Rattle.std.specs.Prelude.{◌≡◌, ◌≢◌, ◌<◌, ◌≤◌, ℕ, List, ◌∷◌, ◌++◌, length, cond, nat_lt, Option}
-use Rattle.std.specs.Prelude.{Some, None, true, false}
+use Rattle.std.specs.Prelude.{Some, None, Bool, true, false, nat_eq, ◌&&◌}
 use Rattle.ts_journal.specs.Images.{Header, IsRight, head, IsShut, IsEarlier, Behind}
 use Rattle.ts_journal.specs.declared.choice.Owner.{Owner}
 use Rattle.ts_journal.specs.declared.choice.Look.{Look}
@@ -12,7 +12,11 @@ use Rattle.ts_journal.specs.declared.journal.Stage.TheVariants.{Live, Closed, Be
 
 abbrev pub header_of_owner : Owner → Header
 header_of_owner owner = record
-    { node = owner.node; nodes = owner.nodes; generation = owner.generation }
+    { node = owner.node; nodes = owner.nodes; group = owner.group; generation = owner.generation }
+
+-- of one node and group
+abbrev pub is_same_owner : Owner → Owner → Bool
+is_same_owner x y = nat_eq x.node y.node && nat_eq x.nodes y.nodes && nat_eq x.group y.group
 
 -- a right header, and an open live gate
 pub record IsLive (h : Header) (image : List ℕ) : Type 0 where
@@ -33,25 +37,27 @@ abbrev pub choice_of : Look → Look → Option Choice
 choice_of (Right first) Shut = Some (record { swapped = false; owner = first; stage = Closed })
 choice_of Shut (Right second) = Some (record { swapped = true; owner = second; stage = Closed })
 choice_of (Right first) (Right second) =
-    cond (nat_lt second.generation first.generation)
+    cond (is_same_owner first second)
+    (cond (nat_lt second.generation first.generation)
     (Some (record { swapped = false; owner = first; stage = Live }))
     (cond (nat_lt first.generation second.generation)
-    (Some (record { swapped = true; owner = second; stage = Live })) None)
+    (Some (record { swapped = true; owner = second; stage = Live })) None)) None
 choice_of a b = None
 
 -- what the disk that isn't in use holds, by its stage
-abbrev pub IsOther : Stage → ℕ → List ℕ → Type 0
-IsOther Live generation image = IsEarlier generation image
-IsOther Closed generation image = IsShut image
-IsOther Begun generation image = ⊥
-IsOther Copying generation image = ⊥
+abbrev pub IsOther : Stage → Header → List ℕ → Type 0
+IsOther Live h image = IsEarlier h image
+IsOther Closed h image = IsShut image
+IsOther Begun h image = ⊥
+IsOther Copying h image = ⊥
 
--- the chosen disk is live, and the other is shut or of an earlier generation
+-- The chosen disk is live, and the other is shut, or of the same node and group and of an earlier
+-- generation.
 pub record IsChosen (choice : Choice) (a b : List ℕ) : Type 0 where
   pub live : IsLive (header_of_owner choice.owner) (cond choice.swapped b a)
-  pub other : IsOther choice.stage choice.owner.generation (cond choice.swapped a b)
+  pub other : IsOther choice.stage (header_of_owner choice.owner) (cond choice.swapped a b)
 
--- no disk is live while the other is shut or of an earlier generation
+-- no disk is live while the other is shut, or the same node's and of an earlier generation
 pub record Unchosen (a b : List ℕ) : Type 0 where
-  pub first : (h : Header) → IsLive h a → Behind h.generation b → ⊥
-  pub second : (h : Header) → IsLive h b → Behind h.generation a → ⊥
+  pub first : (h : Header) → IsLive h a → Behind h b → ⊥
+  pub second : (h : Header) → IsLive h b → Behind h a → ⊥

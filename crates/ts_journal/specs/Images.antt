@@ -7,11 +7,17 @@ use Rattle.std.specs.Int.{to_be_bytes, w32, w64}
 use Rattle.ts_disk.specs.Disk.{State, IsDurable}
 use Rattle.ts_journal.specs.Gate.{Closed}
 
--- whose journal it is, of how many nodes, and how often it was rewritten
+-- whose journal it is, of how many nodes and of which group, and how often it was rewritten
 pub record Header : Type 0 where
   pub node : ℕ
   pub nodes : ℕ
+  pub group : ℕ
   pub generation : ℕ
+
+-- the same node's, of this generation
+abbrev pub at_generation : Header → ℕ → Header
+at_generation h generation = record
+    { node = h.node; nodes = h.nodes; group = h.group; generation = generation }
 
 -- a node, by its number, and how many nodes there are
 pub record Member : Type 0 where
@@ -23,14 +29,15 @@ member_of h = record { node = h.node; nodes = h.nodes }
 
 -- the 24 octets before the live gate
 abbrev pub head : Header → List ℕ
-head h = 0x54 ∷ 0x53 ∷ 0x52 ∷ 0x45 ∷ 0x43 ∷ 0 ∷ 0 ∷ 2 ∷ h.node ∷ h.nodes ∷ 0 ∷ 0 ∷ 0 ∷ 0 ∷ 0 ∷ 0
-    ∷ to_be_bytes w64 h.generation
+head h = 0x54 ∷ 0x53 ∷ 0x52 ∷ 0x45 ∷ 0x43 ∷ 0 ∷ 0 ∷ 2 ∷ h.node ∷ h.nodes ∷ 0 ∷ 0
+    ∷ (to_be_bytes w32 h.group ++ to_be_bytes w64 h.generation)
 
 -- 1 to 9 nodes, and node among them
 pub record IsRight (h : Header) : Type 0 where
   pub node_from : 1 ≤ h.node
   pub node_to : h.node ≤ h.nodes
   pub nodes_to : h.nodes ≤ 9
+  pub group_to : h.group < 2 ^ 32
   pub generation_to : h.generation < 2 ^ 64
 
 -- a body is not empty, and has at most 4,194,500 octets
@@ -72,14 +79,15 @@ pub record Stands (h : Header) (live : ℕ) (bodies : List (List ℕ)) (image : 
 abbrev pub IsShut : List ℕ → Type 0
 IsShut image = (octets : List ℕ) × (length octets ≡ 24) × Closed octets image
 
--- it is live, of an earlier generation
-abbrev pub IsEarlier : ℕ → List ℕ → Type 0
-IsEarlier generation image = (h : Header) × (live : ℕ) × (rest : List ℕ) × IsRight h × (live ≢ 0)
-    × (h.generation < generation) × (image ≡ head h ++ (live ∷ rest))
+-- it is live, the same node's, of an earlier generation
+abbrev pub IsEarlier : Header → List ℕ → Type 0
+IsEarlier h image = (generation : ℕ) × (live : ℕ) × (rest : List ℕ)
+    × IsRight (at_generation h generation) × (live ≢ 0) × (generation < h.generation)
+    × (image ≡ head (at_generation h generation) ++ (live ∷ rest))
 
 -- what a disk that isn't in use holds
-abbrev pub Behind : ℕ → List ℕ → Type 0
-Behind generation image = IsShut image ⊎ IsEarlier generation image
+abbrev pub Behind : Header → List ℕ → Type 0
+Behind h image = IsShut image ⊎ IsEarlier h image
 
 -- these octets, a closed live gate, and a text
 abbrev pub Begins : List ℕ → List ℕ → List ℕ → Type 0
@@ -90,7 +98,7 @@ abbrev pub IsUnused : List ℕ → Type 0
 IsUnused image = (length image ≤ 25) ⊎ IsShut image
 
 -- The first image is that of the disk in use: it is live, with the header of this member, and the
--- other is shut or of an earlier generation.
+-- other is shut, or this member's and of an earlier generation.
 pub record InUse (member : Member) (bodies : List (List ℕ)) (image other : List ℕ) : Type 0 where
   pub header : Header
   pub owner : member_of header ≡ member
@@ -98,7 +106,7 @@ pub record InUse (member : Member) (bodies : List (List ℕ)) (image other : Lis
   pub live : ℕ
   pub is_live : live ≢ 0
   pub stands : Stands header live bodies image
-  pub behind : Behind header.generation other
+  pub behind : Behind header other
 
 -- the pair of images opens to these bodies, as the journal of this member
 abbrev pub Opens : Member → List (List ℕ) → List ℕ → List ℕ → Type 0

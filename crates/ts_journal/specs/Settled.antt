@@ -1,7 +1,7 @@
 -- What is true of a journal between two calls.
 use Rattle.std.specs.Prelude.{◌≡◌, ◌≢◌, ◌⊎◌, ◌+◌, ◌<◌, ◌^◌, ℕ, List, length, cond}
 use Rattle.ts_disk.specs.Disk.{State, IsDurable, DeviceFailed}
-use Rattle.ts_journal.specs.Images.{Header, Member, member_of, IsRight, Stands, front, IsShut}
+use Rattle.ts_journal.specs.Images.{Header, Member, member_of, at_generation, IsRight, Stands, front, IsShut}
 use Rattle.ts_journal.specs.Images.{IsEarlier, EveryPair}
 use Rattle.ts_journal.specs.declared.journal.Journal.{Journal}
 use Rattle.ts_journal.specs.declared.journal.Stage.{Stage}
@@ -16,19 +16,20 @@ pub record IsJournal (h : Header) (live : ℕ) (bodies : List (List ℕ)) (end :
 
 -- the header of the next generation
 abbrev pub next : Header → Header
-next h = record { node = h.node; nodes = h.nodes; generation = h.generation + 1 }
+next h = at_generation h (h.generation + 1)
 
 -- The other disk: live and of an earlier generation, or shut, or shut while bodies are copied to
 -- it.
 abbrev pub IsSpare : Stage → Header → List (List ℕ) → ℕ → State → Type 0
-IsSpare Live h copied end disk = IsDurable disk × IsEarlier h.generation disk.read
+IsSpare Live h copied end disk = IsDurable disk × IsEarlier h disk.read
 IsSpare Closed h copied end disk = IsDurable disk × IsShut disk.read
 IsSpare Begun h copied end disk = IsDurable disk × IsShut disk.read × (h.generation + 1 < 2 ^ 64)
 IsSpare Copying h copied end disk =
     IsJournal (next h) 0 copied end disk × (h.generation + 1 < 2 ^ 64)
 
 abbrev pub header_of : {D : Type 0} → Journal D → Header
-header_of j = record { node = j.node; nodes = j.nodes; generation = j.generation }
+header_of j = record
+    { node = j.node; nodes = j.nodes; group = j.group; generation = j.generation }
 
 -- the node whose journal it is
 abbrev pub member_in : {D : Type 0} → Journal D → Member

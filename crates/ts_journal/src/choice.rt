@@ -3,17 +3,18 @@
 ghost use Rattle.std.specs.Prelude.{◌≡◌, ◌≢◌, true, false, ◌≤◌, ◌<◌, ◌^◌, ◌++◌, ◌∷◌, ℕ, List};
 ghost use Rattle.std.specs.Prelude.{length, IfSome, IfNone};
 ghost use Rattle.ts_journal.specs.Images.{Header, head};
-ghost use Rattle.ts_journal.specs.Choice.{header_of_owner, LooksLike, choice_of, IsChosen};
+ghost use Rattle.ts_journal.specs.Choice.{header_of_owner, LooksLike, choice_of, is_same_owner, IsChosen};
 ghost use Rattle.ts_journal.specs.Choice.{Unchosen};
 
 use crate::Stage;
 use crate::header::head_octets;
 
-/// Whose journal an image begins with, and its generation.
+/// Whose journal an image begins with: a node, of how many and of which group; and its generation.
 #[derive(Clone, Copy, Debug, PartialEq, Eq)]
 pub struct Owner {
     pub node: u8,
     pub nodes: u8,
+    pub group: u32,
     pub generation: u64,
 }
 
@@ -47,7 +48,7 @@ pub fn look_at(octets: &[u8]) -> Look
         return Look::Shut;
     }
     let owner = owner_at(octets);
-    let header = head_octets(owner.node, owner.nodes, owner.generation);
+    let header = head_octets(&owner);
     if !is_same(&octets[..24], &header) {
         return Look::Wrong;
     }
@@ -66,8 +67,8 @@ fn is_same(a: &[u8], b: &[u8]) -> bool
 
 fn owner_at(octets: &[u8]) -> Owner
     requires { 25 ≤ length octets.now }
-    ensures { (h : Header) (live : ℕ) (rest : List ℕ) → h.generation < 2 ^ 64
-        → octets.now ≡ head h ++ (live ∷ rest) → h ≡ header_of_owner result }
+    ensures { (h : Header) (live : ℕ) (rest : List ℕ) → h.group < 2 ^ 32
+        → h.generation < 2 ^ 64 → octets.now ≡ head h ++ (live ∷ rest) → h ≡ header_of_owner result }
 {
     let generation = u64::from_be_bytes([
         octets[16], octets[17], octets[18], octets[19], octets[20], octets[21], octets[22],
@@ -76,8 +77,15 @@ fn owner_at(octets: &[u8]) -> Owner
     Owner {
         node: octets[8],
         nodes: octets[9],
+        group: u32::from_be_bytes([octets[12], octets[13], octets[14], octets[15]]),
         generation,
     }
+}
+
+fn is_same_owner(first: Owner, second: Owner) -> bool
+    ensures { result ≡ is_same_owner first second }
+{
+    first.node == second.node && first.nodes == second.nodes && first.group == second.group
 }
 
 fn pick(a: Look, b: Look) -> Option<Choice>
@@ -95,7 +103,9 @@ fn pick(a: Look, b: Look) -> Option<Choice>
             stage: Stage::Closed,
         }),
         (Look::Right(first), Look::Right(second)) => {
-            if second.generation < first.generation {
+            if !is_same_owner(first, second) {
+                None
+            } else if second.generation < first.generation {
                 Some(Choice {
                     swapped: false,
                     owner: first,
@@ -117,7 +127,7 @@ fn pick(a: Look, b: Look) -> Option<Choice>
 
 /// The disk in use of two images: the one of the greater generation of those that are live. None
 /// where an image has fewer than 25 octets, where none is live, where one is live with a wrong
-/// header, and at two of one generation.
+/// header, and at two that are not of one node and group or are of one generation.
 pub fn choose(a: &[u8], b: &[u8]) -> Option<Choice>
     ensures chosen { IfSome result (λ choice. IsChosen choice a.now b.now) }
     ensures none { IfNone result (Unchosen a.now b.now) }

@@ -7,6 +7,7 @@ ghost use Rattle.ts_disk.specs.Disk.{IsDurable, HasCause, DeviceFailed, EveryIma
 ghost use Rattle.ts_journal.specs.Images.{head, Block, bodies_in, IsFresh, IsText, Begins};
 ghost use Rattle.ts_journal.specs.Images.{IsUnused, OpensFrom, AllOrNone, AnyPair, EveryPair};
 
+use crate::choice::Owner;
 use crate::header::head_octets;
 use crate::rewrite::{LIVE_GATE, begin};
 use ts_disk::{Disk, DiskFault, put};
@@ -36,15 +37,16 @@ pub fn format_with<D: Disk>(
     b: &mut D,
     node: u8,
     nodes: u8,
+    group: u32,
     text: &[u8],
 ) -> Result<(), DiskFault>
     requires node_from { 1 ≤ node }
     requires node_to { node ≤ nodes }
     requires nodes_to { nodes ≤ 9 }
     ensures first { OnOk result ((rest : List ℕ) × ((D.state a.new).read ≡
-        head (record { node = node; nodes = nodes; generation = 1 }) ++ (1 ∷ text.now ++ rest))) }
+        head (record { node = node; nodes = nodes; group = group; generation = 1 }) ++ (1 ∷ text.now ++ rest))) }
     ensures second { OnOk result ((rest : List ℕ) × ((D.state b.new).read ≡
-        head (record { node = node; nodes = nodes; generation = 0 }) ++ (0 ∷ 0 ∷ rest))) }
+        head (record { node = node; nodes = nodes; group = group; generation = 0 }) ++ (0 ∷ 0 ∷ rest))) }
     // Each pair of images that a crash may leave opens to the bodies.
     ensures opens { OnOk result ((blocks : List Block) → IsText blocks text.now
         → AnyPair (OpensFrom (record { node = node; nodes = nodes }) false (bodies_in blocks))
@@ -59,7 +61,17 @@ pub fn format_with<D: Disk>(
         × (DeviceFailed (D.state a.old) (D.state a.new)
         ⊎ DeviceFailed (D.state b.old) (D.state b.new))) }
 {
-    lay(b, &head_octets(node, nodes, 0), &[0])?;
-    lay(a, &head_octets(node, nodes, 1), text)?;
+    let live = Owner {
+        node,
+        nodes,
+        group,
+        generation: 1,
+    };
+    let shut = Owner {
+        generation: 0,
+        ..live
+    };
+    lay(b, &head_octets(&shut), &[0])?;
+    lay(a, &head_octets(&live), text)?;
     put(a, LIVE_GATE, &[1])
 }

@@ -3,10 +3,12 @@
 ghost use Rattle.std.specs.Prelude.{◌≡◌, ◌⊎◌, ◌++◌, ◌<◌, ◌+◌, ◌^◌, [], ◌∷◌, ℕ, List, true, false};
 ghost use Rattle.std.specs.Prelude.{cond, OnOk, OnErr, IfErr};
 ghost use Rattle.ts_disk.specs.declared.fault.DiskFault.TheVariants.{Failed};
-ghost use Rattle.ts_journal.specs.Images.{IsBody, entry, OpensFrom, BeforeOrAfter, OneOrOther};
-ghost use Rattle.ts_journal.specs.Settled.{Holds, IsSettled, member_in, EveryMoment, OneFailed};
+ghost use Rattle.ts_journal.specs.Choice.{header_of_owner};
+ghost use Rattle.ts_journal.specs.Images.{IsBody, at_generation, entry, OpensFrom, BeforeOrAfter, OneOrOther};
+ghost use Rattle.ts_journal.specs.Settled.{Holds, IsSettled, header_of, member_in, EveryMoment, OneFailed};
 ghost use Rattle.ts_journal.specs.declared.journal.Stage.TheVariants.{Live, Closed, Begun, Copying};
 
+use crate::choice::Owner;
 use crate::durable::extend;
 use crate::header::head_octets;
 use crate::rewrite::{begin, shut};
@@ -31,6 +33,7 @@ pub struct Journal<D: Disk> {
     pub swapped: bool,
     pub node: u8,
     pub nodes: u8,
+    pub group: u32,
     pub generation: u64,
     pub end: usize,
     pub stage: Stage,
@@ -38,6 +41,18 @@ pub struct Journal<D: Disk> {
 }
 
 impl<D: Disk> Journal<D> {
+    /// Whose journal it is, with a generation.
+    fn owner(&self, generation: u64) -> Owner
+        ensures { header_of_owner result ≡ at_generation (header_of self.now) generation }
+    {
+        Owner {
+            node: self.node,
+            nodes: self.nodes,
+            group: self.group,
+            generation,
+        }
+    }
+
     /// Appends a body, given as what follows its gate, by four calls of the disk in use. At every
     /// moment each pair of images opens to the bodies before, or to those and the new one, and from
     /// the disk in use.
@@ -53,6 +68,7 @@ impl<D: Disk> Journal<D> {
             → EveryMoment D.state (BeforeOrAfter
             (member_in self.old) self.old.swapped bodies body) self.old self.new }
         ensures owner { member_in self.new ≡ member_in self.old }
+        ensures group { self.new.group ≡ self.old.group }
         ensures swapped { self.new.swapped ≡ self.old.swapped }
         ensures generation { self.new.generation ≡ self.old.generation }
         ensures stage { self.new.stage ≡ self.old.stage }
@@ -76,6 +92,7 @@ impl<D: Disk> Journal<D> {
             → EveryMoment D.state (OpensFrom (member_in self.old) self.old.swapped bodies) self.old
             self.new }
         ensures owner { member_in self.new ≡ member_in self.old }
+        ensures group { self.new.group ≡ self.old.group }
         ensures swapped { self.new.swapped ≡ self.old.swapped }
         ensures generation { self.new.generation ≡ self.old.generation }
         ensures stage { OnOk result (self.new.stage ≡ Begun) }
@@ -83,7 +100,8 @@ impl<D: Disk> Journal<D> {
         ensures failed { IfErr result (λ fault. (fault ≡ Failed)
             × OneFailed D.state self.old self.new) }
     {
-        shut(&mut self.spare, self.stage == Stage::Live, self.generation)?;
+        let owner = self.owner(self.generation);
+        shut(&mut self.spare, self.stage == Stage::Live, &owner)?;
         self.stage = Stage::Begun;
         Ok(())
     }
@@ -98,6 +116,7 @@ impl<D: Disk> Journal<D> {
             → EveryMoment D.state (OpensFrom (member_in self.old) self.old.swapped bodies) self.old
             self.new }
         ensures owner { member_in self.new ≡ member_in self.old }
+        ensures group { self.new.group ≡ self.old.group }
         ensures swapped { self.new.swapped ≡ self.old.swapped }
         ensures generation { self.new.generation ≡ self.old.generation }
         ensures stage { OnOk result (self.new.stage ≡ Copying) }
@@ -105,7 +124,7 @@ impl<D: Disk> Journal<D> {
         ensures failed { IfErr result (λ fault. (fault ≡ Failed)
             × OneFailed D.state self.old self.new) }
     {
-        let octets = head_octets(self.node, self.nodes, self.generation + 1);
+        let octets = head_octets(&self.owner(self.generation + 1));
         begin(&mut self.spare, &octets, &[0])?;
         self.copy_end = 25;
         self.stage = Stage::Copying;
@@ -125,6 +144,7 @@ impl<D: Disk> Journal<D> {
             → EveryMoment D.state (OpensFrom (member_in self.old) self.old.swapped bodies) self.old
             self.new }
         ensures owner { member_in self.new ≡ member_in self.old }
+        ensures group { self.new.group ≡ self.old.group }
         ensures swapped { self.new.swapped ≡ self.old.swapped }
         ensures generation { self.new.generation ≡ self.old.generation }
         ensures stage { self.new.stage ≡ self.old.stage }
@@ -147,6 +167,7 @@ impl<D: Disk> Journal<D> {
             → EveryMoment D.state (OneOrOther (member_in self.old) bodies copied) self.old self.new }
         ensures stage { OnOk result (self.new.stage ≡ Live) }
         ensures owner { member_in self.new ≡ member_in self.old }
+        ensures group { self.new.group ≡ self.old.group }
         ensures swapped { OnOk result (self.new.swapped ≡ cond self.old.swapped false true) }
         ensures generation { OnOk result (self.new.generation ≡ self.old.generation + 1) }
         ensures stays { OnErr result ((self.new.stage ≡ self.old.stage)

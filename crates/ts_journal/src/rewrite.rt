@@ -3,8 +3,10 @@
 ghost use Rattle.std.specs.Prelude.{◌≡◌, ◌++◌, [], ◌∷◌, true, false, length, OnOk, IfErr};
 ghost use Rattle.ts_disk.specs.declared.fault.DiskFault.TheVariants.{Failed};
 ghost use Rattle.ts_disk.specs.Disk.{IsDurable, HasCause, EveryImage};
+ghost use Rattle.ts_journal.specs.Choice.{header_of_owner};
 ghost use Rattle.ts_journal.specs.Images.{IsShut, IsEarlier, Behind, Begins};
 
+use crate::choice::Owner;
 use crate::durable::flush;
 use ts_disk::{Disk, DiskFault, put};
 
@@ -12,13 +14,14 @@ pub(crate) const LIVE_GATE: usize = 24;
 
 /// Closes the live gate of a disk of an earlier generation, and syncs. A closed gate is never
 /// written, as a torn write could open it.
-pub(crate) fn shut<D: Disk>(disk: &mut D, is_live: bool, generation: u64) -> Result<(), DiskFault>
+pub(crate) fn shut<D: Disk>(disk: &mut D, is_live: bool, owner: &Owner) -> Result<(), DiskFault>
     requires durable { IsDurable (D.state disk.old) }
-    requires earlier { is_live ≡ true → IsEarlier generation (D.state disk.old).read }
+    requires earlier { is_live ≡ true → IsEarlier (header_of_owner owner.now) (D.state disk.old).read }
     requires shut { is_live ≡ false → IsShut (D.state disk.old).read }
     ensures durable { OnOk result (IsDurable (D.state disk.new)) }
     ensures shut { OnOk result (IsShut (D.state disk.new).read) }
-    ensures moments { EveryImage (Behind generation) (D.state disk.old) (D.state disk.new) }
+    ensures moments { EveryImage (Behind (header_of_owner owner.now)) (D.state disk.old)
+        (D.state disk.new) }
     ensures fault { IfErr result (λ fault. fault ≡ Failed) }
     ensures cause { HasCause (D.state disk.old) (D.state disk.new) result }
 {

@@ -49,7 +49,7 @@ impl Member {
     {
         let mut a = MemDisk::new(alloc, Vec::new(alloc))?;
         let mut b = MemDisk::new(alloc, Vec::new(alloc))?;
-        if Record::<MemDisk, Command>::format(&mut a, &mut b, node, nodes).is_err() {
+        if Record::<MemDisk, Command>::format(&mut a, &mut b, node, nodes, 0).is_err() {
             return Err(LineFault::Memory);
         }
         Member::open(alloc, a, b)

@@ -18,6 +18,7 @@ use std::random::RandomSource;
 use ts_access::Key;
 use ts_carrier::Gate;
 use ts_links::{Connections, Service};
+use ts_node::Identity;
 use ts_synod::Body;
 use ts_wire::Frame;
 
@@ -106,10 +107,10 @@ impl Carrier {
         }
     }
 
-    /// Adds the line to a peer.
-    pub fn add(&mut self, node: u8, address: SocketAddr) -> bool {
+    /// Adds the line to a peer of the node that this is.
+    pub fn add(&mut self, own: Identity, node: u8, address: SocketAddr) -> bool {
         self.lines
-            .push(Line::new(self.alloc, node, address))
+            .push(Line::new(self.alloc, own, node, address))
             .is_ok()
     }
 
@@ -414,6 +415,15 @@ fn tell(rt: &impl Eprint, node: u8, change: Change) {
         Change::Lost => eprintln!(rt; "trustd: peer {node} is lost"),
         Change::Refused => eprintln!(rt;
             "trustd: peer {node} ended the connection before it answered: does it know this key?"
+        ),
+        Change::Stranger(
+            Identity {
+                node: other,
+                nodes,
+                group,
+            },
+        ) => eprintln!(rt;
+            "trustd: peer {node} is node {other} of {nodes} of group {group}: it gets nothing"
         ),
     };
 }

@@ -13,7 +13,11 @@ use std::net::{Net, SocketAddr};
 use std::random::RandomSource;
 use ts_access::Key;
 use ts_carrier::{Dial, Mailbox, Phase};
+use ts_node::Identity;
 use ts_wire::{Feed, Frame};
+
+/// The frame Identify, by which a peer is asked which node of which group it is.
+const IDENTIFY: [u8; 6] = [0, 0, 0, 2, 2, 0x17];
 
 /// The frame Status, by which a peer is asked how many commands it knows.
 const STATUS: [u8; 6] = [0, 0, 0, 2, 2, 0x15];
@@ -38,6 +42,8 @@ pub(crate) enum Change {
     Lost,
     /// The peer ended the connection before it answered.
     Refused,
+    /// It is another node than was meant, or one of another group.
+    Stranger(Identity),
 }
 
 /// The line to a peer.
@@ -46,6 +52,8 @@ pub(crate) struct Line {
     alloc: Global,
     /// The number of the peer.
     pub node: u8,
+    /// Which node of which group it has to be.
+    expected: Identity,
     address: SocketAddr,
     mailbox: Mailbox,
     dial: Dial,
@@ -58,9 +66,13 @@ pub(crate) struct Line {
     asked: u64,
     /// When something was last heard of it.
     heard: u64,
-    /// Whether it has answered on this connection.
+    /// Whether it is the node that is meant, by its answer on this connection.
+    is_met: bool,
+    /// Which node it is, if it is another one.
+    stranger: Option<Identity>,
+    /// Whether it has said on this connection how many commands it knows.
     is_known: bool,
-    /// Whether it was said that it ended a connection before it answered.
+    /// Whether it was said that it ended a connection before it answered, or is another node.
     is_told: bool,
     /// How many commands it has said that it knows.
     pub prefix: u32,
@@ -69,11 +81,12 @@ pub(crate) struct Line {
 }
 
 impl Line {
-    /// The line to a peer, which is down.
-    pub fn new(alloc: Global, node: u8, address: SocketAddr) -> Line {
+    /// The line to a peer of a node, which is down.
+    pub fn new(alloc: Global, own: Identity, node: u8, address: SocketAddr) -> Line {
         Line {
             alloc,
             node,
+            expected: Identity { node, ..own },
             address,
             mailbox: Mailbox::new(alloc),
             dial: Dial::new(),
@@ -84,6 +97,8 @@ impl Line {
             writable: false,
             asked: 0,
             heard: 0,
+            is_met: false,
+            stranger: None,
             is_known: false,
             is_told: false,
             prefix: 0,
@@ -116,6 +131,7 @@ impl Line {
         self.seal = None;
         self.mailbox.cut();
         self.answers = Feed::new(self.alloc);
+        self.is_met = false;
         self.dial.lose(now, chance);
         if self.is_known {
             self.is_known = false;
@@ -125,7 +141,10 @@ impl Line {
             return Change::None;
         }
         self.is_told = true;
-        Change::Refused
+        match self.stranger {
+            Some(identity) => Change::Stranger(identity),
+            None => Change::Refused,
+        }
     }
 
     /// Begins to connect.
@@ -184,10 +203,26 @@ impl Line {
                 return self.lose(now, chance);
             }
         }
+        if self.mailbox.begin(&IDENTIFY).is_err() {
+            return self.lose(now, chance);
+        }
         self.dial.reach(now);
         self.heard = now;
-        self.ask_prefix(now);
+        self.asked = now;
+        self.stranger = None;
         Change::None
+    }
+
+    /// The peer says which node it is: whether it is the one that is meant. It is asked then how
+    /// many commands it knows, and gets what waits for it.
+    fn meet(&mut self, identity: Identity, now: u64) -> bool {
+        self.is_met = identity == self.expected;
+        if !self.is_met {
+            self.stranger = Some(identity);
+            return false;
+        }
+        self.ask_prefix(now);
+        true
     }
 
     /// Asks the peer how many commands it knows.
@@ -215,20 +250,37 @@ impl Line {
         }
     }
 
-    /// Takes the answers that are whole. `false` where one is none that a node gives to a message.
-    fn take_answers(&mut self, octets: &[u8]) -> bool {
+    /// Takes an answer. `false` where it is none that a node gives to a message, or the peer is
+    /// another node than was meant.
+    fn take_answer(&mut self, answer: Frame, now: u64) -> bool {
+        match answer {
+            Frame::Identity { node, nodes, group } => {
+                self.meet(Identity { node, nodes, group }, now)
+            }
+            Frame::Prefix { prefix } if self.is_met => {
+                self.prefix = prefix;
+                self.is_known = true;
+                true
+            }
+            Frame::Done { .. } | Frame::NodeFault { .. } => self.is_met,
+            _ => false,
+        }
+    }
+
+    /// Takes the answers that are whole. `false` where the connection is over.
+    fn take_answers(&mut self, octets: &[u8], now: u64) -> bool {
         if self.answers.push(octets).is_err() {
             return false;
         }
         for _answer in 0..PIECE {
             match self.answers.take() {
-                Ok(Some(Frame::Prefix { prefix })) => {
-                    self.prefix = prefix;
-                    self.is_known = true;
+                Ok(Some(answer)) => {
+                    if !self.take_answer(answer, now) {
+                        return false;
+                    }
                 }
-                Ok(Some(Frame::Done { .. } | Frame::NodeFault { .. })) => {}
                 Ok(None) => return true,
-                Ok(Some(_)) | Err(_) => return false,
+                Err(_) => return false,
             }
         }
         true
@@ -236,9 +288,9 @@ impl Line {
 
     /// Takes the octets that came: as they are, or as the seal opens them. `false` where the
     /// connection is over.
-    fn take_in(&mut self, piece: &[u8]) -> bool {
+    fn take_in(&mut self, piece: &[u8], now: u64) -> bool {
         let Some(seal) = &mut self.seal else {
-            return self.take_answers(piece);
+            return self.take_answers(piece, now);
         };
         if !seal.push(piece) {
             return false;
@@ -249,7 +301,7 @@ impl Line {
             };
             match seal.take() {
                 Ok(Some(octets)) => {
-                    if !self.take_answers(&octets) {
+                    if !self.take_answers(&octets, now) {
                         return false;
                     }
                 }
@@ -271,7 +323,7 @@ impl Line {
             };
             if count > 0 {
                 self.heard = now;
-                if !self.take_in(&buffer[..count]) {
+                if !self.take_in(&buffer[..count], now) {
                     return false;
                 }
             }
@@ -279,9 +331,10 @@ impl Line {
         true
     }
 
-    /// Makes octets ready to be written. `false` where they can't be.
+    /// Makes octets ready to be written: before the peer has said which node it is, nothing but the
+    /// question for that. `false` where they can't be.
     fn make_ready(&mut self) -> bool {
-        if self.mailbox.fill().is_err() {
+        if self.is_met && self.mailbox.fill().is_err() {
             return false;
         }
         match &mut self.seal {
@@ -335,7 +388,7 @@ impl Line {
 
     /// Looks after a connection that is there.
     fn exchange(&mut self, buffer: &mut [u8; PIECE], now: u64, chance: u64) -> Change {
-        if now.saturating_sub(self.asked) >= BEAT && self.heard >= self.asked {
+        if self.is_met && now.saturating_sub(self.asked) >= BEAT && self.heard >= self.asked {
             self.ask_prefix(now);
         }
         let is_silent = now.saturating_sub(self.heard) >= SILENCE;

@@ -28,7 +28,7 @@ use std::time::{Duration, Instant, SystemTime, UNIX_EPOCH};
 use ts_access::Key;
 use ts_disk::Disk;
 use ts_links::{Connections, Service};
-use ts_node::Machine;
+use ts_node::{Identity, Machine};
 use ts_question::{Answer, Question};
 use ts_serve::Server;
 use ts_store::{Command, Outcome};
@@ -92,7 +92,12 @@ fn seed_of<R: Clock>(rt: &R) -> Option<u64> {
 }
 
 /// The carrier of a group, whose peers' addresses are looked up once.
-fn carrier_of<R: Net + Clock>(rt: &R, alloc: Global, group: &Group) -> Result<Carrier, LoopFault> {
+fn carrier_of<R: Net + Clock>(
+    rt: &R,
+    alloc: Global,
+    own: Identity,
+    group: &Group,
+) -> Result<Carrier, LoopFault> {
     let Some(seed) = seed_of(rt) else {
         return Err(LoopFault::Clock);
     };
@@ -104,7 +109,7 @@ fn carrier_of<R: Net + Clock>(rt: &R, alloc: Global, group: &Group) -> Result<Ca
         let Some(address) = found.next() else {
             return Err(LoopFault::Peer(peer.node));
         };
-        if !carrier.add(peer.node, address) {
+        if !carrier.add(own, peer.node, address) {
             return Err(LoopFault::Memory);
         }
     }
@@ -118,6 +123,7 @@ impl Edge {
         alloc: Global,
         address: &str,
         slots: usize,
+        own: Identity,
         group: &Group,
         access: &Access,
     ) -> Result<Edge, LoopFault> {
@@ -142,7 +148,7 @@ impl Edge {
             events,
             listener,
             doors: places(alloc, slots)?,
-            carrier: carrier_of(rt, alloc, group)?,
+            carrier: carrier_of(rt, alloc, own, group)?,
             accepts: Accepts::AtEvent,
             counts: Counts::new(),
             start,
@@ -378,7 +384,8 @@ where
     let slots = limits.connections_at_once;
     // One slot more is for what the loop asks of its own node.
     let mut table = Connections::new(alloc, slots.saturating_add(1))?;
-    let mut edge = Edge::new(rt, alloc, address, slots, group, access)?;
+    let own = server.identity();
+    let mut edge = Edge::new(rt, alloc, address, slots, own, group, access)?;
     edge.serve(rt, &mut table, server, limits, access)?;
     Ok(edge.counts)
 }

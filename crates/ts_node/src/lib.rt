@@ -23,6 +23,7 @@
 //!   moment each pair of images opens to the facts before, or to those and the step's; `compacts`:
 //!   a compaction leaves the force of the facts, and the rest; `failed`, `broken`: broken after a
 //!   device's failure; `sound`, `config`, `basis`.
+//! - `Node::identity`: which node of which group it is, as its record has it.
 //! - `Node::close`: the two disks and the machine.
 //!
 //! `IsSound` says that a node is one that `open` gave: the roles stand for its facts, the disks
@@ -45,6 +46,7 @@
 
 mod feeding;
 mod growth;
+mod identity;
 mod input;
 mod laws;
 mod machine;
@@ -55,6 +57,7 @@ mod planning;
 mod roles;
 mod submit;
 
+pub use identity::Identity;
 pub use input::{Input, NodeFault, Output, Reply};
 pub use laws::headline;
 pub use machine::Machine;

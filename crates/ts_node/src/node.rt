@@ -23,6 +23,7 @@ ghost use Rattle.ts_record.specs.Opening.{IsFault, NothingNew};
 ghost use Rattle.ts_node.specs.Node.{Compacts, Failed, Handles, IsSound, Moments, config, fault_as};
 ghost use Rattle.ts_node.specs.Node.{facts, owner, volatile};
 
+use crate::identity::Identity;
 use crate::input::{Input, NodeFault, Output, Reply};
 use crate::machine::Machine;
 use crate::plan::Plan;
@@ -115,6 +116,19 @@ impl<D: Disk, C: Command + Codec, M: Machine<C>> Node<D, C, M> {
                     machine,
                 })
             }
+        }
+    }
+
+    /// Which node of which group it is, as the header of its record has it.
+    pub fn identity(&self) -> Identity
+        ensures node { result.node ≡ self.now.kept.node }
+        ensures nodes { result.nodes ≡ self.now.kept.nodes }
+        ensures group { result.group ≡ self.now.kept.group }
+    {
+        Identity {
+            node: self.kept.node(),
+            nodes: self.kept.nodes(),
+            group: self.kept.group(),
         }
     }
 

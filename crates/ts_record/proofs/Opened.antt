@@ -2,14 +2,14 @@
 use Rattle.std.proofs.Common.{◌≡◌, ◌⊎◌, ◌≤◌, inl, inr, ⊎_elim, ◌+◌, ℕ, Bool, true, false, cond, List, [], ◌∷◌, ◌++◌, length, take, drop, get_or, refl, sym, ◌∙◌, ap, subst, arith, append_assoc, length-append}
 use Rattle.std.proofs.lemmas.List.{take_at}
 use Rattle.std.specs.List.{flat_map, AllByRecursion}
-use Rattle.ts_journal.specs.Images.{Header, Member, member_of, head, Block, block, bodies_in, IsBody, IsWhole, Stands, InUse, Opens}
+use Rattle.ts_journal.specs.Images.{Header, Member, member_of, at_generation, head, Block, block, bodies_in, IsBody, IsWhole, Stands, InUse, Opens}
 use Rattle.ts_journal.specs.Choice.{header_of_owner, IsLive, IsOther, Unchosen, LooksLike}
 use Rattle.ts_journal.specs.declared.choice.Owner.{Owner}
 use Rattle.ts_journal.specs.declared.choice.Look.{Look}
 use Rattle.ts_journal.specs.declared.choice.Look.TheVariants.{Short, Shut, Wrong, Right}
 use Rattle.ts_journal.specs.declared.journal.Stage.{Stage}
 use Rattle.ts_journal.specs.declared.journal.Stage.TheVariants.{Live, Closed, Begun, Copying}
-use Rattle.ts_journal.proofs.Choices.{live_not_shut, one_header, behind_live, long_live}
+use Rattle.ts_journal.proofs.Choices.{live_not_shut, one_header, earlier_live, behind_live, long_live}
 use Rattle.ts_synod.specs.declared.message.Fact.{Fact}
 use Rattle.ts_record.specs.Facts.{AllFit, bodies_of, AreFacts}
 use Rattle.ts_journal.proofs.Blocks.{one4, alike}
@@ -125,23 +125,23 @@ not_unchosen m bodies a b none (inl u) = none.first u.header (live_of m bodies a
 not_unchosen m bodies a b none (inr u) = none.second u.header (live_of m bodies b a u) u.behind
 
 -- the disk that isn't chosen isn't in use
-not_other : (stage : Stage) (k : Header) (m : Member) (bodies : List (List ℕ)) (image other : List ℕ) → IsLive k image → IsOther stage k.generation other → InUse m bodies other image → ⊥
+not_other : (stage : Stage) (k : Header) (m : Member) (bodies : List (List ℕ)) (image other : List ℕ) → IsLive k image → IsOther stage k other → InUse m bodies other image → ⊥
 not_other Live k m bodies image other live earlier u =
-    let l : IsLive earlier.0 other = record { right = earlier.3; live = earlier.1; wide = earlier.4; rest = earlier.2; is = earlier.6 } in
-    absurd (omega (arith, earlier.5, behind_live k u.header.generation image live u.behind, ap (λ (x : Header). x.generation) (one_header u.header earlier.0 other (live_of m bodies other image u) l)))
+    let was = at_generation k earlier.0 in
+    absurd (omega (arith, earlier.5, behind_live k u.header image live u.behind, ap (λ (x : Header). x.generation) (one_header u.header was other (live_of m bodies other image u) (earlier_live k other earlier))))
 not_other Closed k m bodies image other live shut u = live_not_shut u.header other (live_of m bodies other image u) shut
 not_other Begun k m bodies image other live none u = none
 not_other Copying k m bodies image other live none u = none
 
 -- the bodies are on the disk that is chosen
-pub stands_chosen : (swapped : Bool) (owner : Owner) (stage : Stage) (m : Member) (bodies : List (List ℕ)) (a b : List ℕ) → IsLive (header_of_owner owner) (cond swapped b a) → IsOther stage owner.generation (cond swapped a b) → Opens m bodies a b → (h : Header) × (live : ℕ) × Stands h live bodies (cond swapped b a)
+pub stands_chosen : (swapped : Bool) (owner : Owner) (stage : Stage) (m : Member) (bodies : List (List ℕ)) (a b : List ℕ) → IsLive (header_of_owner owner) (cond swapped b a) → IsOther stage (header_of_owner owner) (cond swapped a b) → Opens m bodies a b → (h : Header) × (live : ℕ) × Stands h live bodies (cond swapped b a)
 stands_chosen true owner stage m bodies a b live other (inl u) = absurd (not_other stage (header_of_owner owner) m bodies b a live other u)
 stands_chosen true owner stage m bodies a b live other (inr u) = (u.header, u.live, u.stands)
 stands_chosen false owner stage m bodies a b live other (inl u) = (u.header, u.live, u.stands)
 stands_chosen false owner stage m bodies a b live other (inr u) = absurd (not_other stage (header_of_owner owner) m bodies a b live other u)
 
 -- the disk that is chosen is that member's
-pub owner_chosen : (swapped : Bool) (owner : Owner) (stage : Stage) (m : Member) (bodies : List (List ℕ)) (a b : List ℕ) → IsLive (header_of_owner owner) (cond swapped b a) → IsOther stage owner.generation (cond swapped a b) → Opens m bodies a b → member_of (header_of_owner owner) ≡ m
+pub owner_chosen : (swapped : Bool) (owner : Owner) (stage : Stage) (m : Member) (bodies : List (List ℕ)) (a b : List ℕ) → IsLive (header_of_owner owner) (cond swapped b a) → IsOther stage (header_of_owner owner) (cond swapped a b) → Opens m bodies a b → member_of (header_of_owner owner) ≡ m
 owner_chosen true owner stage m bodies a b live other (inl u) = absurd (not_other stage (header_of_owner owner) m bodies b a live other u)
 owner_chosen true owner stage m bodies a b live other (inr u) = ap member_of (one_header (header_of_owner owner) u.header b live (live_of m bodies b a u)) ∙ u.owner
 owner_chosen false owner stage m bodies a b live other (inl u) = ap member_of (one_header (header_of_owner owner) u.header a live (live_of m bodies a b u)) ∙ u.owner

@@ -2,7 +2,7 @@
 use Rattle.std.proofs.Common.{◌≡◌, ◌⊎◌, ◌≤◌, inl, inr, ◌+◌, ℕ, Bool, true, false, cond, List, [], ◌∷◌, ◌++◌, length, drop, refl, sym, ◌∙◌, ap, subst, arith, append_assoc, length-append}
 use Rattle.std.specs.List.{flat_map}
 use Rattle.ts_disk.specs.Disk.{State, IsDisk, IsDurable, Call, Same, EveryImage}
-use Rattle.ts_journal.specs.Images.{head, Member, member_of, block, bodies_in}
+use Rattle.ts_journal.specs.Images.{Header, head, Member, member_of, block, bodies_in}
 use Rattle.ts_journal.specs.Settled.{Holds, IsSpare, header_of}
 use Rattle.ts_journal.specs.Choice.{header_of_owner, IsLive, IsOther, IsChosen}
 use Rattle.ts_journal.specs.declared.choice.Choice.{Choice}
@@ -62,14 +62,14 @@ refused_fault octets old_a old_b new_a new_b a b NotFormatted a_is b_is refused 
 refused_fault octets old_a old_b new_a new_b a b OldVersion a_is b_is refused = subst (λ x. IsRefused x old_b.read OldVersion) a_is (subst (λ y. IsRefused a y OldVersion) b_is refused)
 refused_fault octets old_a old_b new_a new_b a b (Damaged at) a_is b_is refused = absurd refused
 
-spare_of : (stage : Stage) {D : Type 0} (state : D → State) (j : Journal D) → IsDurable (state j.spare) → IsOther stage j.generation (state j.spare).read → IsSpare stage (header_of j) [] j.copy_end (state j.spare)
+spare_of : (stage : Stage) {D : Type 0} (state : D → State) (j : Journal D) → IsDurable (state j.spare) → IsOther stage (header_of j) (state j.spare).read → IsSpare stage (header_of j) [] j.copy_end (state j.spare)
 spare_of Live state j durable other = (durable, other)
 spare_of Closed state j durable other = (durable, other)
 spare_of Begun state j durable other = absurd other
 spare_of Copying state j durable other = absurd other
 
 -- what was read is on the disk in use
-pub keeps_of : {D C : Type 0} (state : D → State) (octets : C → List ℕ) (j : Journal D) (facts : List (Fact C)) → IsLive (header_of j) (state j.current).read → IsOther j.stage j.generation (state j.spare).read
+pub keeps_of : {D C : Type 0} (state : D → State) (octets : C → List ℕ) (j : Journal D) (facts : List (Fact C)) → IsLive (header_of j) (state j.current).read → IsOther j.stage (header_of j) (state j.spare).read
     → IsDurable (state j.current) → IsDurable (state j.spare) → IsRead octets version_2 (state j.current).read facts j.end → (bodies copied : List (List ℕ)) × Holds state bodies copied j × AreFacts octets bodies facts
 keeps_of state octets j facts live other durable still read =
     let h = header_of j in
@@ -127,8 +127,8 @@ no_fault octets m old_a old_b new_a new_b (Damaged at) facts is opens =
     absurd (not_unreadable version_2 (omega arith) octets image facts at is.2 (holding octets s.0 s.1 opens.0 facts image s.2 opens.2))
 
 -- no rewrite is under way on a record that was opened
-pub none_under_way : {C : Type 0} (octets : C → List ℕ) (stage : Stage) (generation : ℕ) (image : List ℕ) (facts list : List (Fact C)) (copied : List (List ℕ)) (done : ℕ) → IsOther stage generation image → IsUnderWay octets facts copied (rewrite_at stage list done)
-none_under_way octets Live generation image facts list copied done other = tt
-none_under_way octets Closed generation image facts list copied done other = tt
-none_under_way octets Begun generation image facts list copied done other = absurd other
-none_under_way octets Copying generation image facts list copied done other = absurd other
+pub none_under_way : {C : Type 0} (octets : C → List ℕ) (stage : Stage) (h : Header) (image : List ℕ) (facts list : List (Fact C)) (copied : List (List ℕ)) (done : ℕ) → IsOther stage h image → IsUnderWay octets facts copied (rewrite_at stage list done)
+none_under_way octets Live h image facts list copied done other = tt
+none_under_way octets Closed h image facts list copied done other = tt
+none_under_way octets Begun h image facts list copied done other = absurd other
+none_under_way octets Copying h image facts list copied done other = absurd other

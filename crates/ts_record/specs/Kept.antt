@@ -1,5 +1,5 @@
 -- What a record keeps: its disks, in the order in which they were given, and its facts; whose it
--- is; which disk is in use, and its generation; and how far a rewrite is.
+-- is, and of which group; which disk is in use, and its generation; and how far a rewrite is.
 use Rattle.std.specs.Prelude.{ℕ, List, Bool}
 use Rattle.ts_disk.specs.Disk.{State}
 use Rattle.ts_journal.specs.Images.{Member}
@@ -15,6 +15,7 @@ pub record Kept (D C : Type 0) : Type 0 where
   pub facts : List (Fact C)
   pub node : ℕ
   pub nodes : ℕ
+  pub group : ℕ
   pub swapped : Bool
   pub generation : ℕ
   pub rewrite : Rewrite C
@@ -51,6 +52,7 @@ kept_of c broken = record {
   facts = c.facts.items;
   node = c.journal.node;
   nodes = c.journal.nodes;
+  group = c.journal.group;
   swapped = c.journal.swapped;
   generation = c.journal.generation;
   rewrite = rewrite_of c;

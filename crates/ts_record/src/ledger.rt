@@ -40,6 +40,7 @@ fn shut<D: Disk, C: Codec>(alloc: Global, c: &mut Ledger<D, C>) -> Result<(), Fa
         ≡ on (course_of c.old) (begun (compacted c.old.facts.items))) }
     ensures refused { OnErr result (course_of c.new ≡ course_of c.old) }
     ensures owner { member_in c.new.journal ≡ member_in c.old.journal }
+    ensures group { c.new.journal.group ≡ c.old.journal.group }
     ensures moments { EveryMoment D.state
         (OpensToFrom C.octets (member_in c.old.journal) c.old.journal.swapped c.old.facts.items)
         c.old.journal c.new.journal }
@@ -63,6 +64,7 @@ fn begin<D: Disk, C: Codec>(c: &mut Ledger<D, C>) -> Result<(), Fault>
         ≡ on (course_of c.old) (copying c.old.copy.items 0)) }
     ensures refused { OnErr result (course_of c.new ≡ course_of c.old) }
     ensures owner { member_in c.new.journal ≡ member_in c.old.journal }
+    ensures group { c.new.journal.group ≡ c.old.journal.group }
     ensures moments { EveryMoment D.state
         (OpensToFrom C.octets (member_in c.old.journal) c.old.journal.swapped c.old.facts.items)
         c.old.journal c.new.journal }
@@ -85,6 +87,7 @@ fn copy<D: Disk, C: Codec>(alloc: Global, c: &mut Ledger<D, C>) -> Result<(), Fa
         ≡ on (course_of c.old) (copying c.old.copy.items (c.old.done + 1))) }
     ensures refused { OnErr result (course_of c.new ≡ course_of c.old) }
     ensures owner { member_in c.new.journal ≡ member_in c.old.journal }
+    ensures group { c.new.journal.group ≡ c.old.journal.group }
     ensures moments { EveryMoment D.state
         (OpensToFrom C.octets (member_in c.old.journal) c.old.journal.swapped c.old.facts.items)
         c.old.journal c.new.journal }
@@ -108,6 +111,7 @@ fn switch<D: Disk, C: Codec>(alloc: Global, c: &mut Ledger<D, C>) -> Result<(), 
     ensures course { OnOk result (course_of c.new ≡ switched (course_of c.old) c.old.copy.items) }
     ensures refused { OnErr result (course_of c.new ≡ course_of c.old) }
     ensures owner { member_in c.new.journal ≡ member_in c.old.journal }
+    ensures group { c.new.journal.group ≡ c.old.journal.group }
     ensures moments { EveryMoment D.state
         (OpensToForce C.octets (member_in c.old.journal) c.old.facts.items) c.old.journal
         c.new.journal }
@@ -131,6 +135,7 @@ pub(crate) fn step<D: Disk, C: Codec>(
     ensures steps { IfOk result (λ answer. Steps (course_of c.old) answer (course_of c.new)) }
     ensures refused { OnErr result (course_of c.new ≡ course_of c.old) }
     ensures owner { member_in c.new.journal ≡ member_in c.old.journal }
+    ensures group { c.new.journal.group ≡ c.old.journal.group }
     ensures moments { EveryMoment D.state
         (OpensToForce C.octets (member_in c.old.journal) c.old.facts.items) c.old.journal
         c.new.journal }
@@ -174,6 +179,7 @@ pub(crate) fn append<D: Disk, C: Codec>(
     ensures generation { c.new.journal.generation ≡ c.old.journal.generation }
     ensures refused { OnErr result (course_of c.new ≡ course_of c.old) }
     ensures owner { member_in c.new.journal ≡ member_in c.old.journal }
+    ensures group { c.new.journal.group ≡ c.old.journal.group }
     ensures moments { EveryMoment D.state
         (ToBeforeOrAfter C.octets (member_in c.old.journal) c.old.journal.swapped
         c.old.facts.items facts.now) c.old.journal c.new.journal }

@@ -80,8 +80,8 @@ fn count<C>(facts: &[Fact<C>]) -> Result<u32, Fault>
 }
 
 impl<D: Disk, C: Codec> Record<D, C> {
-    /// Writes the bodies of a record of version 1, one for one, as a record on two other disks, and
-    /// answers the number of their facts. The old disk is read and not written.
+    /// Writes the bodies of a record of version 1, one for one, as a record on two other disks, of
+    /// no group, and answers the number of their facts. The old disk is read and not written.
     ///
     /// # Errors
     ///
@@ -122,7 +122,7 @@ impl<D: Disk, C: Codec> Record<D, C> {
         let record = read_old::<C>(alloc, &octets)?;
         let facts = count(&record.contents.facts)?;
         let text = &octets[VERSION_1.first_gate..=record.contents.end];
-        format_with(a, b, record.node, record.nodes, text)?;
+        format_with(a, b, record.node, record.nodes, 0, text)?;
         Ok(facts)
     }
 }

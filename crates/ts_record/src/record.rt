@@ -62,7 +62,8 @@ fn record_of<D: Disk, C: Codec>(
     found: Found<C>,
 ) -> Record<D, C>
     requires live { IsLive (header_of_owner found.choice.owner) (D.state current).read }
-    requires other { IsOther found.choice.stage found.choice.owner.generation (D.state spare).read }
+    requires other { IsOther found.choice.stage (header_of_owner found.choice.owner)
+        (D.state spare).read }
     requires durable { IsDurable (D.state current) }
     requires still { IsDurable (D.state spare) }
     requires read { IsRead C.octets version_2
@@ -74,6 +75,7 @@ fn record_of<D: Disk, C: Codec>(
     ensures swapped { result.swapped ≡ found.choice.swapped }
     ensures node { result.node ≡ found.choice.owner.node }
     ensures nodes { result.nodes ≡ found.choice.owner.nodes }
+    ensures group { result.group ≡ found.choice.owner.group }
     ensures generation { result.generation ≡ found.choice.owner.generation }
     ensures rewrite { result.rewrite ≡ idle }
     ensures opens { AnyPair (OpensToFrom C.octets (member result) result.swapped result.facts)
@@ -87,6 +89,7 @@ fn record_of<D: Disk, C: Codec>(
         swapped: choice.swapped,
         node: choice.owner.node,
         nodes: choice.owner.nodes,
+        group: choice.owner.group,
         generation: choice.owner.generation,
         end,
         stage: choice.stage,
@@ -104,17 +107,18 @@ fn record_of<D: Disk, C: Codec>(
 }
 
 impl<D: Disk, C: Codec> Record<D, C> {
-    /// Writes an empty record of a node on two disks, and syncs both. The first is live, of
-    /// generation 1; the second is shut, of generation 0.
-    pub fn format(a: &mut D, b: &mut D, node: u8, nodes: u8) -> Result<(), Fault>
+    /// Writes an empty record of a node of a group on two disks, and syncs both. The first is live,
+    /// of generation 1; the second is shut, of generation 0. Group 0 is none: its record tells
+    /// nobody whose it is.
+    pub fn format(a: &mut D, b: &mut D, node: u8, nodes: u8, group: u32) -> Result<(), Fault>
         requires node_from { 1 ≤ node }
         requires node_to { node ≤ nodes }
         requires nodes_to { nodes ≤ 9 }
         ensures first { OnOk result ((D.state a.new).read ≡
-            head (record { node = node; nodes = nodes; generation = 1 })
+            head (record { node = node; nodes = nodes; group = group; generation = 1 })
             ++ (1 ∷ 0 ∷ drop 26 (D.state a.old).read)) }
         ensures second { OnOk result ((D.state b.new).read ≡
-            head (record { node = node; nodes = nodes; generation = 0 })
+            head (record { node = node; nodes = nodes; group = group; generation = 0 })
             ++ (0 ∷ 0 ∷ drop 26 (D.state b.old).read)) }
         // Each pair of images that a crash may leave opens to no facts.
         ensures opens { OnOk result (AnyPair
@@ -123,7 +127,7 @@ impl<D: Disk, C: Codec> Record<D, C> {
         ensures fault { IfErr result (λ fault. (fault ≡ DiskFailed)
             × EitherFailed (D.state a.old) (D.state b.old) (D.state a.new) (D.state b.new)) }
     {
-        format(a, b, node, nodes)?;
+        format(a, b, node, nodes, group)?;
         Ok(())
     }
 
@@ -138,10 +142,11 @@ impl<D: Disk, C: Codec> Record<D, C> {
         ensures chosen { IfOk result (λ opened. (choice : Choice)
             × IsChosen choice (D.state a).read (D.state b).read
             × (opened.swapped ≡ choice.swapped) × (opened.generation ≡ choice.owner.generation)) }
-        // The record is that of the node in its header, one of 1 to 9 nodes.
+        // The record is that of the node and group in its header, one of 1 to 9 nodes.
         ensures owner { IfOk result (λ opened. (choice : Choice)
             × IsChosen choice (D.state a).read (D.state b).read
-            × (opened.node ≡ choice.owner.node) × (opened.nodes ≡ choice.owner.nodes)) }
+            × (opened.node ≡ choice.owner.node) × (opened.nodes ≡ choice.owner.nodes)
+            × (opened.group ≡ choice.owner.group)) }
         ensures member { IfOk result (λ opened. (1 ≤ opened.node) × (opened.node ≤ opened.nodes)
             × (opened.nodes ≤ 9)) }
         // No rewrite is begun: one that was not switched is forgotten.
@@ -209,6 +214,13 @@ impl<D: Disk, C: Codec> Record<D, C> {
         self.ledger.journal.nodes
     }
 
+    /// The number of the group, which was given when the record was formatted; 0 is none.
+    pub fn group(&self) -> u32
+        ensures { result ≡ self.now.group }
+    {
+        self.ledger.journal.group
+    }
+
     /// Gives the two disks back, in the order in which they were given.
     pub fn close(self) -> (D, D)
         ensures a { result.0 ≡ self.a }
@@ -243,6 +255,7 @@ impl<D: Disk, C: Codec> Record<D, C> {
         ensures generation { self.new.generation ≡ self.old.generation }
 
         ensures owner { member self.new ≡ member self.old }
+        ensures group { self.new.group ≡ self.old.group }
 
         // At a fault the facts stay, and so do the disk in use, its generation and the rewrite.
         ensures refused { OnErr result (course self.new ≡ course self.old) }
@@ -291,6 +304,7 @@ impl<D: Disk, C: Codec> Record<D, C> {
         ensures steps { IfOk result (λ answer. Steps (course self.old) answer (course self.new)) }
 
         ensures owner { member self.new ≡ member self.old }
+        ensures group { self.new.group ≡ self.old.group }
 
         // At a fault the facts stay, and so do the disk in use, its generation and the rewrite.
         ensures refused { OnErr result (course self.new ≡ course self.old) }

@@ -2,9 +2,9 @@
 use Rattle.std.specs.Prelude.{Bool, true, false}
 use Rattle.ts_wire.specs.declared.frame.Frame.{Frame}
 use Rattle.ts_wire.specs.declared.frame.Frame.TheVariants.{Done, Started, Settled, Answer, Unknown}
-use Rattle.ts_wire.specs.declared.frame.Frame.TheVariants.{NodeFault, FrameFault, Prefix}
+use Rattle.ts_wire.specs.declared.frame.Frame.TheVariants.{NodeFault, FrameFault, Prefix, Identity}
 
--- kinds 20 to 27 are what a server answers; the others are requests
+-- kinds 20 to 28 are what a server answers; the others are requests
 abbrev pub is_request : Frame → Bool
 is_request (Done count) = false
 is_request (Started position ballot) = false
@@ -14,4 +14,5 @@ is_request Unknown = false
 is_request (NodeFault fault) = false
 is_request (FrameFault fault) = false
 is_request (Prefix prefix) = false
+is_request (Identity node nodes group) = false
 is_request request = true

@@ -39,6 +39,12 @@ module _ {D M B : Type 0} (state : D → State)
     pub node : new.node ≡ old.node
     pub failed : new.failed ≡ old.failed
 
+  -- which node of which group it is, as its record has it, is answered; nothing changes
+  pub record Identified (old : Server D M) (replies : List Frame) (new : Server D M) : Type 0 where
+    pub said : replies ≡ frames.Identity old.node.kept.node old.node.kept.nodes
+        old.node.kept.group ∷ []
+    pub same : new ≡ old
+
   -- What a server answers to each request, and the server then. Other frames are no requests.
   abbrev pub Turn : Server D M → Frame → List Frame → Server D M → Type 0
   Turn old (frames.Peer message) replies new = Handled old (inputs.Deliver message) replies new
@@ -50,4 +56,5 @@ module _ {D M B : Type 0} (state : D → State)
   Turn old frames.CatchUp replies new = Handled old inputs.CatchUp replies new
   Turn old frames.Status replies new = Handled old inputs.Status replies new
   Turn old frames.Compact replies new = Handled old inputs.Compact replies new
+  Turn old frames.Identify replies new = Identified old replies new
   Turn old other replies new = ⊥

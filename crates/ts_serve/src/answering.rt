@@ -29,7 +29,7 @@ pub enum AnswerFault {
     Memory,
 }
 
-/// Whether a frame is a request: one of kind 01 to 07 or 10 to 16.
+/// Whether a frame is a request: one of kind 01 to 07 or 10 to 17.
 pub fn is_request(frame: &Frame) -> bool
     ensures { result ≡ is_request frame.now }
 {
@@ -41,7 +41,8 @@ pub fn is_request(frame: &Frame) -> bool
         | Frame::Unknown
         | Frame::NodeFault { .. }
         | Frame::FrameFault { .. }
-        | Frame::Prefix { .. } => false,
+        | Frame::Prefix { .. }
+        | Frame::Identity { .. } => false,
         _ => true,
     }
 }

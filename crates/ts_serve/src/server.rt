@@ -10,7 +10,7 @@ ghost use Rattle.ts_store.specs.Octets.{octets_of};
 ghost use Rattle.ts_wire.specs.Frames.{Fits};
 ghost use Rattle.ts_wire.specs.declared.frame.Frame.TheVariants.{Take};
 ghost use Rattle.ts_serve.specs.Replies.{IsWithin};
-ghost use Rattle.ts_serve.specs.Turn.{Given, Handled, Turn};
+ghost use Rattle.ts_serve.specs.Turn.{Given, Handled, Identified, Turn};
 ghost use Rattle.ts_serve.specs.Steps.{Answers, Refuses, Says};
 
 use crate::fault::ServeFault;
@@ -20,7 +20,7 @@ use crate::sending::{refuse, send, send_all};
 use std::alloc::Global;
 use std::io::Write;
 use ts_disk::Disk;
-use ts_node::{Input, Machine, Node};
+use ts_node::{Identity, Input, Machine, Node};
 use ts_question::{Answer, Question};
 use ts_store::{Command, Outcome};
 use ts_wire::{Feed, Frame, FrameFault};
@@ -94,6 +94,15 @@ impl<D: Disk, M: Machine<Command, Outcome = Outcome, Question = Question, Answer
         self.failed
     }
 
+    /// Which node of which group the server's is.
+    pub fn identity(&self) -> Identity
+        ensures node { result.node ≡ self.now.node.kept.node }
+        ensures nodes { result.nodes ≡ self.now.node.kept.nodes }
+        ensures group { result.group ≡ self.now.node.kept.group }
+    {
+        self.node.identity()
+    }
+
     /// What the server allocates with.
     pub(crate) fn allocator(&self) -> Global {
         self.alloc
@@ -164,6 +173,21 @@ impl<D: Disk, M: Machine<Command, Outcome = Outcome, Question = Question, Answer
         send(self.alloc, writer, Frame::Done { count })
     }
 
+    /// Writes which node of which group it is.
+    fn identify<W: Write>(&self, writer: &mut W) -> Result<(), ServeFault>
+        ensures said { Says (Identified D.state
+            (store_of Asked M.client_id M.outcome) M.basis M.is_answer self.now)
+            (W.contents writer.old) result self.now (W.contents writer.new) }
+    {
+        let identity = self.identity();
+        let frame = Frame::Identity {
+            node: identity.node,
+            nodes: identity.nodes,
+            group: identity.group,
+        };
+        send(self.alloc, writer, frame)
+    }
+
     /// Answers a frame.
     pub(crate) fn answer<W: Write>(
         &mut self,
@@ -186,6 +210,7 @@ impl<D: Disk, M: Machine<Command, Outcome = Outcome, Question = Question, Answer
             Frame::CatchUp => self.respond(Input::CatchUp, writer),
             Frame::Status => self.respond(Input::Status, writer),
             Frame::Compact => self.respond(Input::Compact, writer),
+            Frame::Identify => self.identify(writer),
             _ => Err(self.refuse(FrameFault::Kind, writer)),
         }
     }

@@ -104,6 +104,9 @@ fn opened_lines(lines: &mut Lines, a: MemDisk, b: MemDisk) -> Result<(), AllocEr
         Ok(record) => {
             lines.number(0, "node", u64::from(record.node()))?;
             lines.number(0, "nodes", u64::from(record.nodes()))?;
+            if record.group() > 0 {
+                lines.number(0, "group", u64::from(record.group()))?;
+            }
             fact_lines(lines, record.facts())
         }
         Err(refused) => fault_line(lines, refused.fault),

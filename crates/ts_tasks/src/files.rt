@@ -113,7 +113,7 @@ fn create_empty<R: Files + Eprint>(
     }
 }
 
-/// Makes the empty record of a node, on two files that hold no octets or are missing: what is there
+/// Makes the empty record of a node of a group, on two files that hold no octets or are missing: what is there
 /// is never written over.
 ///
 /// # Errors
@@ -126,6 +126,7 @@ pub fn format_files<R: Files<File = File> + Eprint>(
     path: &str,
     node: u8,
     nodes: u8,
+    group: u32,
 ) -> Result<(), Fault>
     requires from { 1 ≤ node }
     requires to { node ≤ nodes }
@@ -135,7 +136,7 @@ pub fn format_files<R: Files<File = File> + Eprint>(
     let _lock = RecordLock::of_new_record(rt, alloc, path)?;
     let mut a = create_empty(rt, alloc, path)?;
     let mut b = create_empty(rt, alloc, other.as_str())?;
-    Record::<FileDisk<File>, Command>::format(&mut a, &mut b, node, nodes)?;
+    Record::<FileDisk<File>, Command>::format(&mut a, &mut b, node, nodes, group)?;
     Ok(())
 }
 

@@ -22,7 +22,7 @@ use ts_serve::Server;
 use ts_sig::TableCheck;
 use ts_wire::NodeFault;
 
-/// Makes the record of a node, and says so.
+/// Makes the record of a node of a group, and says so.
 ///
 /// # Errors
 ///
@@ -32,12 +32,13 @@ pub fn format_record(
     file: &str,
     node: u8,
     nodes: u8,
+    group: u32,
 ) -> Result<(), Fault>
     requires from { 1 ≤ node }
     requires to { node ≤ nodes }
     requires few { nodes ≤ 9 }
 {
-    format_files(rt, rt.alloc(), file, node, nodes)?;
+    format_files(rt, rt.alloc(), file, node, nodes, group)?;
     match println!(rt; "formatted") {
         Ok(()) => Ok(()),
         Err(_) => Err(Fault::Write),

@@ -72,11 +72,17 @@ fn run_other<
 {
     match task {
         Task::Lab | Task::Verify(_) | Task::Submit { .. } | Task::Ask { .. } => Ok(()),
-        Task::Format { file, id, nodes } => format_record(rt, file.as_str(), *id, *nodes),
+        Task::Format {
+            file,
+            id,
+            nodes,
+            group,
+        } => format_record(rt, file.as_str(), *id, *nodes, *group),
         Task::Migrate { old, new } => migrate_record(rt, old.as_str(), new.as_str()),
         Task::Serve(words) => serve_record(rt, words),
         Task::Carry { addresses, rounds } => carry_messages(rt, addresses, *rounds),
         Task::Status { reach } => tend_server(rt, reach, Upkeep::Status),
+        Task::Identify { reach } => tend_server(rt, reach, Upkeep::Identify),
         Task::CatchUp { reach } => tend_server(rt, reach, Upkeep::CatchUp),
         Task::Compact { reach } => tend_server(rt, reach, Upkeep::Compact),
         Task::Keygen { role } => print_key(rt, *role),

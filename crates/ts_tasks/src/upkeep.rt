@@ -17,6 +17,8 @@ use ts_wire::{Frame, FrameFault};
 pub enum Upkeep {
     /// How many commands it knows.
     Status,
+    /// Which node of which group it is.
+    Identify,
     /// That it asks the others for what it lacks. What they give comes with the messages that are
     /// carried then.
     CatchUp,
@@ -29,6 +31,7 @@ impl Upkeep {
     fn frame(self) -> Frame {
         match self {
             Upkeep::Status => Frame::Status,
+            Upkeep::Identify => Frame::Identify,
             Upkeep::CatchUp => Frame::CatchUp,
             Upkeep::Compact => Frame::Compact,
         }
@@ -42,6 +45,10 @@ fn line_of(alloc: Global, upkeep: Upkeep, answer: &Frame) -> Result<String, Faul
             let prefix = *prefix;
             Ok(format!(in alloc; "prefix {prefix}\n")?)
         }
+        (Upkeep::Identify, Frame::Identity { node, nodes, group }) => {
+            let (node, nodes, group) = (*node, *nodes, *group);
+            Ok(format!(in alloc; "node {node} of {nodes} group {group}\n")?)
+        }
         (Upkeep::CatchUp, Frame::Done { .. }) => Ok(String::from_str(alloc, "catchup\n")?),
         (Upkeep::Compact, Frame::Done { count: 0 }) => {
             Ok(String::from_str(alloc, "compact working\n")?)
@@ -53,7 +60,8 @@ fn line_of(alloc: Global, upkeep: Upkeep, answer: &Frame) -> Result<String, Faul
     }
 }
 
-/// Asks this of a peer, and gives the line that says what it is answered: `prefix K`, `catchup`, or
+/// Asks this of a peer, and gives the line that says what it is answered: `prefix K`,
+/// `node I of N group G`, `catchup`, or
 /// `compact working`, and `compact switched` where the rewriting is done.
 ///
 /// # Errors

@@ -92,7 +92,8 @@ lab = leaf (codes "lab") []
 
 unfoldable pub format : Shape
 format = leaf (codes "format")
-    (word (codes "file") ∷ needed (option (codes "id")) ∷ needed (option (codes "nodes")) ∷ [])
+    (word (codes "file") ∷ needed (option (codes "id")) ∷ needed (option (codes "nodes"))
+    ∷ option (codes "group") ∷ [])
 
 unfoldable pub migrate : Shape
 migrate = leaf (codes "migrate") (word (codes "old") ∷ word (codes "new") ∷ [])
@@ -168,8 +169,8 @@ node_tasks = with_tasks (versioned (choice (codes "trustd") [] []))
 -- the tasks of a node's upkeep, after others
 unfoldable pub with_upkeep : App → App
 with_upkeep app = with_tasks app
-    (reaching (codes "status") ∷ reaching (codes "catchup") ∷ reaching (codes "compact") ∷ keygen
-    ∷ [])
+    (reaching (codes "status") ∷ reaching (codes "identify") ∷ reaching (codes "catchup")
+    ∷ reaching (codes "compact") ∷ keygen ∷ [])
 
 unfoldable pub program : App
 program = with_upkeep (with_tasks node_tasks

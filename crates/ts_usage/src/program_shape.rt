@@ -29,9 +29,11 @@ fn format<'a>(alloc: Global) -> Result<Command<'a>, AllocError>
         word(alloc, "file", "FILE", record),
     );
     let id = needed(option(alloc, "id", "I", "Which node it is, 1 to 9"));
+    let nodes = needed(option(alloc, "nodes", "N", nodes));
+    let group = "Of which group, a number below 2^32 that all its nodes have; none if not given";
     with(
-        with(command, id),
-        needed(option(alloc, "nodes", "N", nodes)),
+        with(with(command, id), nodes),
+        option(alloc, "group", "G", group),
     )
 }
 
@@ -188,6 +190,8 @@ fn with_upkeep<'a>(
 {
     let what = "Prints how many commands a node knows";
     let program = among(program, reaching(alloc, "status", what));
+    let what = "Prints which node of which group it is";
+    let program = among(program, reaching(alloc, "identify", what));
     let what = "Has a node ask others for what it lacks";
     let program = among(program, reaching(alloc, "catchup", what));
     let what = "Has a node make one step of rewriting its record";

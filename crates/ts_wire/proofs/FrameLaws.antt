@@ -27,14 +27,14 @@ use Rattle.ts_wire.proofs.CommandLaws.{command_part}
 use Rattle.ts_wire.specs.Commands.{command_at, parsed}
 use Rattle.ts_wire.specs.Outcomes.{is_node, is_position, is_ballot, refusal_code, outcome_encoding, OutcomeFits, node_fault_code, frame_fault_code}
 use Rattle.ts_wire.specs.Frames.{body_kind, kind_of, taken_encoding, body_encoding, fields, TakenFits, BodyFits, FieldsFit}
-use Rattle.ts_wire.specs.FrameReading.{node_at, place_at, ballot_at, route_at, blob_command_at, blob_question_at, vote_at, no_vote, taken_at, peer, prepare_at, promise_at, busy_at, accept_at, accepted_at, ask_at, give_at, submit_at, asked_at, inquiry_at, done_at, started_at, refusals, repeated_at, refused_at, applied_at, outcome_at, settled_at, replied_at, node_faults, node_fault_at, frame_faults, frame_fault_at, known_at, bare, readers, fields_at}
+use Rattle.ts_wire.specs.FrameReading.{node_at, place_at, ballot_at, route_at, blob_command_at, blob_question_at, vote_at, no_vote, taken_at, peer, prepare_at, promise_at, busy_at, accept_at, accepted_at, ask_at, give_at, submit_at, asked_at, inquiry_at, done_at, started_at, refusals, repeated_at, refused_at, applied_at, outcome_at, settled_at, replied_at, node_faults, node_fault_at, frame_faults, frame_fault_at, known_at, identity_at, bare, readers, fields_at}
 use Rattle.ts_wire.specs.declared.route.Route.{Route}
 use Rattle.ts_wire.specs.declared.fault.NodeFault.{NodeFault as NodeFaultOf}
 use Rattle.ts_wire.specs.declared.fault.NodeFault.TheVariants.{Memory, DiskFailed, Broken, RoundsExhausted, PositionsExhausted, GenerationsExhausted}
 use Rattle.ts_wire.specs.declared.fault.FrameFault.{FrameFault as FrameFaultOf}
 use Rattle.ts_wire.specs.declared.fault.FrameFault.TheVariants.{Length, Version, Kind, Field, Trailing}
 use Rattle.ts_wire.specs.declared.frame.Frame.{Frame}
-use Rattle.ts_wire.specs.declared.frame.Frame.TheVariants.{Peer, Submit, Question, Take, Outcome, CatchUp, Status, Compact, Done, Started, Settled, Answer, Unknown, NodeFault, FrameFault, Prefix}
+use Rattle.ts_wire.specs.declared.frame.Frame.TheVariants.{Peer, Submit, Question, Take, Outcome, CatchUp, Status, Compact, Done, Started, Settled, Answer, Unknown, NodeFault, FrameFault, Prefix, Identify, Identity}
 
 -- ---- numbers
 
@@ -393,6 +393,24 @@ known_take : Reads 39 known_at
 unfolding known_at
 known_take = one_field 39 Prefix position_part (λ x. refl) (λ x fit. record { ranges = fit.1; kind = refl })
 
+abbrev to_group : ℕ → ℕ → ℕ × List ℕ → Option (Frame × List ℕ)
+to_group n m g = answer (Identity n m g.0) g.1
+
+abbrev of_nodes : ℕ → ℕ × List ℕ → Option (Frame × List ℕ)
+of_nodes n m = number_at w32 m.1 >>= to_group n m.0
+
+abbrev of_identity : ℕ × List ℕ → Option (Frame × List ℕ)
+of_identity n = node_at n.1 >>= of_nodes n.0
+
+identity_take : Reads 40 identity_at
+unfolding identity_at
+identity_take octets f rest bytes is =
+    step node_part octets of_identity (f, rest) bytes is
+    (λ n o1 e0 b1 f0 h0. step node_part o1 (of_nodes n) (f, rest) b1 h0
+    (λ m o2 e1 b2 f1 h1. step number32 o2 (to_group n m) (f, rest) b2 h1
+    (λ g o3 e2 b3 f2 h2. made fields (Kinded 40) octets o3 (Identity n m g) f rest h2
+    (e0 ∙ ap (λ l. n ∷ l) (e1 ∙ ap (λ l. m ∷ l) e2)) b3 (record { ranges = (f0.1, (f1.1, lt-ltb g 4294967296 (omega (arith, f2)))); kind = refl }))))
+
 abbrev to_started : ℕ → ℕ × List ℕ → Option (Frame × List ℕ)
 to_started p b = answer (Started p b.0) b.1
 
@@ -490,7 +508,7 @@ rows_read = (
                           bare_take 21 Status refl tt refl,
                           (
                             bare_take 22 Compact refl tt refl,
-                            (done_take, (started_take, (settled_take, (replied_take, (bare_take 36 Unknown refl tt refl, (node_fault_take, (frame_fault_take, (known_take, tt)))))))),
+                            (bare_take 23 Identify refl tt refl, (done_take, (started_take, (settled_take, (replied_take, (bare_take 36 Unknown refl tt refl, (node_fault_take, (frame_fault_take, (known_take, (identity_take, tt)))))))))),
                           ),
                         ),
                       ),
@@ -560,7 +578,7 @@ frame_fault_again Field = refl
 frame_fault_again Trailing = refl
 
 pub fields_again : (f : Frame) (rest : List ℕ) → FieldsFit f → length (fields f) ≤ 8388606 → fields_at (kind_of f) (fields f ++ rest) ≡ Some (f, rest)
-unfolding fields_at submit_at asked_at inquiry_at done_at started_at settled_at replied_at node_fault_at frame_fault_at known_at
+unfolding fields_at submit_at asked_at inquiry_at done_at started_at settled_at replied_at node_fault_at frame_fault_at known_at identity_at
 fields_again (Peer m) rest fit short = peer_again m.from m.to m.body rest fit.0 fit.1 fit.2 (omega (arith, short))
 fields_again (Submit c) rest fit short = ap (λ r. r >>= λ x. answer (Submit x.0) x.1) (blob_command_part.again c rest (fit, omega (arith, short)))
 fields_again (Question q) rest fit short = ap (λ r. r >>= λ x. answer (Question x.0) x.1) (blob_question_part.again q rest (fit, omega (arith, short)))
@@ -569,6 +587,7 @@ fields_again (Outcome id) rest fit short = ap (λ r. r >>= λ x. answer (Outcome
 fields_again CatchUp rest fit short = refl
 fields_again Status rest fit short = refl
 fields_again Compact rest fit short = refl
+fields_again Identify rest fit short = refl
 fields_again (Done n) rest fit short = let k : n < 4294967296 = ltb-true n 4294967296 fit in ap (λ r. r >>= λ x. answer (Done x.0) x.1) (number32.again n rest (omega (arith, k)))
 fields_again (Started p b) rest fit short =
     ap (λ r. r >>= of_started) (place_part.again p (to_be_bytes w64 b ++ rest) (place_fits p fit.0))
@@ -581,3 +600,8 @@ fields_again Unknown rest fit short = refl
 fields_again (NodeFault x) rest fit short = ap (λ r. r >>= to_node_fault rest) (node_fault_again x)
 fields_again (FrameFault x) rest fit short = ap (λ r. r >>= to_frame_fault rest) (frame_fault_again x)
 fields_again (Prefix p) rest fit short = let k : p ≤ 1000000 = leb-true p 1000000 fit in ap (λ r. r >>= λ x. answer (Prefix x.0) x.1) (position_part.again p rest (omega (arith, k), fit))
+fields_again (Identity n m g) rest fit short =
+    let k : g < 4294967296 = ltb-true g 4294967296 fit.2 in
+    ap (λ r. r >>= of_identity) (node_part.again n (m ∷ (to_be_bytes w32 g ++ rest)) (node_fits n fit.0))
+    ∙ ap (λ r. r >>= of_nodes n) (node_part.again m (to_be_bytes w32 g ++ rest) (node_fits m fit.1))
+    ∙ ap (λ r. r >>= to_group n m) (number32.again g rest (omega (arith, k)))

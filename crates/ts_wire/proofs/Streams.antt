@@ -18,7 +18,7 @@ use Rattle.ts_wire.specs.Stream.{IsLength, IsPartial, Framed, IsCut, GoesOn, IsF
 use Rattle.ts_wire.specs.declared.fault.FrameFault.{FrameFault}
 use Rattle.ts_wire.specs.declared.fault.FrameFault.TheVariants.{Length, Version, Kind, Field, Trailing}
 use Rattle.ts_wire.specs.declared.frame.Frame.{Frame}
-use Rattle.ts_wire.specs.declared.frame.Frame.TheVariants.{Peer, Submit, Question, Take, Outcome, CatchUp, Status, Compact, Done, Started, Settled, Answer, Unknown, NodeFault, FrameFault as FaultFrame, Prefix}
+use Rattle.ts_wire.specs.declared.frame.Frame.TheVariants.{Peer, Submit, Question, Take, Outcome, CatchUp, Status, Compact, Done, Started, Settled, Answer, Unknown, NodeFault, FrameFault as FaultFrame, Prefix, Identify, Identity}
 use Rattle.ts_wire.proofs.FrameLaws.{fields_take, fields_again}
 use Rattle.ts_wire.proofs.Bodies.{back_bytes, front_bytes}
 
@@ -82,6 +82,7 @@ kind_is (Outcome id) = refl
 kind_is CatchUp = refl
 kind_is Status = refl
 kind_is Compact = refl
+kind_is Identify = refl
 kind_is (Done n) = refl
 kind_is (Started p b) = refl
 kind_is (Settled p x) = refl
@@ -90,6 +91,7 @@ kind_is Unknown = refl
 kind_is (NodeFault x) = refl
 kind_is (FaultFrame x) = refl
 kind_is (Prefix p) = refl
+kind_is (Identity n m g) = refl
 
 frame_again : (f : Frame) → Fits f → frame_in (2 ∷ kind_of f ∷ fields f) ≡ Ok f
 unfolding frame_in

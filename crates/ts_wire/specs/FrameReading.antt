@@ -34,7 +34,7 @@ use Rattle.ts_wire.specs.declared.frame.Frame.{Frame}
 use Rattle.ts_wire.specs.declared.frame.Frame.TheVariants.{Peer, Submit, Question, Take, Outcome}
 use Rattle.ts_wire.specs.declared.frame.Frame.TheVariants.{CatchUp, Status, Compact, Done, Started}
 use Rattle.ts_wire.specs.declared.frame.Frame.TheVariants.{Settled, Answer, Unknown, NodeFault}
-use Rattle.ts_wire.specs.declared.frame.Frame.TheVariants.{FrameFault, Prefix}
+use Rattle.ts_wire.specs.declared.frame.Frame.TheVariants.{FrameFault, Prefix, Identify, Identity}
 
 unfoldable pub node_at : List ℕ → Option (ℕ × List ℕ)
 node_at octets = do
@@ -218,6 +218,13 @@ known_at octets = do
   prefix ← prefix_at octets
   Some (Prefix prefix.0, prefix.1)
 
+unfoldable pub identity_at : List ℕ → Option (Frame × List ℕ)
+identity_at octets = do
+  node ← node_at octets
+  nodes ← node_at node.1
+  group ← number_at w32 nodes.1
+  Some (Identity node.0 nodes.0 group.0, group.1)
+
 -- a frame without fields
 abbrev pub bare : Frame → List ℕ → Option (Frame × List ℕ)
 bare frame octets = Some (frame, octets)
@@ -227,9 +234,10 @@ abbrev pub readers : List (ℕ × (List ℕ → Option (Frame × List ℕ)))
 readers = (1, prepare_at) ∷ (2, promise_at) ∷ (3, busy_at) ∷ (4, accept_at) ∷ (5, accepted_at)
     ∷ (6, ask_at) ∷ (7, give_at)
     ∷ (16, submit_at) ∷ (17, asked_at) ∷ (18, bare Take) ∷ (19, inquiry_at) ∷ (20, bare CatchUp)
-    ∷ (21, bare Status) ∷ (22, bare Compact)
+    ∷ (21, bare Status) ∷ (22, bare Compact) ∷ (23, bare Identify)
     ∷ (32, done_at) ∷ (33, started_at) ∷ (34, settled_at) ∷ (35, replied_at) ∷ (36, bare Unknown)
-    ∷ (37, node_fault_at) ∷ (38, frame_fault_at) ∷ (39, known_at) ∷ []
+    ∷ (37, node_fault_at) ∷ (38, frame_fault_at) ∷ (39, known_at)
+    ∷ (40, identity_at) ∷ []
 
 unfoldable pub fields_at : ℕ → List ℕ → Option (Frame × List ℕ)
 fields_at kind octets = lookup kind readers >>= λ read. read octets

@@ -17,7 +17,7 @@ use Rattle.ts_wire.specs.declared.frame.Frame.{Frame}
 use Rattle.ts_wire.specs.declared.frame.Frame.TheVariants.{Peer, Submit, Question, Take, Outcome}
 use Rattle.ts_wire.specs.declared.frame.Frame.TheVariants.{CatchUp, Status, Compact, Done, Started}
 use Rattle.ts_wire.specs.declared.frame.Frame.TheVariants.{Settled, Answer, Unknown, NodeFault}
-use Rattle.ts_wire.specs.declared.frame.Frame.TheVariants.{FrameFault, Prefix}
+use Rattle.ts_wire.specs.declared.frame.Frame.TheVariants.{FrameFault, Prefix, Identify, Identity}
 
 abbrev pub body_kind : Body Command → ℕ
 body_kind (Prepare position ballot) = 1
@@ -28,7 +28,7 @@ body_kind (Accepted position ballot command) = 5
 body_kind (Ask position) = 6
 body_kind (Give position command) = 7
 
--- the octet that names a frame's kind, 10 to 27 being hexadecimal
+-- the octet that names a frame's kind, 10 to 28 being hexadecimal
 abbrev pub kind_of : Frame → ℕ
 kind_of (Peer message) = body_kind message.body
 kind_of (Submit command) = 16
@@ -38,6 +38,7 @@ kind_of (Outcome id) = 19
 kind_of CatchUp = 20
 kind_of Status = 21
 kind_of Compact = 22
+kind_of Identify = 23
 kind_of (Done count) = 32
 kind_of (Started position ballot) = 33
 kind_of (Settled position outcome) = 34
@@ -46,11 +47,12 @@ kind_of Unknown = 36
 kind_of (NodeFault fault) = 37
 kind_of (FrameFault fault) = 38
 kind_of (Prefix prefix) = 39
+kind_of (Identity node nodes group) = 40
 
--- 01 to 07, 10 to 16 and 20 to 27, hexadecimal
+-- 01 to 07, 10 to 17 and 20 to 28, hexadecimal
 abbrev pub is_kind : ℕ → Bool
-is_kind kind = (nat_le 1 kind && nat_le kind 7) || (nat_le 16 kind && nat_le kind 22)
-    || (nat_le 32 kind && nat_le kind 39)
+is_kind kind = (nat_le 1 kind && nat_le kind 7) || (nat_le 16 kind && nat_le kind 23)
+    || (nat_le 32 kind && nat_le kind 40)
 
 -- 00, or 01, the ballot and the command
 abbrev pub taken_encoding : Option (Vote Command) → List ℕ
@@ -80,6 +82,7 @@ fields (Outcome id) = id
 fields CatchUp = []
 fields Status = []
 fields Compact = []
+fields Identify = []
 fields (Done count) = to_be_bytes w32 count
 fields (Started position ballot) = to_be_bytes w32 position ++ to_be_bytes w64 ballot
 fields (Settled position outcome) = to_be_bytes w32 position ++ outcome_encoding outcome
@@ -88,6 +91,7 @@ fields Unknown = []
 fields (NodeFault fault) = node_fault_code fault ∷ []
 fields (FrameFault fault) = frame_fault_code fault ∷ []
 fields (Prefix prefix) = to_be_bytes w32 prefix
+fields (Identity node nodes group) = node ∷ nodes ∷ to_be_bytes w32 group
 
 -- four octets of the length of what follows; the version, 02; the kind; the fields
 abbrev pub encoding : Frame → List ℕ
@@ -124,6 +128,8 @@ FieldsFit (Started position ballot) = (is_position position ≡ true) × (is_bal
 FieldsFit (Settled position outcome) = (is_position position ≡ true) × OutcomeFits outcome
 FieldsFit (Answer answer) = AnswerFits answer
 FieldsFit (Prefix prefix) = nat_le prefix 1000000 ≡ true
+FieldsFit (Identity node nodes group) = (is_node node ≡ true) × (is_node nodes ≡ true)
+    × (nat_lt group 4294967296 ≡ true)
 FieldsFit other = Unit {0}
 
 -- the fields fit, and the length is at most 8,388,608

@@ -21,7 +21,7 @@ use ts_question::ReadFault;
 fn is_kind(kind: u8) -> bool
     ensures { result ≡ is_kind kind }
 {
-    (1 <= kind && kind <= 7) || (16 <= kind && kind <= 22) || (32 <= kind && kind <= 39)
+    (1 <= kind && kind <= 7) || (16 <= kind && kind <= 23) || (32 <= kind && kind <= 40)
 }
 
 /// The frame that follows its length.

@@ -24,6 +24,8 @@ pub enum Frame {
     Status,
     /// The node is to make one step of the rewriting of its record.
     Compact,
+    /// Which node of which group it is, is asked for.
+    Identify,
     /// It was done, or so many messages were given.
     Done { count: u32 },
     /// A round began for the command.
@@ -40,4 +42,6 @@ pub enum Frame {
     FrameFault { fault: FrameFault },
     /// So many commands are known.
     Prefix { prefix: u32 },
+    /// The node, of how many, and its group; group 0 is none.
+    Identity { node: u8, nodes: u8, group: u32 },
 }

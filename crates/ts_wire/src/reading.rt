@@ -10,11 +10,11 @@ ghost use Rattle.ts_wire.specs.FrameReading.{accepted_at, ask_at, give_at, submi
 ghost use Rattle.ts_wire.specs.FrameReading.{inquiry_at, done_at, started_at, refusals};
 ghost use Rattle.ts_wire.specs.FrameReading.{repeated_at, refused_at, outcome_at, settled_at};
 ghost use Rattle.ts_wire.specs.FrameReading.{replied_at, node_faults, node_fault_at, frame_faults};
-ghost use Rattle.ts_wire.specs.FrameReading.{frame_fault_at, known_at, fields_at};
+ghost use Rattle.ts_wire.specs.FrameReading.{frame_fault_at, known_at, identity_at, fields_at};
 
 use crate::fault::{FrameFault, NodeFault};
 use crate::frame::Frame;
-use crate::route::{Route, ballot, head, place};
+use crate::route::{Route, ballot, head, node, place};
 use std::alloc::{AllocError, Global};
 use ts_question::parts::{blob32, number32, octet};
 use ts_question::{Answer, MAX_POSITION, Question, ReadFault};
@@ -359,6 +359,21 @@ fn known(octets: &[u8]) -> Result<(Frame, &[u8]), ReadFault>
     Ok((Frame::Prefix { prefix }, rest))
 }
 
+#[tactic(auto, unfolding(crate::specs::FrameReading::identity_at))]
+fn identity(octets: &[u8]) -> Result<(Frame, &[u8]), ReadFault>
+    ensures { Gives (λ x. (x.0, x.1.now)) result (identity_at octets.now) }
+{
+    let (number, rest) = node(octets)?;
+    let (nodes, rest) = node(rest)?;
+    let (group, rest) = number32(rest)?;
+    let identity = Frame::Identity {
+        node: number,
+        nodes,
+        group,
+    };
+    Ok((identity, rest))
+}
+
 /// The fields of a frame of this kind, and what follows them.
 #[tactic(auto, unfolding(crate::specs::FrameReading::fields_at))]
 pub(crate) fn fields(alloc: Global, kind: u8, octets: &[u8]) -> Result<(Frame, &[u8]), ReadFault>
@@ -379,6 +394,7 @@ pub(crate) fn fields(alloc: Global, kind: u8, octets: &[u8]) -> Result<(Frame, &
         0x14 => Ok((Frame::CatchUp, octets)),
         0x15 => Ok((Frame::Status, octets)),
         0x16 => Ok((Frame::Compact, octets)),
+        0x17 => Ok((Frame::Identify, octets)),
         0x20 => done(octets),
         0x21 => started(octets),
         0x22 => settled(octets),
@@ -387,6 +403,7 @@ pub(crate) fn fields(alloc: Global, kind: u8, octets: &[u8]) -> Result<(Frame, &
         0x25 => node_fault(octets),
         0x26 => frame_fault(octets),
         0x27 => known(octets),
+        0x28 => identity(octets),
         _ => Err(ReadFault::Form),
     }
 }

@@ -35,8 +35,9 @@ fn is_ballot(number: u64) -> bool
     16 <= number && number < 1 << 36 && 1 <= number % 16 && number % 16 <= 9
 }
 
+/// The number of a node.
 #[tactic(auto, unfolding(crate::specs::FrameReading::node_at))]
-fn node(octets: &[u8]) -> Result<(u8, &[u8]), ReadFault>
+pub(crate) fn node(octets: &[u8]) -> Result<(u8, &[u8]), ReadFault>
     ensures { Gives (λ x. (x.0, x.1.now)) result (node_at octets.now) }
 {
     let (number, rest) = octet(octets)?;

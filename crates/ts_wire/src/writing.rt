@@ -182,6 +182,7 @@ fn kind_of(frame: &Frame) -> u8
         Frame::CatchUp => 0x14,
         Frame::Status => 0x15,
         Frame::Compact => 0x16,
+        Frame::Identify => 0x17,
         Frame::Done { .. } => 0x20,
         Frame::Started { .. } => 0x21,
         Frame::Settled { .. } => 0x22,
@@ -190,6 +191,7 @@ fn kind_of(frame: &Frame) -> u8
         Frame::NodeFault { .. } => 0x25,
         Frame::FrameFault { .. } => 0x26,
         Frame::Prefix { .. } => 0x27,
+        Frame::Identity { .. } => 0x28,
     }
 }
 
@@ -219,7 +221,17 @@ fn push_fields(alloc: Global, out: &mut Vec<u8>, frame: &Frame) -> Result<(), Al
         Frame::NodeFault { fault } => out.push(fault.code())?,
         Frame::FrameFault { fault } => out.push(fault.code())?,
         Frame::Prefix { prefix } => push_number(out, *prefix)?,
-        Frame::Take | Frame::CatchUp | Frame::Status | Frame::Compact | Frame::Unknown => {}
+        Frame::Identity { node, nodes, group } => {
+            out.push(*node)?;
+            out.push(*nodes)?;
+            push_number(out, *group)?;
+        }
+        Frame::Take
+        | Frame::CatchUp
+        | Frame::Status
+        | Frame::Compact
+        | Frame::Identify
+        | Frame::Unknown => {}
     }
     Ok(())
 }

@@ -18,7 +18,7 @@ pub returns : goal.returns
 returns c =
     let image = c.args.octets.now in
     record {
-      right = record { node_from = c.if-owner-lt1.false; node_to = c.if-owner.false; nodes_to = c.if-owner-gt9.false; generation_to = grind arith };
+      right = record { node_from = c.if-owner-lt1.false; node_to = c.if-owner.false; nodes_to = c.if-owner-gt9.false; group_to = grind arith; generation_to = grind arith };
       live = get_or image 24 0;
       wide = c.if-octets-eq0.false;
       rest = drop 25 image;

@@ -1,4 +1,5 @@
 use Rattle.ts_disk.specs.Disk.{Torn}
+use Rattle.ts_journal.specs.Choice.{header_of_owner}
 use Rattle.ts_journal.specs.Images.{Behind}
 use Rattle.ts_journal.proofs.Moments.{weaker}
 use Rattle.ts_journal.proofs.Rewrites.{torn_shut}
@@ -8,5 +9,5 @@ pub returns-then-is_live-clause-moments : goal.returns-then-is_live-clause-momen
 returns-then-is_live-clause-moments g c =
     let state = g.D.Disk.state in
     let image = (state c.args.disk.now).read in
-    weaker (Torn 24 1 image) (Behind c.args.generation) (state c.args.disk.now) (state c.put.new.disk)
-    (λ left torn. torn_shut c.args.generation image left (c.requires.earlier c.if-is_live.true) torn) c.put.ensures.moments
+    weaker (Torn 24 1 image) (Behind (header_of_owner c.args.owner.now)) (state c.args.disk.now) (state c.put.new.disk)
+    (λ left torn. torn_shut (header_of_owner c.args.owner.now) image left (c.requires.earlier c.if-is_live.true) torn) c.put.ensures.moments

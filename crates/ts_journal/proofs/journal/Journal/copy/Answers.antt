@@ -11,7 +11,7 @@ returns-in_err-extend-clause-moments g c = λ bodies copied holds.
     let k = subst (λ st. IsSpare st (header_of j) copied j.copy_end (state j.spare)) c.requires.stage holds.spare in
     let b = c.requires.body in
     behind_moves state g.D.Disk.lawful j c.extend.new.disk bodies copied holds
-    (copying_is_behind (next (header_of j)) copied b.0 j.copy_end j.generation c.args.octets.now (state j.spare) (state c.extend.new.disk) k.0 b.1 b.2 c.extend.ensures.moments)
+    (copying_is_behind (next (header_of j)) (header_of j) copied b.0 j.copy_end c.args.octets.now (state j.spare) (state c.extend.new.disk) k.0 b.1 b.2 c.extend.ensures.moments)
 
 pub returns-clause-moments : goal.returns-clause-moments
 returns-clause-moments g c = λ bodies copied holds.
@@ -20,7 +20,7 @@ returns-clause-moments g c = λ bodies copied holds.
     let k = subst (λ st. IsSpare st (header_of j) copied j.copy_end (state j.spare)) c.requires.stage holds.spare in
     let b = c.requires.body in
     behind_moves state g.D.Disk.lawful j c.extend.new.disk bodies copied holds
-    (copying_is_behind (next (header_of j)) copied b.0 j.copy_end j.generation c.args.octets.now (state j.spare) (state c.extend.new.disk) k.0 b.1 b.2 c.extend.ensures.moments)
+    (copying_is_behind (next (header_of j)) (header_of j) copied b.0 j.copy_end c.args.octets.now (state j.spare) (state c.extend.new.disk) k.0 b.1 b.2 c.extend.ensures.moments)
 
 pub returns-clause-holds : goal.returns-clause-holds
 returns-clause-holds g c = λ bodies copied body fits are holds.

@@ -29,6 +29,6 @@ returns-clause-holds g c = λ bodies copied holds.
       is_live = omega arith;
       journal = subst (λ d. IsJournal (next h) 1 copied j.copy_end (state d)) (sym c.swap.ensures.x_after)
           (live_journal (next h) copied j.copy_end (state j.spare) (state c.put.new.disk) r.journal c.in_ok-put.ensures.durable c.in_ok-put.ensures.written);
-      spare = subst (λ d. IsDurable (state d) × IsEarlier (j.generation + 1) (state d).read) (sym c.swap.ensures.y_after)
+      spare = subst (λ d. IsDurable (state d) × IsEarlier (next h) (state d).read) (sym c.swap.ensures.y_after)
           (holds.journal.durable, earlier h holds.live bodies (state j.current).read holds.right holds.is_live holds.journal.stands);
     }
