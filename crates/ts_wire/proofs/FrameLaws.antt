@@ -409,7 +409,7 @@ identity_take octets f rest bytes is =
     (λ n o1 e0 b1 f0 h0. step node_part o1 (of_nodes n) (f, rest) b1 h0
     (λ m o2 e1 b2 f1 h1. step number32 o2 (to_group n m) (f, rest) b2 h1
     (λ g o3 e2 b3 f2 h2. made fields (Kinded 40) octets o3 (Identity n m g) f rest h2
-    (e0 ∙ ap (λ l. n ∷ l) (e1 ∙ ap (λ l. m ∷ l) e2)) b3 (record { ranges = (f0.1, (f1.1, lt-ltb g 4294967296 (omega (arith, f2)))); kind = refl }))))
+    (e0 ∙ ap (λ l. n ∷ l) (e1 ∙ ap (λ l. m ∷ l) e2)) b3 (record { ranges = (f0.1, f1.1, lt-ltb g 4294967296 (omega (arith, f2))); kind = refl }))))
 
 abbrev to_started : ℕ → ℕ × List ℕ → Option (Frame × List ℕ)
 to_started p b = answer (Started p b.0) b.1
