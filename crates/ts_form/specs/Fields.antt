@@ -1,0 +1,134 @@
+-- The fields of a request: their names, and what each says.
+use Rattle.std.specs.Prelude.{◌≡◌, ◌⊎◌, ℕ, ℤ, List, [], ◌∷◌, ◌++◌, Bool, true, false, map, codes}
+use Rattle.std.specs.Prelude.{Option, Some, None, if◌then◌else◌, ◌||◌}
+use Rattle.std.specs.Str.{bytes_eq}
+use Rattle.std.specs.declared.vec.Vec.{Vec}
+use Rattle.std.specs.declared.alloc.Global.{Global}
+use Rattle.ts_question.specs.declared.terms.Flags.{Flags}
+use Rattle.ts_time.specs.Text.{IsGeneral}
+use Rattle.ts_form.specs.Pairs.{Named}
+use Rattle.ts_form.specs.Values.{AreCertificates, AreWritten, IsDotted, IsHex, IsPosition}
+use Rattle.ts_form.specs.declared.field.Field.{Field}
+use Rattle.ts_form.specs.declared.field.Field.TheVariants.{Chain, At, K, Hard, Deltas, Explicit}
+use Rattle.ts_form.specs.declared.field.Field.TheVariants.{NoMap, NoAny, Policies, Purpose, Anchor}
+use Rattle.ts_form.specs.declared.wanted.Wanted.{Wanted}
+
+abbrev pub name_of : Field → List ℕ
+name_of Chain = codes "chain"
+name_of At = codes "at"
+name_of K = codes "k"
+name_of Hard = codes "hard"
+name_of Deltas = codes "deltas"
+name_of Explicit = codes "explicit"
+name_of NoMap = codes "nomap"
+name_of NoAny = codes "noany"
+name_of Policies = codes "policies"
+name_of Purpose = codes "purpose"
+name_of Anchor = codes "anchor"
+
+-- ---- flags
+
+abbrev pub is_flag : Field → Bool
+is_flag Hard = true
+is_flag Deltas = true
+is_flag Explicit = true
+is_flag NoMap = true
+is_flag NoAny = true
+is_flag other = false
+
+abbrev pub no_flags : Flags
+no_flags = record {
+  explicit_policy = false;
+  inhibit_policy_mapping = false;
+  inhibit_any_policy = false;
+  hard = false;
+  use_deltas = false;
+}
+
+-- the flags, with one more set
+abbrev pub with_flag : Field → Flags → Flags
+with_flag Hard flags = record flags { hard = true }
+with_flag Deltas flags = record flags { use_deltas = true }
+with_flag Explicit flags = record flags { explicit_policy = true }
+with_flag NoMap flags = record flags { inhibit_policy_mapping = true }
+with_flag NoAny flags = record flags { inhibit_any_policy = true }
+with_flag other flags = flags
+
+abbrev pub is_one_of : List (List ℕ) → List ℕ → Bool
+is_one_of [] text = false
+is_one_of (first ∷ others) text = bytes_eq text first || is_one_of others text
+
+-- whether a text sets a flag, or says that it isn't set
+abbrev pub says : List ℕ → Option Bool
+says text =
+    if is_one_of (codes "" ∷ codes "1" ∷ codes "on" ∷ codes "true" ∷ []) text then Some true
+    else (if is_one_of (codes "0" ∷ codes "false" ∷ []) text then Some false else None)
+
+-- a text sets a flag, or leaves it
+abbrev pub SetsFlag : Field → List ℕ → Wanted → Wanted → Type 0
+SetsFlag field text old new =
+    ((says text ≡ Some true) × (new ≡ record old { flags = with_flag field old.flags }))
+    ⊎ ((says text ≡ Some false) × (new ≡ old))
+
+-- ---- the other fields
+
+-- the octets of certificates
+abbrev pub octets_of : List (Vec ℕ Global) → List (List ℕ)
+octets_of certificates = map (λ c. c.items) certificates
+
+-- nothing but certificates has changed
+pub record IsSameBut (old new : Wanted) : Type 0 where
+  pub at_is : new.at ≡ old.at
+  pub k_is : new.k ≡ old.k
+  pub flags_are : new.flags ≡ old.flags
+  pub policies_are : new.policies ≡ old.policies
+  pub purpose_is : new.purpose ≡ old.purpose
+  pub anchor_is : new.anchor ≡ old.anchor
+
+-- these certificates are behind those that were there
+pub record Appends (certificates : List (List ℕ)) (old new : Wanted) : Type 0 where
+  pub same : IsSameBut old new
+  pub behind : octets_of new.chain.items ≡ octets_of old.chain.items ++ certificates
+
+-- what a text says of a field; of some fields, if it is the first
+abbrev pub Adds : Field → List ℕ → Wanted → Wanted → Type 0
+Adds Chain text old new = (certificates : List (List ℕ)) × AreWritten text certificates
+    × Appends certificates old new
+Adds At text old new = (moment : ℤ) × IsGeneral text moment × (old.at ≡ None)
+    × (new ≡ record old { at = Some moment })
+Adds K text old new = (k : ℕ) × IsPosition text k × (old.k ≡ None)
+    × (new ≡ record old { k = Some k })
+Adds Policies text old new = (policy : List ℕ) × IsDotted text policy
+    × (new.policies.items ≡ old.policies.items ++ policy ∷ [])
+    × (new ≡ record old { policies = new.policies })
+Adds Purpose text old new = (purpose : List ℕ) × IsDotted text purpose × (old.purpose ≡ None)
+    × (new ≡ record old { purpose = Some purpose })
+Adds Anchor text old new = (anchor : List ℕ) × IsHex text anchor × (old.anchor ≡ None)
+    × (new ≡ record old { anchor = Some anchor })
+Adds field text old new = SetsFlag field text old new
+
+-- a pair names a field, and says this of it; an empty text says nothing, but sets a flag
+pub record Sets (pair : Named) (old new : Wanted) : Type 0 where
+  pub field : Field
+  pub named : pair.0 ≡ name_of field
+  pub adds : ((pair.1 ≡ []) × (is_flag field ≡ false) × (new ≡ old)) ⊎ Adds field pair.1 old new
+
+-- pairs, one after another
+abbrev pub SetsAll : List Named → Wanted → Wanted → Type 0
+SetsAll [] old new = new ≡ old
+SetsAll (pair ∷ pairs) old new = (mid : Wanted) × Sets pair old mid × SetsAll pairs mid new
+
+-- the certificates of octets are behind those that were there
+abbrev pub AddsCertificates : List ℕ → Wanted → Wanted → Type 0
+AddsCertificates octets old new = (certificates : List (List ℕ))
+    × AreCertificates octets certificates × Appends certificates old new
+
+-- nothing is given
+pub record IsNothing (wanted : Wanted) : Type 0 where
+  pub no_moment : wanted.at ≡ None
+  pub no_k : wanted.k ≡ None
+  pub flags_none : wanted.flags ≡ no_flags
+  pub no_policies : wanted.policies.items ≡ []
+  pub no_purpose : wanted.purpose ≡ None
+  pub no_anchor : wanted.anchor ≡ None
+  pub no_chain : wanted.chain.items ≡ []

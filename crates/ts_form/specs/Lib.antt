@@ -1,0 +1,5 @@
+pub mod Pairs
+pub mod Said
+pub mod Values
+pub mod Fields
+pub mod Asking

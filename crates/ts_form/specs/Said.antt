@@ -1,0 +1,57 @@
+-- The pairs that a JSON object says (RFC 8259 section 4).
+use Rattle.std.specs.Prelude.{◌≡◌, ℕ, List, [], ◌∷◌, ◌++◌, true, false, Option, Some, None, codes}
+use Rattle.std.specs.Fmt.{decimal}
+use Rattle.serde_json.specs.Data.{Data, null, boolean, number, unsigned, string, array, object}
+use Rattle.serde_json.specs.Data.{Items, no_items, item, Members, no_members, member}
+use Rattle.serde_json.specs.Read.{read}
+use Rattle.ts_form.specs.Pairs.{Named}
+
+-- what two say, if both say something
+abbrev pub both : Option (List Named) → Option (List Named) → Option (List Named)
+both (Some first) (Some others) = Some (first ++ others)
+both (Some first) None = None
+both None others = None
+
+abbrev pub one : List ℕ → List ℕ → Option (List Named)
+one name text = Some ((name, text) ∷ [])
+
+-- an item of a list: a text
+abbrev pub text_said : List ℕ → Data → Option (List Named)
+text_said name (string text) = one name text
+text_said name other = None
+
+-- a pair for each item of a list
+unfoldable pub items_said : List ℕ → Items → Option (List Named)
+items_said name no_items = Some []
+items_said name (item first items) = both (text_said name first) (items_said name items)
+
+-- a text, a flag, a whole number in decimal, a list of texts; `null` says nothing
+unfoldable pub value_said : List ℕ → Data → Option (List Named)
+value_said name null = Some []
+value_said name (boolean true) = one name (codes "true")
+value_said name (boolean false) = one name (codes "false")
+value_said name (number (unsigned n)) = one name (decimal n)
+value_said name (string text) = one name text
+value_said name (array items) = items_said name items
+value_said name other = None
+
+-- what the members say, one after another
+unfoldable pub members_said : Members → Option (List Named)
+members_said no_members = Some []
+members_said (member name value members) = both (value_said name value) (members_said members)
+
+abbrev pub object_said : Data → Option (List Named)
+object_said (object members) = members_said members
+object_said other = None
+
+-- the text is of an object that says these pairs
+pub record IsSaid (text : List ℕ) (pairs : List Named) : Type 0 where
+  pub value : Data
+  pub is_read : read text ≡ Some value
+  pub said : object_said value ≡ Some pairs
+
+-- what is said stands behind what was there
+pub record Said (said : Option (List Named)) (before after : List Named) : Type 0 where
+  pub more : List Named
+  pub is : said ≡ Some more
+  pub behind : after ≡ before ++ more
