@@ -7,4 +7,5 @@ unfolding format
 returns-clause-shape c =
     let file = c.with-command.ensures.shape _ _ c.word.ensures.rule c.leaf.ensures.shape in
     let id = c.with.ensures.shape _ _ (c.needed-id.ensures.rule ∙ ap needed c.option.ensures.rule) file in
-    c.with-2.ensures.shape _ _ (c.needed.ensures.rule ∙ ap needed c.option-2.ensures.rule) id
+    let nodes = c.with-2.ensures.shape _ _ (c.needed-nodes.ensures.rule ∙ ap needed c.option-2.ensures.rule) id in
+    c.with-3.ensures.shape _ _ c.option-3.ensures.rule nodes
