@@ -32,21 +32,21 @@ front d k ms x = or_front (has_float d) (members_have_float ms) x
 behind : (d : Data) (k : List ℕ) (ms : Members) → members_have_float (member k d ms) ≡ false → members_have_float ms ≡ false
 behind d k ms x = or_behind (has_float d) (members_have_float ms) x
 
-pub put_none : (k : List ℕ) (d : Data) (ms : Members) → has_float d ≡ false → members_have_float ms ≡ false → members_have_float (put k d ms) ≡ false
+put_none : (k : List ℕ) (d : Data) (ms : Members) → has_float d ≡ false → members_have_float ms ≡ false → members_have_float (put k d ms) ≡ false
 put_none k d no_members x y = joined d k no_members x refl
 put_none k d (member l e ms) x y =
     chosen (slice_cmp nat_cmp k l) (member k d (member l e ms)) (member l d ms) (member l e (put k d ms))
     (joined d k (member l e ms) x y) (joined d l ms x (behind e l ms y)) (joined e l (put k d ms) (front e l ms y) (put_none k d ms x (behind e l ms y)))
 
-pub of_text : (t : Option (List ℕ)) → has_float (text_or_null t) ≡ false
+of_text : (t : Option (List ℕ)) → has_float (text_or_null t) ≡ false
 of_text None = refl
 of_text (Some t) = refl
 
-pub of_number : (n : Option ℕ) → has_float (number_or_null n) ≡ false
+of_number : (n : Option ℕ) → has_float (number_or_null n) ≡ false
 of_number None = refl
 of_number (Some n) = refl
 
-pub of_texts : (ts : List (List ℕ)) → items_have_float (items_of (texts ts)) ≡ false
+of_texts : (ts : List (List ℕ)) → items_have_float (items_of (texts ts)) ≡ false
 of_texts [] = refl
 of_texts (t ∷ ts) = of_texts ts
 

@@ -1,2 +1,1 @@
 pub mod Object
-pub mod Answer

@@ -9,14 +9,11 @@
 //!   once, in the order of their names, without spaces: `object_in` (`specs/Object`), written by
 //!   `compact_text` of `serde_json`, whose strings are escaped by RFC 8259 section 7. What a field
 //!   does not have is `null`. Out of memory is the only error.
-//! - [`answer_text`]: the same of the fields of a node's answer: `answer_in` (`specs/Answer`).
 #![tactic(auto)]
 
-mod answer;
 mod object;
 mod value;
 mod verdict;
 
-pub use answer::{AnswerFields, answer_text};
 pub use object::object_text;
 pub use verdict::VerdictFields;
