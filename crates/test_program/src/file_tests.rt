@@ -49,8 +49,8 @@ fn a_record_lies_in_two_files(rt: HostRuntime) -> Result<(), Fail> {
     let is_missing = matches!(open_disks(&rt, alloc, PATH), Err(Fault::File));
     // What is there is not written over.
     let made = (
-        format_files(&rt, alloc, PATH, 2, 3),
-        format_files(&rt, alloc, PATH, 1, 3),
+        format_files(&rt, alloc, PATH, 2, 3, 0),
+        format_files(&rt, alloc, PATH, 1, 3, 0),
     );
     assert_eq!(rt; (is_missing, made), (true, (Ok(()), Err(Fault::File))));
     let length = read_file(&rt, alloc, "ts_tasks_test/node.b")?.len();
@@ -89,10 +89,10 @@ fn one_process_has_a_record(rt: HostRuntime) -> Result<(), Fail> {
     let alloc = rt.alloc();
     let path = "ts_tasks_locked";
     let other = "ts_tasks_locked.b";
-    format_files(&rt, alloc, path, 1, 1)?;
+    format_files(&rt, alloc, path, 1, 1, 0)?;
     let held = RecordLock::of_record(&rt, alloc, path)?;
     let second = RecordLock::of_record(&rt, alloc, path);
-    let made = format_files(&rt, alloc, path, 1, 1);
+    let made = format_files(&rt, alloc, path, 1, 1, 0);
     assert!(rt; matches!(second, Err(Fault::Busy)));
     assert_eq!(rt; made, Err(Fault::Busy));
     drop(held);
