@@ -100,12 +100,13 @@ fn object_pairs(alloc: Global, value: &Value) -> Result<Vec<Pair>, FormFault>
 ///
 /// # Errors
 ///
-/// `Json` where the text is no such object; out of memory.
+/// `Json` where the text is no such object; `Memory`.
 pub fn json_pairs(alloc: Global, text: &str) -> Result<Vec<Pair>, FormFault>
     ensures { IfOk result (λ pairs. IsSaid text.now (map pair_in pairs.items)) }
 {
     let value = match Value::from_str(alloc, text) {
         Ok(value) => value,
+        Err(error) if error.is_memory() => return Err(FormFault::Memory),
         Err(_) => return Err(FormFault::Json),
     };
     let pairs = object_pairs(alloc, &value)?;

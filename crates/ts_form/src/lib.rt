@@ -1,5 +1,5 @@
-//! What is asked over HTTP: pairs of texts, from the query of a URL, a form or a JSON object, as
-//! the question that they say.
+//! Pairs of texts, from the query of a URL, a form or a JSON object, as the question that they say:
+//! for a face of the node that speaks HTTP, which is not there. No program uses this crate yet.
 //!
 //! ```text
 //! let mut wanted = Wanted::new(alloc);
@@ -27,7 +27,8 @@
 //!
 //! # Not promised
 //!
-//! That a refusal of [`Wanted::add`] and of [`json_pairs`] is a necessary one: it is tested.
+//! That a refusal of [`Wanted::add`] and of [`json_pairs`] is a necessary one, and which fault it
+//! is: a body that refused every pair would be proved. Nothing is tested.
 #![tactic(auto)]
 
 mod asking;
