@@ -83,6 +83,7 @@ fn tag(answers: &mut Answers<DigestCheck>, k: u32, question: &Question) -> Resul
         Reply::Malformed { .. } => 7,
         Reply::NoAnchor => 8,
         Reply::Limit => 9,
+        Reply::Page { .. } => 10,
     })
 }
 

@@ -5,3 +5,5 @@
 
 #[cfg(test)]
 mod answer_tests;
+#[cfg(test)]
+mod page_tests;

@@ -5,6 +5,7 @@ use crate::openssl::OPENSSL;
 use crate::sample::Sample;
 use std::alloc::Global;
 use std::test::Fail;
+use ts_digest::Message;
 use ts_ecdsa::is_ecdsa_signature;
 
 /// What the check answers.
@@ -12,7 +13,8 @@ fn answer(alloc: Global, sample: &Sample) -> Result<bool, Fail> {
     let key = hex::decode(alloc, sample.key)?;
     let message = hex::decode(alloc, sample.message)?;
     let signature = hex::decode(alloc, sample.signature)?;
-    Ok(is_ecdsa_signature(sample.curve, sample.hash, &key, &message, &signature))
+    let signed = Message::of(&message);
+    Ok(is_ecdsa_signature(sample.curve, sample.hash, &key, &signed, &signature))
 }
 
 #[test]

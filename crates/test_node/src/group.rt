@@ -189,6 +189,25 @@ impl Member {
         Member::open(alloc, a, b, trouble.torn, Vec::new(alloc))
     }
 
+    /// Node 1 of so many on new disks. It is opened once, and not again where memory is refused.
+    pub fn first(alloc: Global, nodes: u8) -> Result<Member, AllocError>
+        requires from { 1 ≤ nodes }
+        requires few { nodes ≤ 9 }
+    {
+        let mut a = MemDisk::new(alloc, Vec::new(alloc))?;
+        let mut b = MemDisk::new(alloc, Vec::new(alloc))?;
+        if Record::<MemDisk, Number>::format(&mut a, &mut b, 1, nodes, 0).is_err() {
+            return Err(AllocError);
+        }
+        match Node::open(alloc, a, b, Takes::new(alloc)) {
+            Ok(node) => Ok(Member {
+                node,
+                learned: Vec::new(alloc),
+            }),
+            Err(_) => Err(AllocError),
+        }
+    }
+
     /// The node on two disks, or where a device fails the one after a crash, and then true. Where
     /// memory is refused it is opened again.
     fn open(
@@ -231,6 +250,21 @@ impl Member {
         let Member { node, learned } = self;
         let (a, b, _machine) = node.close();
         Member::open(alloc, a, b, torn, learned)
+    }
+
+    /// Makes a turn of a command, again where memory is refused.
+    pub fn turn(&mut self, command: Number) -> Handled {
+        let input = Input::Submit(command);
+        match self.node.turn(&input) {
+            Err(NodeFault::Memory) => self.node.turn(&input),
+            made => made,
+        }
+    }
+
+    /// How many calls its first disk was given.
+    pub fn calls(self) -> usize {
+        let (a, _b, _machine) = self.node.close();
+        a.calls().len()
     }
 
     /// The record of the node.

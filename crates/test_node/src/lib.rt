@@ -14,3 +14,5 @@ mod group_machine;
 mod group_tests;
 #[cfg(test)]
 mod node_tests;
+#[cfg(test)]
+mod turn_tests;

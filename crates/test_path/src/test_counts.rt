@@ -5,7 +5,7 @@ ghost use Rattle.ts_sig.specs.Key.{key_of};
 ghost use Rattle.ts_sig.specs.StandIn.{stand_in_accepts};
 
 use std::cell::Cell;
-use ts_sig::{DigestCheck, SignatureCheck, WorkingKey};
+use ts_sig::{DigestCheck, Message, SignatureCheck, WorkingKey};
 
 /// The stand-in, and how often it was asked.
 #[derive(Drop)]
@@ -29,9 +29,15 @@ impl SignatureCheck for Counting {
     ghost accepts = { λ _ algorithm key signed signature. stand_in_accepts algorithm key signed
         signature };
 
-    fn good(&self, algorithm: &[u8], key: &WorkingKey<'_>, signed: &[u8], signature: &[u8]) -> bool
+    fn good(
+        &self,
+        algorithm: &[u8],
+        key: &WorkingKey<'_>,
+        signed: &Message<'_>,
+        signature: &[u8],
+    ) -> bool
         ensures { result ≡ stand_in_accepts algorithm.now
-            (key_of key.now) signed.now signature.now }
+            (key_of key.now) signed.now.octets.now signature.now }
     {
         self.asked.set(self.asked.get().saturating_add(1));
         DigestCheck.good(algorithm, key, signed, signature)

@@ -2,7 +2,7 @@
 
 use std::alloc::{AllocError, Global};
 use std::test::Fail;
-use ts_cli::{CommandFault, address_of, task_of};
+use ts_cli::{CommandFault, address_of, is_address, task_of};
 
 /// Words after the program's name, and what they come to.
 const LINES: &[(&str, &str)] = &[
@@ -35,16 +35,16 @@ const LINES: &[(&str, &str)] = &[
     ("migrate o", "Wrong"),
     (
         "serve r --listen a:0",
-        "Serve(ServeWords { file: \"r\", listen: \"a:0\", table: None, stand_in: false, peers: [], quiet: false, keys: None, key: None, open: false, idle: 30, request: 5, at_once: 512, connections: 1000000 })",
+        "Serve(ServeWords { file: \"r\", listen: \"a:0\", table: None, stand_in: false, peers: [], quiet: false, keys: None, key: None, http: None, open: false, idle: 30, request: 5, at_once: 512, connections: 1000000 })",
     ),
     (
         "serve r --listen a:65535 --table t --idle 3600 --request 1 --connections-at-once 4096 --connections 1",
-        "Serve(ServeWords { file: \"r\", listen: \"a:65535\", table: Some(\"t\"), stand_in: false, peers: [], quiet: false, keys: None, key: None, open: false, idle: 3600, request: 1, at_once: 4096, connections: 1 })",
+        "Serve(ServeWords { file: \"r\", listen: \"a:65535\", table: Some(\"t\"), stand_in: false, peers: [], quiet: false, keys: None, key: None, http: None, open: false, idle: 3600, request: 1, at_once: 4096, connections: 1 })",
     ),
     ("serve r --listen a:1 --table t --stand-in", "Value(Check)"),
     (
         "serve r --listen a:1 --peer 2=b:2 --quiet --peer 3=c:3",
-        "Serve(ServeWords { file: \"r\", listen: \"a:1\", table: None, stand_in: false, peers: [\"2=b:2\", \"3=c:3\"], quiet: true, keys: None, key: None, open: false, idle: 30, request: 5, at_once: 512, connections: 1000000 })",
+        "Serve(ServeWords { file: \"r\", listen: \"a:1\", table: None, stand_in: false, peers: [\"2=b:2\", \"3=c:3\"], quiet: true, keys: None, key: None, http: None, open: false, idle: 30, request: 5, at_once: 512, connections: 1000000 })",
     ),
     ("serve r --listen a:1 --peer 0=b:2", "Value(Peer)"),
     ("serve r --listen a:1 --peer b:2", "Value(Peer)"),
@@ -112,12 +112,48 @@ const LINES: &[(&str, &str)] = &[
     ),
     ("compact a", "Value(Address)"),
     (
+        "store a:1",
+        "Store { reach: Reach { address: \"a:1\", key: None }, k: None, json: false }",
+    ),
+    (
+        "store a:1 --k 0 --json --key f",
+        "Store { reach: Reach { address: \"a:1\", key: Some(\"f\") }, k: Some(0), json: true }",
+    ),
+    ("store a:1 --k 1000001", "Value(Position)"),
+    ("store", "Wrong"),
+    (
+        "log a:1",
+        "Log { reach: Reach { address: \"a:1\", key: None }, from: 1, k: None, json: false }",
+    ),
+    (
+        "log --from 1000000 --k 7 a:1",
+        "Log { reach: Reach { address: \"a:1\", key: None }, from: 1000000, k: Some(7), json: false }",
+    ),
+    ("log --from 0 a:1", "Value(From)"),
+    (
+        "diff a:1 0 1000000",
+        "Diff { reach: Reach { address: \"a:1\", key: None }, old: 0, new: 1000000 }",
+    ),
+    ("diff a:1 1 1000001", "Value(Positions)"),
+    ("diff a:1 1", "Wrong"),
+    (
+        "sync a:1 --anchors b --crls c --crls d --issuer e --key k",
+        "Sync(SyncWords { reach: Reach { address: \"a:1\", key: Some(\"k\") }, anchors: [\"b\"], crls: [\"c\", \"d\"], issuers: [\"e\"], unchecked: false, dry_run: false, wait: 10 })",
+    ),
+    (
+        "sync a:1 --crls c --dry-run --unchecked --wait 3600",
+        "Sync(SyncWords { reach: Reach { address: \"a:1\", key: None }, anchors: [], crls: [\"c\"], issuers: [], unchecked: true, dry_run: true, wait: 3600 })",
+    ),
+    ("sync a:1", "Value(Material)"),
+    ("sync a:1 --crls c --wait 3601", "Value(Wait)"),
+    ("sync --crls c", "Wrong"),
+    (
         "status a:1 --key k",
         "Status { reach: Reach { address: \"a:1\", key: Some(\"k\") } }",
     ),
     (
         "serve r --listen a:1 --keys s --key k --open",
-        "Serve(ServeWords { file: \"r\", listen: \"a:1\", table: None, stand_in: false, peers: [], quiet: false, keys: Some(\"s\"), key: Some(\"k\"), open: true, idle: 30, request: 5, at_once: 512, connections: 1000000 })",
+        "Serve(ServeWords { file: \"r\", listen: \"a:1\", table: None, stand_in: false, peers: [], quiet: false, keys: Some(\"s\"), key: Some(\"k\"), http: None, open: true, idle: 30, request: 5, at_once: 512, connections: 1000000 })",
     ),
     ("keygen admin", "Keygen { role: Admin }"),
     ("keygen reader", "Keygen { role: Reader }"),
@@ -226,4 +262,6 @@ fn an_address_is_a_host_and_a_port(rt: HostRuntime) {
     assert!(rt; address_of("a:b:1") == None);
     assert!(rt; address_of("a:") == None);
     assert!(rt; address_of("a:00") == None);
+    assert!(rt; is_address("[::1]:7101"));
+    assert!(rt; !is_address("::1:7101"));
 }

@@ -13,6 +13,8 @@ mod file_tests;
 #[cfg(test)]
 mod request_tests;
 #[cfg(test)]
+mod row_tests;
+#[cfg(test)]
 mod show_tests;
 #[cfg(test)]
 mod verify_tests;

@@ -71,6 +71,27 @@ extension deltaCRLIndicator critical
 revoked 0102 20260301000000Z keyCompromise
 ";
 
+/// A list of the certificates of some subjects, for some reasons.
+const PARTIAL: &[u8] =
+    b"30819e30818f0201013006060488370101300c310a300806035504030c0152170d3236303230313030303030305a170d323630343031303030303030
+5a3023302102020102170d3236303330313030303030305a300c300a0603551d1504030a0101a031302f300a0603551d14040302010530210603551d
+1c0101ff04173015a00ca00a8608687474703a2f2f638101ff83020560300606048837010103020073";
+
+/// What is shown of it.
+const PARTIAL_TEXT: &[u8] = b"list
+id f914e6ccfc95a857ab4c3d4db70af7a4f6ecc3351b626e9355e69218334534dc
+issuer CN=R
+this update 20260201000000Z
+next update 20260401000000Z
+number 05
+signature algorithm 2.999.1.1
+extension cRLNumber
+  number 05
+extension issuingDistributionPoint critical
+  scope uri:http://c,users,keyCompromise,cACompromise
+revoked 0102 20260301000000Z keyCompromise
+";
+
 /// A command that adds an anchor.
 const ADD: &[u8] =
     b"0000000000000000000000000000000201000000843081813073a003020102020201023006060488370101300c310a300806035504030c0152301e17
@@ -126,6 +147,16 @@ const RECORD: &[u8] =
 /// Its second disk.
 const SECOND: &[u8] = b"5453524543000002010300000000000000000000000000000000";
 
+/// A question for a page of the store after three commands, after 64 rows.
+const PAGE: &[u8] = b"0300000000000000001000000003000000000000000040";
+
+/// What is shown of it.
+const PAGE_TEXT: &[u8] = b"question
+kind store
+k 3
+after rows 64
+";
+
 /// What is shown of both.
 const RECORD_TEXT: &[u8] = b"record
 first disk live generation 1
@@ -146,12 +177,14 @@ fault NotFormatted
 ";
 
 /// Octets, those of the second disk, and what is shown.
-const ROWS: [(&[u8], &[u8], &[u8]); 9] = [
+const ROWS: [(&[u8], &[u8], &[u8]); 11] = [
     (CERTIFICATE, b"", CERTIFICATE_TEXT),
     (LIST, b"", LIST_TEXT),
+    (PARTIAL, b"", PARTIAL_TEXT),
     (ADD, b"", ADD_TEXT),
     (PURPOSES, b"", PURPOSES_TEXT),
     (QUESTION, b"", QUESTION_TEXT),
+    (PAGE, b"", PAGE_TEXT),
     (RECORD, SECOND, RECORD_TEXT),
     (RECORD, b"", ALONE_TEXT),
     (
@@ -199,7 +232,7 @@ fn show_each(alloc: Global, octets: &[u8], other: u8) -> Result<(), Fail> {
 }
 
 /// Octets that hold something of each kind.
-const EACH: [&[u8]; 6] = [CERTIFICATE, LIST, ADD, PURPOSES, QUESTION, RECORD];
+const EACH: [&[u8]; 7] = [CERTIFICATE, LIST, PARTIAL, ADD, PURPOSES, QUESTION, RECORD];
 
 #[test]
 fn shows_any_octets(rt: HostRuntime) -> Result<(), Fail> {

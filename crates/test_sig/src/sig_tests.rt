@@ -5,7 +5,7 @@ use hex::FromHex;
 use std::alloc::Global;
 use std::test::Fail;
 use ts_sig::{
-    DigestCheck, STAND_IN_ALGORITHM, STAND_IN_OID, SignatureCheck, TableCheck, TableFault,
+    DigestCheck, Message, STAND_IN_ALGORITHM, STAND_IN_OID, SignatureCheck, TableCheck, TableFault,
     WorkingKey, digest_signature,
 };
 
@@ -35,7 +35,7 @@ fn key(parameters: Option<&[u8]>) -> WorkingKey<'_> {
 
 /// As a path validator asks: through the bound.
 fn answer<S: SignatureCheck>(check: &S, key: &WorkingKey<'_>, signature: &[u8]) -> bool {
-    check.good(&STAND_IN_ALGORITHM, key, b"bc", signature)
+    check.good(&STAND_IN_ALGORITHM, key, &Message::of(b"bc"), signature)
 }
 
 #[test]
@@ -47,7 +47,7 @@ fn takes_the_one_digest(rt: HostRuntime) -> Result<(), Fail> {
     assert!(rt; !answer(&DigestCheck, &key(None), &[0; 32]));
     assert!(rt; !answer(&DigestCheck, &key(None), b""));
     assert!(rt; !answer(&DigestCheck, &key(Some(&null)), &digest));
-    assert!(rt; !DigestCheck.good(&STAND_IN_OID, &key(None), b"bc", &digest));
+    assert!(rt; !DigestCheck.good(&STAND_IN_OID, &key(None), &Message::of(b"bc"), &digest));
     Ok(())
 }
 

@@ -1,10 +1,8 @@
 -- Tables that are lent, and what path validation is asked over them.
-use Rattle.std.proofs.Common.{◌≡◌, ◌∙◌, ◌∷◌, List, [], map, refl, ap}
-use Rattle.ts_crl.specs.OwnedView.{list_of}
+use Rattle.std.proofs.Common.{◌≡◌, ◌∷◌, List, [], map, refl, ap}
 use Rattle.ts_history.specs.Contents.{Contents, anchor_in, contents_of}
 use Rattle.ts_history.specs.declared.snapshot.LentAnchor.{LentAnchor}
 use Rattle.ts_store.specs.Tables.{Tables}
-use Rattle.ts_store.specs.declared.stored.StoredCrl.{StoredCrl}
 use Rattle.ts_answer.specs.Asked.{lists_in}
 
 -- the ids of anchors that are lent
@@ -12,15 +10,11 @@ pub ids : (anchors : List LentAnchor) → map (λ a. a.id) (map anchor_in anchor
 ids [] = refl
 ids (a ∷ anchors) = ap (λ l. a.id ∷ l) (ids anchors)
 
-lists : (stored : List StoredCrl) → map list_of (map (λ k. k.crl) stored) ≡ lists_in stored
-lists [] = refl
-lists (k ∷ stored) = ap (λ l. list_of k.crl ∷ l) (lists stored)
+pub complete : (c : Contents) (tables : Tables) → c ≡ contents_of tables → lists_in c.complete ≡ lists_in tables.complete
+complete c tables is = ap (λ (x : Contents). lists_in x.complete) is
 
-pub complete : (c : Contents) (tables : Tables) → c ≡ contents_of tables → map list_of c.complete ≡ lists_in tables.complete
-complete c tables is = ap (λ (x : Contents). map list_of x.complete) is ∙ lists tables.complete
-
-pub deltas : (c : Contents) (tables : Tables) → c ≡ contents_of tables → map list_of c.deltas ≡ lists_in tables.deltas
-deltas c tables is = ap (λ (x : Contents). map list_of x.deltas) is ∙ lists tables.deltas
+pub deltas : (c : Contents) (tables : Tables) → c ≡ contents_of tables → lists_in c.deltas ≡ lists_in tables.deltas
+deltas c tables is = ap (λ (x : Contents). lists_in x.deltas) is
 
 pub anchors : (c : Contents) (tables : Tables) → c ≡ contents_of tables → c.anchors ≡ tables.anchors
 anchors c tables is = ap (λ (x : Contents). x.anchors) is

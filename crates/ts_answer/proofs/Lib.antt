@@ -1,8 +1,10 @@
 pub mod Bases
 pub mod Asking
+pub mod Judged
 pub mod Settled
 pub mod OneReply
 pub mod Purposes
 pub mod Lent
 pub mod Pairs
 pub mod Cached
+pub mod Entries

@@ -36,7 +36,7 @@ use Rattle.ts_node.specs.Run.{Group, Happening, Promised}
 use Rattle.ts_answer.specs.Laws.{AskTheSame, Headline, trust_store}
 use Rattle.ts_answer.specs.Machine.{IsAnswer}
 use Rattle.ts_answer.specs.Parts.{Unreadable, first_part, first_unreadable}
-use Rattle.ts_answer.specs.Reply.{code_in, oid_in, SaysReason, SaysVerdict, SaysSearch, IsChainReply, IsTargetReply, IsReplyBy, IsReply, with_id}
+use Rattle.ts_answer.specs.Reply.{code_in, oid_in, SaysReason, SaysVerdict, SaysSearch, IsChainReply, IsTargetReply, IsReplyBy, IsReplyTo, IsReply, with_id}
 
 -- ---- a reason is its number, its code and its object identifier
 
@@ -134,6 +134,8 @@ long_chain most octets is = leb-true 1 (length octets) (first_true (nat_le 1 (le
 
 one_target : (good : Check) (tables : Tables) (terms : Terms) (t : Target) (a b : Reply) → is_target t ≡ true → IsTargetReply good tables terms t a → IsTargetReply good tables terms t b → a ≡ b
 one_target good tables terms (target.Chain anchor octets) a b is x y = one_chain good tables terms octets (with_id anchor tables.anchors) a b (long_chain 16 octets is) x y
+one_target good tables terms (target.Store from) a b is x y = absurd x
+one_target good tables terms (target.Log from) a b is x y = absurd x
 one_target good tables terms (target.Search octets) a b is x y =
     one_found tables.anchors x.0 y.0 a b (one_answer.one_answer (search_of good tables terms octets) x.0 y.0 x.1 y.1) x.2 y.2
 
@@ -141,16 +143,27 @@ one_reply_by : (good : Check) (tables : Tables) (q : Asked) (o : Option Unreadab
 one_reply_by good tables q (Some u) a b is x y = x ∙ sym y
 one_reply_by good tables q None a b is x y = one_target good tables q.terms q.target a b is x y
 
+one_reply_to : (good : Check) (commands : List Command) (q : Asked) (t : Target) (a b : Reply) → is_target q.target ≡ true → IsReplyTo good commands q t a → IsReplyTo good commands q t b → a ≡ b
+one_reply_to good commands q (target.Store from) a b is x y = x ∙ sym y
+one_reply_to good commands q (target.Log from) a b is x y = x ∙ sym y
+one_reply_to good commands q (target.Chain anchor octets) a b is x y = one_reply_by good (store_after commands).tables q (first_unreadable q) a b is x y
+one_reply_to good commands q (target.Search octets) a b is x y = one_reply_by good (store_after commands).tables q (first_unreadable q) a b is x y
+
 -- k makes no difference
-at_any_k : (good : Check) (tables : Tables) (q p : Asked) (a : Reply) → AskTheSame q p → IsReply good tables p a → IsReply good tables q a
+at_any : (good : Check) (commands : List Command) (terms : Terms) (k : Option ℕ) (t : Target) (a : Reply) → IsReply good commands (record { terms = record terms { k = k }; target = t }) a → IsReply good commands (record { terms = terms; target = t }) a
 unfolding first_part
-at_any_k good tables q p a same x = subst (λ (r : Asked). IsReply good tables r a) same x
+at_any good commands terms k (target.Chain anchor octets) a h = h
+at_any good commands terms k (target.Search octets) a h = h
+at_any good commands terms k (target.Store from) a h = h
+at_any good commands terms k (target.Log from) a h = h
+
+at_any_k : (good : Check) (commands : List Command) (q p : Asked) (a : Reply) → AskTheSame q p → IsReply good commands p a → IsReply good commands q a
+at_any_k good commands q p a same x = at_any good commands q.terms p.terms.k q.target a (subst (λ (r : Asked). IsReply good commands r a) same x)
 
 pub one_answer_of : (good : Check) (commands : List Command) (q p : Asked) (a b : Answered) → Fits q → AskTheSame q p → IsAnswer good commands q a → IsAnswer good commands p b → a ≡ b
 one_answer_of good commands q p a b fits same x y =
-    let tables = (store_after commands).tables in
     let k = x.k ∙ sym y.k in
-    let r = one_reply_by good tables q (first_unreadable q) a.reply b.reply (second_true (are_terms q.terms) (is_target q.target) fits.within) x.reply (at_any_k good tables q p b.reply same y.reply) in
+    let r = one_reply_to good commands q q.target a.reply b.reply (second_true (are_terms q.terms) (is_target q.target) fits.within) x.reply (at_any_k good commands q p b.reply same y.reply) in
     λ i. record { k = k i; reply = r i }
 
 -- ---- the headline

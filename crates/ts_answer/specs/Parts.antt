@@ -9,7 +9,7 @@ use Rattle.ts_shape.specs.Shape.{◌or_else◌}
 use Rattle.ts_shape.specs.declared.fault.CertFault.{CertFault}
 use Rattle.ts_cert.specs.Table.{certificate_fault}
 use Rattle.ts_question.specs.declared.question.Target.{Target}
-use Rattle.ts_question.specs.declared.question.Target.TheVariants.{Chain, Search}
+use Rattle.ts_question.specs.declared.question.Target.TheVariants.{Chain, Search, Store, Log}
 use Rattle.ts_question.specs.declared.terms.Terms.{Terms}
 use Rattle.ts_question.specs.Question.{Asked}
 
@@ -37,6 +37,8 @@ first_certificate place (octets ∷ others) = option_map (unreadable place)
 abbrev pub certificates_of : Target → List (List ℕ)
 certificates_of (Chain anchor certificates) = certificates
 certificates_of (Search certificates) = certificates
+certificates_of (Store from) = []
+certificates_of (Log from) = []
 
 -- the permitted subtrees are read first, then the excluded ones, then the certificates in their
 -- order

@@ -1,5 +1,6 @@
--- The reply to a question over the tables of a store: why a part of it can't be read, or that its
--- anchor is not in the store, or what path validation or the search answers.
+-- The reply to a question after commands: a page of what the store holds, or of the commands; else
+-- why a part of the question can't be read, or that its anchor is not in the store, or what path
+-- validation or the search answers over the tables of the store.
 use Rattle.std.specs.Prelude.{◌≡◌, ℕ, suc, min, List, map, Option, Some, None, slice_get}
 use Rattle.std.specs.List.{find}
 use Rattle.std.specs.Str.{bytes_eq}
@@ -23,7 +24,12 @@ use Rattle.ts_question.specs.declared.reason.Reason.TheVariants.{Revoked, Critic
 use Rattle.ts_question.specs.declared.reply.Reply.{Reply}
 use Rattle.ts_question.specs.declared.reply.Reply.TheVariants.{Valid, Invalid, Found, NoPath}
 use Rattle.ts_question.specs.declared.reply.Reply.TheVariants.{SearchLimit, Malformed, NoAnchor}
+use Rattle.ts_listing.specs.Listing.{listing}
+use Rattle.ts_listing.specs.Log.{log_rows}
+use Rattle.ts_listing.specs.Page.{page}
+use Rattle.ts_store.specs.Store.{store_after}
 use Rattle.ts_store.specs.Tables.{Tables}
+use Rattle.ts_store.specs.declared.command.Command.{Command}
 use Rattle.ts_store.specs.declared.anchor.TrustAnchor.{TrustAnchor as StoredAnchor}
 use Rattle.ts_answer.specs.Asked.{question_of, search_of}
 use Rattle.ts_answer.specs.Parts.{Unreadable, first_unreadable}
@@ -87,6 +93,7 @@ IsTargetReply good tables terms (target.Chain anchor certificates) reply =
     IsChainReply good tables terms certificates (with_id anchor tables.anchors) reply
 IsTargetReply good tables terms (target.Search certificates) reply =
     IsSearchReply good tables terms certificates reply
+IsTargetReply good tables terms other reply = ⊥
 
 -- a place that four octets can't hold is the greatest that they can; no certificate has one
 abbrev pub malformed : Unreadable → Reply
@@ -96,5 +103,13 @@ abbrev pub IsReplyBy : Check → Tables → Asked → Option Unreadable → Repl
 IsReplyBy good tables q (Some u) reply = reply ≡ malformed u
 IsReplyBy good tables q None reply = IsTargetReply good tables q.terms q.target reply
 
-abbrev pub IsReply : Check → Tables → Asked → Reply → Type 0
-IsReply good tables q reply = IsReplyBy good tables q (first_unreadable q) reply
+-- of a page nothing is read of the question but its target
+abbrev pub IsReplyTo : Check → List Command → Asked → Target → Reply → Type 0
+IsReplyTo good commands q (target.Store from) reply =
+    reply ≡ page from (listing (store_after commands))
+IsReplyTo good commands q (target.Log from) reply = reply ≡ page from (log_rows commands)
+IsReplyTo good commands q other reply =
+    IsReplyBy good (store_after commands).tables q (first_unreadable q) reply
+
+abbrev pub IsReply : Check → List Command → Asked → Reply → Type 0
+IsReply good commands q reply = IsReplyTo good commands q q.target reply

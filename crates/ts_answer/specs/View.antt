@@ -9,7 +9,13 @@ use Rattle.ts_path.specs.View.{asked_under}
 use Rattle.ts_path.specs.declared.inputs.Inputs.{Inputs}
 use Rattle.ts_revoke.specs.declared.crls.Crls.{Crls}
 use Rattle.ts_search.specs.View.{Check}
+use Rattle.ts_question.specs.declared.question.Target.{Target}
+use Rattle.ts_question.specs.declared.question.Target.TheVariants.{Store, Log}
 use Rattle.ts_question.specs.declared.terms.Terms.{Terms}
+use Rattle.ts_store.specs.declared.command.Command.{Command}
+use Rattle.ts_listing.specs.Log.{log_of}
+use Rattle.ts_listing.specs.View.{line_in}
+use Rattle.ts_listing.specs.declared.log.Entry.{Entry}
 use Rattle.ts_answer.specs.declared.parts.Parts.{Parts}
 use Rattle.ts_answer.specs.declared.fault.PartFault.{PartFault}
 use Rattle.ts_answer.specs.declared.fault.PartFault.TheVariants as faults
@@ -33,3 +39,17 @@ abbrev pub AreInputs : Terms → Inputs → Type 0
 AreInputs terms inputs = (good : Check) (crls : Crls) (anchor : TrustAnchor)
     → asked_under inputs crls good anchor
     ≡ asked_with good (map crl_in crls.lists.now) (map crl_in crls.deltas.now) terms anchor
+
+-- a question that path validation or the search answers, and one that the tables of a store answer
+abbrev pub IsJudged : Target → Type 0
+IsJudged (Store from) = ⊥
+IsJudged (Log from) = ⊥
+IsJudged other = Unit {0}
+
+abbrev pub IsOfTables : Target → Type 0
+IsOfTables (Log from) = ⊥
+IsOfTables other = Unit {0}
+
+-- the entries are the commands with what each came to
+abbrev pub AreEntries : List Entry → List Command → Type 0
+AreEntries entries commands = map line_in entries ≡ log_of commands

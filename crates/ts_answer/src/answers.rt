@@ -9,35 +9,42 @@ ghost use Rattle.ts_question.specs.declared.reply.Reply.TheVariants.{NotYet};
 ghost use Rattle.ts_question.specs.Reply.{Fits};
 ghost use Rattle.ts_answer.specs.Machine.{IsAnswer};
 ghost use Rattle.ts_answer.specs.Reply.{IsReply};
+ghost use Rattle.ts_answer.specs.View.{IsOfTables};
+ghost use Rattle.ts_listing.specs.Log.{log_rows};
+ghost use Rattle.ts_listing.specs.Page.{page};
 
 use crate::cache::{Cache, key_of};
 use crate::judging::reply_over;
 use std::alloc::{AllocError, Global};
 use std::marker::Model;
 use ts_history::History;
-use ts_question::{Answer, Question, Reply};
+use ts_listing::{Entry, log_page, purposes_of};
+use ts_question::{Answer, Question, Reply, Target};
 use ts_sig::SignatureCheck;
 use ts_store::{Command, First, Outcome};
 
-/// A trust store that keeps the commands that it took, and answers questions after any number of
-/// them. It caches the answers that were given last.
+/// A trust store that keeps the commands that it took, each with what it came to, and answers
+/// questions after any number of them. It caches the answers that were given last.
 #[derive(Drop)]
 pub struct Answers<S: SignatureCheck> {
     alloc: Global,
     check: S,
     history: History,
+    log: Vec<Entry>,
     cache: Cache,
 }
 
 impl<S: SignatureCheck> Model for Answers<S> {
     ghost use Rattle.ts_answer.specs.Held.{Held};
     ghost use Rattle.ts_answer.specs.Cache.{AreCached};
+    ghost use Rattle.ts_answer.specs.View.{AreEntries};
 
     ghost Value = { Held S };
 
     ghost view = { λ a. record { check = a.check; commands = a.history } };
 
-    ghost invariant = { λ a. AreCached (S.accepts a.check) a.history a.cache.entries };
+    ghost invariant = { λ a. AreCached (S.accepts a.check) a.history a.cache.entries
+        × AreEntries a.log.items a.history };
 }
 
 /// An answer, each field of which is in its range. That a reply keeps the ranges follows from its
@@ -62,6 +69,7 @@ impl<S: SignatureCheck> Answers<S> {
             alloc,
             check,
             history: History::new(alloc),
+            log: Vec::new(alloc),
             cache: Cache::new(),
         }
     }
@@ -74,6 +82,7 @@ impl<S: SignatureCheck> Answers<S> {
             alloc: _alloc,
             check,
             history: _history,
+            log: _log,
             cache: _cache,
         } = self;
         check
@@ -100,7 +109,13 @@ impl<S: SignatureCheck> Answers<S> {
         ensures refused { OnErr result (self.new.commands ≡ self.old.commands) }
         ensures check { self.new.check ≡ self.old.check }
     {
-        self.history.push(command)
+        self.log.reserve(1)?;
+        let purposes = purposes_of(self.alloc, command)?;
+        let outcome = self.history.push(command)?;
+        match self.log.push(Entry::of(command, purposes, outcome)) {
+            Ok(()) => Ok(outcome),
+            Err(_) => unreachable!(),
+        }
     }
 
     /// The first command that had an id: its position, and what it came to.
@@ -110,15 +125,38 @@ impl<S: SignatureCheck> Answers<S> {
         self.history.first(id)
     }
 
-    /// The reply after the first k commands.
-    fn reply(&self, k: u32, question: &Question) -> Result<Reply, AllocError>
-        requires { k ≤ length self.now.commands }
+    /// The reply over the tables after the first k commands.
+    fn reply_of_tables(&self, k: u32, question: &Question) -> Result<Reply, AllocError>
+        requires taken { k ≤ length self.now.commands }
+        requires tables { IsOfTables question.now.target }
         ensures { IfOk result (IsReply (S.accepts self.now.check)
-            (store_after (take k self.now.commands)).tables question.now) }
+            (take k self.now.commands) question.now) }
     {
         let snapshot = self.history.at(self.alloc, k)?;
         let reply = reply_over(self.alloc, &self.check, &snapshot, question)?;
         Ok(reply)
+    }
+
+    /// A page of the first k commands, after so many rows.
+    fn log_of(&self, k: u32, from: u32) -> Result<Reply, AllocError>
+        requires { k ≤ length self.now.commands }
+        ensures { IfOk result (λ reply. reply ≡ page from (log_rows (take k self.now.commands))) }
+    {
+        log_page(self.alloc, &self.log[..k as usize], from)
+    }
+
+    /// The reply after the first k commands.
+    fn reply(&self, k: u32, question: &Question) -> Result<Reply, AllocError>
+        requires { k ≤ length self.now.commands }
+        ensures { IfOk result (IsReply (S.accepts self.now.check)
+            (take k self.now.commands) question.now) }
+    {
+        match question.target() {
+            Target::Log { from } => self.log_of(k, *from),
+            Target::Chain { .. } => self.reply_of_tables(k, question),
+            Target::Search { .. } => self.reply_of_tables(k, question),
+            Target::Store { .. } => self.reply_of_tables(k, question),
+        }
     }
 
     /// The answer to a question, without the cache.

@@ -58,23 +58,36 @@ fn size_of(strings: &OctetStrings) -> usize {
 /// How many octets the certificates and the initial subtrees of a question have.
 fn size_of_question(question: &Question) -> usize {
     let certificates = match question.target() {
-        Target::Chain { certificates, .. } | Target::Search { certificates } => certificates,
+        Target::Chain { certificates, .. } | Target::Search { certificates } => {
+            size_of(certificates)
+        }
+        Target::Store { .. } | Target::Log { .. } => 0,
     };
     let terms = question.terms();
-    size_of(certificates)
+    certificates
         .saturating_add(size_of(&terms.permitted_subtrees))
         .saturating_add(size_of(&terms.excluded_subtrees))
 }
 
+/// Whether a question is one for a page. A page is not cached: whoever asks for all pages would
+/// have the verdicts forgotten.
+fn is_of_page(question: &Question) -> bool {
+    match question.target() {
+        Target::Chain { .. } | Target::Search { .. } => false,
+        Target::Store { .. } | Target::Log { .. } => true,
+    }
+}
+
 /// The key of the answer to a question after the first k commands. `None` for a question that is
-/// too long, and where memory is refused: such an answer is given without the cache.
+/// too long or one for a page, and where memory is refused: such an answer is given without the
+/// cache.
 pub(crate) fn key_of(alloc: Global, k: u32, question: &Question) -> Option<Vec<u8>>
     ensures key { IfSome result (λ key. key.items ≡ key_of k question.now) }
     ensures fits { QuestionFits question.now }
 {
     let _target = question.target();
     let size = size_of_question(question);
-    if size > MAX_OCTETS {
+    if size > MAX_OCTETS || is_of_page(question) {
         return None;
     }
     let mut key = Vec::with_capacity(alloc, size + KEY_ROOM).ok()?;

@@ -8,13 +8,15 @@ ghost use Rattle.ts_search.specs.Search.{IsAnswer};
 ghost use Rattle.ts_question.specs.declared.question.Target.TheVariants.{Chain, Search};
 ghost use Rattle.ts_constraint.specs.View.{bases_in};
 ghost use Rattle.ts_history.specs.Contents.{contents_of};
+ghost use Rattle.ts_store.specs.Store.{store_after};
 ghost use Rattle.ts_store.specs.Tables.{Tables};
+ghost use Rattle.ts_store.specs.declared.command.Command.{Command};
 ghost use Rattle.ts_question.specs.Question.{is_target};
 ghost use Rattle.ts_answer.specs.Parts.{base_of, certificates_of, first_part};
 ghost use Rattle.ts_answer.specs.Asked.{chain_of, question_of, search_of, trust_anchor};
 ghost use Rattle.ts_answer.specs.Reply.{IsReply, IsReplyBy, IsTargetReply};
 ghost use Rattle.ts_answer.specs.Trusted.{trusted_in};
-ghost use Rattle.ts_answer.specs.View.{AreInputs, AreParts};
+ghost use Rattle.ts_answer.specs.View.{AreInputs, AreParts, IsJudged, IsOfTables};
 
 use crate::fault::PartFault;
 use crate::parts::{Parts, read_parts};
@@ -24,6 +26,7 @@ use crate::verdicts::{malformed, reply_of_search, reply_of_verdict};
 use std::alloc::{AllocError, Global};
 use ts_cert::Cert;
 use ts_history::Snapshot;
+use ts_listing::store_page;
 use ts_name::Subtree;
 use ts_path::{Anchor, Inputs, Verdict, validate};
 use ts_question::{OctetStrings, Question, Reply, Target, Terms};
@@ -186,6 +189,7 @@ fn target_reply<'a, S: SignatureCheck>(
 ) -> Result<Reply, AllocError>
     requires same { certificates.now ≡ certificates_of target.now }
     requires within { is_target target.now ≡ true }
+    requires judged { IsJudged target.now }
     ensures { (tables : Tables) → snapshot.now ≡ contents_of tables
         → IfOk result (IsReplyBy (S.accepts check.now) tables
         (record { terms = terms.now; target = target.now })
@@ -197,27 +201,35 @@ fn target_reply<'a, S: SignatureCheck>(
                 chain_reply(alloc, check, snapshot, anchor, terms, parts)
             }
             Target::Search { .. } => search_reply(alloc, check, snapshot, terms, parts),
+            Target::Store { .. } | Target::Log { .. } => unreachable!(),
         },
         Err(PartFault::Unreadable { index, fault }) => Ok(malformed(index, fault)),
         Err(PartFault::Memory) => Err(AllocError),
     }
 }
 
-/// The reply to a question over the tables of a store, which are lent.
+/// The reply to a question over the tables of a store, which are lent: to any but one for commands.
 pub(crate) fn reply_over<S: SignatureCheck>(
     alloc: Global,
     check: &S,
     snapshot: &Snapshot<'_>,
     question: &Question,
 ) -> Result<Reply, AllocError>
-    ensures { (tables : Tables) → snapshot.now ≡ contents_of tables
-        → IfOk result (IsReply (S.accepts check.now) tables question.now) }
+    requires tables { IsOfTables question.now.target }
+    ensures { (commands : List Command)
+        → snapshot.now ≡ contents_of (store_after commands).tables
+        → IfOk result (IsReply (S.accepts check.now) commands question.now) }
 {
     let terms = question.terms();
     let target = question.target();
     match target {
-        Target::Chain { certificates, .. } | Target::Search { certificates } => {
+        Target::Chain { certificates, .. } => {
             target_reply(alloc, check, snapshot, terms, target, certificates)
         }
+        Target::Search { certificates } => {
+            target_reply(alloc, check, snapshot, terms, target, certificates)
+        }
+        Target::Store { from } => store_page(alloc, snapshot, *from),
+        Target::Log { .. } => unreachable!(),
     }
 }

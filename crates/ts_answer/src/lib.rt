@@ -14,7 +14,8 @@
 //! The reply to a question over a store is, in this order: `Malformed`, with the first part that
 //! can't be read (the initial subtrees, which have index 0, and then the certificates, counted from
 //! 1) and the first rule that it breaks; `NoAnchor`, where a chain's anchor is not in the store;
-//! and else what path validation or the search answers (`specs/Reply`).
+//! and else what path validation or the search answers (`specs/Reply`). To a question for a page of
+//! the store or of its log it is that page (`ts_listing`).
 //!
 //! - [`Answers::new`], [`Answers::close`], [`Answers::prefix`]: no commands; the check, given back;
 //!   how many commands were taken.
@@ -33,6 +34,7 @@
 //! The answers that were given last are cached, each under its k and its question (`specs/Cache`):
 //! a question that is asked again at one k is answered without validating anything. No public
 //! clause names the cache: it is an invariant of `Answers` that each answer in it is the right one.
+//! Pages are not cached.
 //!
 //! Out of memory is answered as `AllocError`.
 //!

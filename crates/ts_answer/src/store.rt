@@ -2,30 +2,30 @@
 
 ghost use Rattle.std.specs.Prelude.{◌≡◌, map, option_map, IfOk};
 ghost use Rattle.ts_crl.specs.ListView.{crl_in};
-ghost use Rattle.ts_crl.specs.OwnedView.{list_of};
 ghost use Rattle.ts_history.specs.Contents.{anchor_in as lent_in};
 ghost use Rattle.ts_path.specs.View.{anchor_in};
-ghost use Rattle.ts_answer.specs.Asked.{trust_anchor};
+ghost use Rattle.ts_answer.specs.Asked.{lists_in, trust_anchor};
 ghost use Rattle.ts_answer.specs.Reply.{with_id};
 ghost use Rattle.ts_answer.specs.Trusted.{trusted_in};
 
 use crate::trusted::Trusted;
 use std::alloc::{AllocError, Global};
-use ts_crl::{Crl, OwnedCrl};
+use ts_crl::Crl;
 use ts_history::LentAnchor;
 use ts_path::Anchor;
+use ts_store::StoredCrl;
 
 /// The lists, lent. None is read again.
 pub(crate) fn lists_of<'a>(
     alloc: Global,
-    stored: &[&'a OwnedCrl],
+    stored: &[&'a StoredCrl],
 ) -> Result<Vec<Crl<'a>>, AllocError>
     ensures { IfOk result (λ lists. map crl_in lists.items
-        ≡ map list_of (map (λ c. c.now) stored.now)) }
+        ≡ lists_in (map (λ c. c.now) stored.now)) }
 {
     let mut lists = Vec::new(alloc);
     for kept in stored {
-        lists.push(kept.view())?;
+        lists.push(kept.crl.view())?;
     }
     Ok(lists)
 }

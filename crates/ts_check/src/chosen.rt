@@ -3,6 +3,7 @@
 ghost use Rattle.ts_check.specs.Chosen.{chosen_accepts};
 
 use crate::native::NativeCheck;
+use ts_digest::Message;
 use ts_sig::{DigestCheck, SignatureCheck, TableCheck, WorkingKey};
 
 /// The check of a program, as its user chooses it.
@@ -23,7 +24,7 @@ impl SignatureCheck for ChosenCheck {
         &self,
         algorithm: &[u8],
         key: &WorkingKey<'_>,
-        signed: &[u8],
+        signed: &Message<'_>,
         signature: &[u8],
     ) -> bool {
         match self {

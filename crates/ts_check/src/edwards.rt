@@ -4,6 +4,7 @@ ghost use Rattle.std.specs.Prelude.{◌≡◌};
 ghost use Rattle.ts_sig.specs.Key.{key_of};
 ghost use Rattle.ts_check.specs.Edwards.{ed25519_takes, is_for_ed25519};
 
+use ts_digest::Message;
 use ts_eddsa::is_ed25519_signature;
 use ts_sig::WorkingKey;
 
@@ -20,8 +21,8 @@ fn is_for_ed25519(key: &WorkingKey<'_>) -> bool
 
 /// Whether the signature is one by Ed25519 under the key.
 #[tactic(auto, unfolding(crate::specs::Edwards::ed25519_takes))]
-pub fn ed25519_takes(key: &WorkingKey<'_>, signed: &[u8], signature: &[u8]) -> bool
-    ensures { result ≡ ed25519_takes (key_of key.now) signed.now signature.now }
+pub fn ed25519_takes(key: &WorkingKey<'_>, signed: &Message<'_>, signature: &[u8]) -> bool
+    ensures { result ≡ ed25519_takes (key_of key.now) signed.now.octets.now signature.now }
 {
-    is_for_ed25519(key) && is_ed25519_signature(key.octets, signed, signature)
+    is_for_ed25519(key) && is_ed25519_signature(key.octets, signed.octets, signature)
 }

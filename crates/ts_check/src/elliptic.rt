@@ -4,7 +4,7 @@ ghost use Rattle.std.specs.Prelude.{◌≡◌};
 ghost use Rattle.ts_sig.specs.Key.{key_of};
 ghost use Rattle.ts_check.specs.Elliptic.{curve_name, curve_named, ecdsa_takes, is_on};
 
-use ts_digest::Hash;
+use ts_digest::{Hash, Message};
 use ts_ecdsa::{Curve, is_ecdsa_signature};
 use ts_sig::WorkingKey;
 
@@ -51,8 +51,8 @@ fn curve_named(key: &WorkingKey<'_>) -> Option<Curve>
 
 /// Whether the signature is one by ECDSA under the key.
 #[tactic(auto, unfolding(crate::specs::Elliptic::ecdsa_takes))]
-pub fn ecdsa_takes(hash: Hash, key: &WorkingKey<'_>, signed: &[u8], signature: &[u8]) -> bool
-    ensures { result ≡ ecdsa_takes hash (key_of key.now) signed.now signature.now }
+pub fn ecdsa_takes(hash: Hash, key: &WorkingKey<'_>, signed: &Message<'_>, signature: &[u8]) -> bool
+    ensures { result ≡ ecdsa_takes hash (key_of key.now) signed.now.octets.now signature.now }
 {
     let Some(curve) = curve_named(key) else {
         return false;

@@ -9,6 +9,7 @@ use crate::algorithm::{SignatureAlgorithm, algorithm_named};
 use crate::edwards::ed25519_takes;
 use crate::elliptic::ecdsa_takes;
 use crate::rsa::{pkcs1_takes, pss_takes};
+use ts_digest::Message;
 use ts_sig::{SignatureCheck, WorkingKey};
 
 /// Checks signatures by RSA, ECDSA and Ed25519. It has no state: each node that has this version answers
@@ -20,10 +21,10 @@ pub struct NativeCheck;
 fn takes(
     algorithm: SignatureAlgorithm,
     key: &WorkingKey<'_>,
-    signed: &[u8],
+    signed: &Message<'_>,
     signature: &[u8],
 ) -> bool
-    ensures { result ≡ takes algorithm (key_of key.now) signed.now signature.now }
+    ensures { result ≡ takes algorithm (key_of key.now) signed.now.octets.now signature.now }
 {
     match algorithm {
         SignatureAlgorithm::Pkcs1(hash) => pkcs1_takes(hash, key, signed, signature),
@@ -42,7 +43,7 @@ impl SignatureCheck for NativeCheck {
         &self,
         algorithm: &[u8],
         key: &WorkingKey<'_>,
-        signed: &[u8],
+        signed: &Message<'_>,
         signature: &[u8],
     ) -> bool {
         match algorithm_named(algorithm) {

@@ -5,7 +5,7 @@ ghost use Rattle.ts_sig.specs.Key.{key_of};
 ghost use Rattle.ts_check.specs.Rsa.{is_for_rsa, is_for_pss, pkcs1_takes, pss_takes};
 
 use crate::public_key::read_public;
-use ts_digest::Hash;
+use ts_digest::{Hash, Message};
 use ts_rsa::{KeyBounds, is_pkcs1_signature, is_pss_signature};
 use ts_sig::WorkingKey;
 
@@ -43,8 +43,8 @@ fn is_for_pss(key: &WorkingKey<'_>) -> bool
 
 /// Whether the signature is one by RSASSA-PKCS1-v1_5 under the key.
 #[tactic(auto, unfolding(crate::specs::Rsa::pkcs1_takes, crate::specs::Rsa::holds_of_public))]
-pub fn pkcs1_takes(hash: Hash, key: &WorkingKey<'_>, signed: &[u8], signature: &[u8]) -> bool
-    ensures { result ≡ pkcs1_takes hash (key_of key.now) signed.now signature.now }
+pub fn pkcs1_takes(hash: Hash, key: &WorkingKey<'_>, signed: &Message<'_>, signature: &[u8]) -> bool
+    ensures { result ≡ pkcs1_takes hash (key_of key.now) signed.now.octets.now signature.now }
 {
     if !is_for_rsa(key) {
         return false;
@@ -64,8 +64,8 @@ pub fn pkcs1_takes(hash: Hash, key: &WorkingKey<'_>, signed: &[u8], signature: &
 
 /// Whether the signature is one by RSASSA-PSS under the key.
 #[tactic(auto, unfolding(crate::specs::Rsa::pss_takes, crate::specs::Rsa::holds_of_public))]
-pub fn pss_takes(hash: Hash, key: &WorkingKey<'_>, signed: &[u8], signature: &[u8]) -> bool
-    ensures { result ≡ pss_takes hash (key_of key.now) signed.now signature.now }
+pub fn pss_takes(hash: Hash, key: &WorkingKey<'_>, signed: &Message<'_>, signature: &[u8]) -> bool
+    ensures { result ≡ pss_takes hash (key_of key.now) signed.now.octets.now signature.now }
 {
     if !is_for_rsa(key) && !is_for_pss(key) {
         return false;

@@ -1,3 +1,4 @@
 mod Saying
 mod Encodings
 mod Subcommands
+mod Addresses

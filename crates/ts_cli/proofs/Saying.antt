@@ -7,7 +7,7 @@ use Rattle.ts_cli.specs.Serving.{IsServe, IsServable}
 use Rattle.ts_cli.specs.declared.serve_words.ServeWords.{ServeWords}
 use Rattle.ts_cli.specs.Says.{SaysTask, SaysAny, IsInRange}
 use Rattle.ts_cli.specs.declared.task.Task.{Task}
-use Rattle.ts_cli.specs.declared.task.Task.TheVariants.{Lab, Format, Migrate, Serve, Verify, Submit, Ask, Carry, Status, Identify, CatchUp, Compact, Command, Question, Id, Show, Keygen}
+use Rattle.ts_cli.specs.declared.task.Task.TheVariants.{Lab, Format, Migrate, Serve, Verify, Submit, Ask, Carry, Status, Identify, CatchUp, Compact, Command, Question, Id, Show, Keygen, Store, Log, Diff, Sync}
 
 pub says_any : (own : List Row) (name : Text) (rows : List Row) (task : Task) → SaysTask name rows task → SaysAny own name rows task
 says_any own name rows (Command words) says = absurd says
@@ -24,6 +24,10 @@ says_any own name rows (Status reach) says = says
 says_any own name rows (Identify reach) says = says
 says_any own name rows (CatchUp reach) says = says
 says_any own name rows (Compact reach) says = says
+says_any own name rows (Store reach k json) says = says
+says_any own name rows (Log reach from k json) says = says
+says_any own name rows (Diff reach old new) says = says
+says_any own name rows (Sync words) says = says
 says_any own name rows (Keygen role) says = says
 says_any own name rows (Id file) says = says
 says_any own name rows (Show file) says = says
@@ -67,6 +71,11 @@ in_range own name rows (Status reach) says = tt
 in_range own name rows (Identify reach) says = tt
 in_range own name rows (CatchUp reach) says = tt
 in_range own name rows (Compact reach) says = tt
+in_range own name rows (Store reach k json) says = tt
+in_range own name rows (Log reach from k json) says = tt
+in_range own name rows (Diff reach old new) says = tt
+in_range own name rows (Sync words) says =
+    to-most (first_of (codes "wait") rows) 1 3600 10 words.wait says.1.wait_is (omega arith)
 in_range own name rows (Keygen role) says = tt
 in_range own name rows (Id file) says = tt
 in_range own name rows (Show file) says = tt

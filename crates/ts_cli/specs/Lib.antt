@@ -5,4 +5,5 @@ pub mod Says
 pub mod Values
 pub mod Serving
 pub mod Verifying
+pub mod Syncing
 pub mod Reaching

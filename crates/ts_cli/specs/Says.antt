@@ -10,6 +10,7 @@ use Rattle.ts_cli.specs.Serving.{IsServe, IsServable}
 use Rattle.ts_cli.specs.Reaching.{IsReach, IsRole}
 use Rattle.ts_cli.specs.declared.reach.Reach.{Reach}
 use Rattle.ts_cli.specs.Verifying.{IsVerify}
+use Rattle.ts_cli.specs.Syncing.{IsSync}
 use Rattle.ts_cli.specs.Given.{IsAt, IsNumberAt, IsNumberOr, IsDigestAt, IsMomentAt, all_at}
 use Rattle.ts_cli.specs.Given.{is_set}
 use Rattle.ts_question.specs.declared.terms.Flags.{Flags}
@@ -25,6 +26,7 @@ use Rattle.ts_cli.specs.declared.task.Task.{Task}
 use Rattle.ts_cli.specs.declared.task.Task.TheVariants.{Lab, Format, Migrate, Serve, Verify, Submit}
 use Rattle.ts_cli.specs.declared.task.Task.TheVariants.{Ask, Carry, Status, CatchUp, Compact, Command}
 use Rattle.ts_cli.specs.declared.task.Task.TheVariants.{Question, Id, Show, Keygen, Identify}
+use Rattle.ts_cli.specs.declared.task.Task.TheVariants.{Store, Log, Diff, Sync}
 
 pub record IsFormat (name : Text) (rows : List Row) (file : Text)
     (id nodes group : ℕ) : Type 0 where
@@ -59,6 +61,21 @@ pub record IsCarry (name : Text) (rows : List Row) (addresses : List Text)
 pub record IsReaching (name expected : Text) (rows : List Row) (reach : Reach) : Type 0 where
   pub name_is : name ≡ expected
   pub reach_is : IsReach rows reach
+
+-- `store` and `log`, by their names
+pub record IsListing (name expected : Text) (rows : List Row) (reach : Reach) (k : Option ℕ)
+    (json : Bool) : Type 0 where
+  pub name_is : name ≡ expected
+  pub reach_is : IsReach rows reach
+  pub k_is : AsWritten (IsNumberIn 0 1000000) (first_of (codes "k") rows) k
+  pub json_is : json ≡ is_set (codes "json") rows
+
+-- `diff`
+pub record IsDiff (name : Text) (rows : List Row) (reach : Reach) (old new : ℕ) : Type 0 where
+  pub name_is : name ≡ codes "diff"
+  pub reach_is : IsReach rows reach
+  pub old_is : IsNumberAt (codes "old") rows 0 1000000 old
+  pub new_is : IsNumberAt (codes "new") rows 0 1000000 new
 
 -- `id` and `show`, by their names
 pub record IsReading (name expected : Text) (rows : List Row) (file : Text) : Type 0 where
@@ -190,6 +207,12 @@ SaysTask name rows (Status reach) = IsReaching name (codes "status") rows reach
 SaysTask name rows (Identify reach) = IsReaching name (codes "identify") rows reach
 SaysTask name rows (CatchUp reach) = IsReaching name (codes "catchup") rows reach
 SaysTask name rows (Compact reach) = IsReaching name (codes "compact") rows reach
+SaysTask name rows (Store reach k json) = IsListing name (codes "store") rows reach k json
+SaysTask name rows (Log reach from k json) =
+    IsListing name (codes "log") rows reach k json
+    × IsNumberOr (codes "from") rows 1 1000000 1 from
+SaysTask name rows (Diff reach old new) = IsDiff name rows reach old new
+SaysTask name rows (Sync words) = (name ≡ codes "sync") × IsSync rows words
 SaysTask name rows (Keygen role) = (name ≡ codes "keygen") × IsRole rows role
 SaysTask name rows (Id file) = IsReading name (codes "id") rows (string_bytes file)
 SaysTask name rows (Show file) = IsReading name (codes "show") rows (string_bytes file)
@@ -214,6 +237,10 @@ SaysAny own name rows (Status reach) = SaysTask name rows (Status reach)
 SaysAny own name rows (Identify reach) = SaysTask name rows (Identify reach)
 SaysAny own name rows (CatchUp reach) = SaysTask name rows (CatchUp reach)
 SaysAny own name rows (Compact reach) = SaysTask name rows (Compact reach)
+SaysAny own name rows (Store reach k json) = SaysTask name rows (Store reach k json)
+SaysAny own name rows (Log reach from k json) = SaysTask name rows (Log reach from k json)
+SaysAny own name rows (Diff reach old new) = SaysTask name rows (Diff reach old new)
+SaysAny own name rows (Sync words) = SaysTask name rows (Sync words)
 SaysAny own name rows (Keygen role) = SaysTask name rows (Keygen role)
 SaysAny own name rows (Id file) = SaysTask name rows (Id file)
 SaysAny own name rows (Show file) = SaysTask name rows (Show file)
@@ -246,6 +273,10 @@ IsInRange (Status reach) = Unit {0}
 IsInRange (Identify reach) = Unit {0}
 IsInRange (CatchUp reach) = Unit {0}
 IsInRange (Compact reach) = Unit {0}
+IsInRange (Store reach k json) = Unit {0}
+IsInRange (Log reach from k json) = Unit {0}
+IsInRange (Diff reach old new) = Unit {0}
+IsInRange (Sync words) = words.wait ≤ 3600
 IsInRange (Keygen role) = Unit {0}
 IsInRange (Id file) = Unit {0}
 IsInRange (Show file) = Unit {0}

@@ -1,5 +1,5 @@
 -- How a node is served, by the arguments of `trustd serve`.
-use Rattle.std.specs.Prelude.{◌≡◌, ◌≤◌, List, codes, string_bytes, option_map, map}
+use Rattle.std.specs.Prelude.{◌≡◌, ◌≤◌, List, codes, string_bytes, option_map, map, Option, IfSome}
 use Rattle.std.specs.List.{AllByRecursion}
 use Rattle.clap.specs.Walk.{Row, Text, first_of}
 use Rattle.ts_cli.specs.Values.{IsAddressed, NamesPeer}
@@ -11,6 +11,11 @@ pub record ArePeers (rows : List Row) (peers : List Text) : Type 0 where
   pub are : peers ≡ all_at (codes "peer") rows
   pub form : AllByRecursion NamesPeer peers
 
+-- the address of HTTP, where one is given
+pub record IsHttp (rows : List Row) (http : Option Text) : Type 0 where
+  pub is : http ≡ first_of (codes "http") rows
+  pub form : IfSome http IsAddressed
+
 pub record IsServe (rows : List Row) (words : ServeWords) : Type 0 where
   pub file_is : IsAt (codes "file") rows (string_bytes words.file)
   pub listen_is : IsAt (codes "listen") rows (string_bytes words.listen)
@@ -21,6 +26,7 @@ pub record IsServe (rows : List Row) (words : ServeWords) : Type 0 where
   pub quiet_is : words.quiet ≡ is_set (codes "quiet") rows
   pub keys_is : first_of (codes "keys") rows ≡ option_map string_bytes words.keys
   pub key_is : first_of (codes "key") rows ≡ option_map string_bytes words.key
+  pub http_is : IsHttp rows (option_map string_bytes words.http)
   pub open_is : words.open ≡ is_set (codes "open") rows
   pub idle_is : IsNumberOr (codes "idle") rows 1 3600 30 words.idle
   pub request_is : IsNumberOr (codes "request") rows 1 3600 5 words.request

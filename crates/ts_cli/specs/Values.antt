@@ -1,7 +1,9 @@
 -- What words write: numbers, addresses, ids, moments and object identifiers.
 use Rattle.std.specs.Prelude.{◌≡◌, ◌≢◌, ◌<◌, ◌≤◌, ◌==◌, ◌^◌, ℕ, List, [], length, Option, Some}
-use Rattle.std.specs.Prelude.{None}
+use Rattle.std.specs.Prelude.{None, ◌⊎◌}
 use Rattle.std.specs.List.{before_first, after_first}
+use Rattle.std.specs.Net.Grammar.{IsSocketV6Text}
+use Rattle.std.specs.declared.net.SocketAddrV6.{SocketAddrV6}
 use Rattle.std.specs.Fmt.{decimal}
 use Rattle.hex.specs.Hex.{encode_lower, IsBytes}
 use Rattle.ts_der.specs.ObjectIdentifier.{arcs}
@@ -24,8 +26,11 @@ pub record IsAddress (text host : List ℕ) (port : ℕ) : Type 0 where
   pub some : host ≢ []
   pub behind : IsNumberIn 0 65535 (after_first (λ octet. octet == 58) text) port
 
-abbrev pub IsAddressed : List ℕ → Type 0
-IsAddressed text = (host : List ℕ) × (port : ℕ) × IsAddress text host port
+-- an address: a host and a port, or an IPv6 address in brackets, a colon and a port (RFC 3986
+-- 3.2.2), as `std` reads it
+unfoldable pub IsAddressed : List ℕ → Type 0
+IsAddressed text = ((host : List ℕ) × (port : ℕ) × IsAddress text host port)
+    ⊎ ((address : SocketAddrV6) × IsSocketV6Text text address)
 
 -- the number of a node, 1 to 9, an equals sign, and an address
 pub record IsPeer (text : List ℕ) (node : ℕ) (address : List ℕ) : Type 0 where

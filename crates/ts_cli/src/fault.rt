@@ -48,6 +48,12 @@ pub enum WrongValue {
     TimeOrNow,
     /// No number of commands.
     Position,
+    /// No position of a command.
+    From,
+    /// No two numbers of commands.
+    Positions,
+    /// Neither anchors nor CRLs.
+    Material,
     /// No object identifier.
     Oid,
     /// More than 32 policies.
@@ -81,6 +87,9 @@ impl fmt::Display for WrongValue {
             WrongValue::Time => "--at is a moment, as 20260101000000Z",
             WrongValue::TimeOrNow => "--at is a moment, as 20260101000000Z, or now",
             WrongValue::Position => "--k is a number from 0 to 1000000",
+            WrongValue::From => "--from is a number from 1 to 1000000",
+            WrongValue::Positions => "K1 and K2 are numbers from 0 to 1000000",
+            WrongValue::Material => "sync takes --anchors, --crls or both",
             WrongValue::Oid => "an object identifier is written as 2.5.29.32.0",
             WrongValue::Policies => "there are at most 32 policies",
             WrongValue::Purposes => "there are at most 16 purposes, each once",

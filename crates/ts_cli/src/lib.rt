@@ -25,7 +25,8 @@
 //!   `refused`: `OutOfLimits` only where that is outside its limits.
 //! - [`id_text`]: the SHA-256 in lower-case hexadecimal digits, by which a store knows an anchor or
 //!   a list.
-//! - [`address_of`]: the host and the port, exactly where a text is an address.
+//! - [`address_of`]: the host and the port, exactly where a text is these; [`is_address`]: it is, or
+//!   it is an IPv6 address in brackets and a port.
 //!
 //! Gaps. No clause says that words whose values are all right have a task, but for `trustd lab`:
 //! that is tested. Nor is there one for the text of help and of errors, nor for which words a
@@ -46,12 +47,14 @@ mod command_words;
 mod encoding;
 mod fault;
 mod group;
+mod listing_task;
 mod matched;
 mod oids;
 mod program_task;
 mod question_words;
 mod reach;
 mod serve_words;
+mod sync_words;
 mod task;
 mod values;
 mod verify_words;
@@ -63,6 +66,7 @@ pub use fault::{CommandFault, WrongValue, report};
 pub use question_words::{QuestionWords, Subject, TermWords};
 pub use reach::Reach;
 pub use serve_words::ServeWords;
+pub use sync_words::SyncWords;
 pub use task::Task;
-pub use values::{address_of, peer_of};
+pub use values::{address_of, is_address, peer_of};
 pub use verify_words::VerifyWords;

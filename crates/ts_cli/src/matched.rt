@@ -8,7 +8,7 @@ ghost use Rattle.ts_cli.specs.Values.{IsAddressed, NamesPeer};
 ghost use Rattle.ts_cli.specs.Given.{IsNumberAt, IsNumberOr, all_at, is_set};
 
 use crate::fault::{CommandFault, WrongValue};
-use crate::values::{address_of, number_in, peer_of};
+use crate::values::{is_address, number_in, peer_of};
 use clap::ArgMatches;
 use std::alloc::{AllocError, Global};
 
@@ -70,7 +70,7 @@ pub(crate) fn address_at(
     ensures address { IfOk result (λ text. IsAddressed (string_bytes text)) }
 {
     let text = text_at(matches, id)?;
-    if address_of(text).is_none() {
+    if !is_address(text) {
         return Err(CommandFault::Value(WrongValue::Address));
     }
     Ok(String::from_str(alloc, text)?)
@@ -175,7 +175,7 @@ pub(crate) fn are_addresses(texts: &[String]) -> bool
     ensures { result ≡ true → AllByRecursion IsAddressed (map string_bytes texts.now) }
 {
     for text in texts {
-        if address_of(text.as_str()).is_none() {
+        if !is_address(text.as_str()) {
             return false;
         }
     }

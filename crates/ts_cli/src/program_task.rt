@@ -7,9 +7,11 @@ ghost use Rattle.ts_cli.specs.Says.{SaysTask};
 ghost use Rattle.ts_cli.specs.declared.task.Task.TheVariants.{Lab};
 
 use crate::fault::{CommandFault, WrongValue};
+use crate::listing_task::{diff, log, store};
 use crate::matched::{are_addresses, is_set, number_at, number_or, string_at, strings_at};
 use crate::reach::{reach_at, role_at};
 use crate::serve_words::serve_words;
+use crate::sync_words::sync_words;
 use crate::task::Task;
 use crate::verify_words::verify_words;
 use clap::ArgMatches;
@@ -108,6 +110,10 @@ pub(crate) fn task_named(
         "compact" => Ok(Task::Compact {
             reach: reach_at(alloc, matches)?,
         }),
+        "store" => store(alloc, matches),
+        "log" => log(alloc, matches),
+        "diff" => diff(alloc, matches),
+        "sync" => Ok(Task::Sync(sync_words(alloc, matches)?)),
         "keygen" => Ok(Task::Keygen {
             role: role_at(matches)?,
         }),

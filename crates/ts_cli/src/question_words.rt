@@ -65,7 +65,8 @@ fn moment_at(matches: &ArgMatches<'_>) -> Result<i64, CommandFault>
     }
 }
 
-fn position_at(matches: &ArgMatches<'_>) -> Result<Option<u32>, CommandFault>
+/// After how many commands the store is looked at, if it is given.
+pub(crate) fn position_at(matches: &ArgMatches<'_>) -> Result<Option<u32>, CommandFault>
     ensures { IfOk result (AsWritten (IsNumberIn 0 1000000)
         (first_of (codes "k") (rows_of (found_of matches.now)))) }
 {

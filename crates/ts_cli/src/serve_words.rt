@@ -1,13 +1,13 @@
 //! How a node is served.
 
-ghost use Rattle.std.specs.Prelude.{IfOk, map, string_bytes};
+ghost use Rattle.std.specs.Prelude.{IfOk, map, option_map, string_bytes};
 ghost use Rattle.clap.specs.Matches.{found_of};
 ghost use Rattle.clap.specs.Walk.{rows_of};
-ghost use Rattle.ts_cli.specs.Serving.{ArePeers, IsServe};
+ghost use Rattle.ts_cli.specs.Serving.{ArePeers, IsHttp, IsServe};
 
 use crate::fault::{CommandFault, WrongValue};
 use crate::matched::{
-    address_at, are_peers, is_set, number_or, optional_string_at, string_at, strings_at,
+    address_at, are_peers, is_set, number_or, optional_string_at, string_at, strings_at, value_at,
 };
 use clap::ArgMatches;
 use std::alloc::Global;
@@ -31,7 +31,9 @@ pub struct ServeWords {
     pub keys: Option<String>,
     /// The file of the key that the node shows its peers.
     pub key: Option<String>,
-    /// Whether it is served without keys where other machines reach it.
+    /// Where questions are asked over HTTP, by whoever reaches it.
+    pub http: Option<String>,
+    /// Whether it is served without keys, and over HTTP, where other machines reach it.
     pub open: bool,
     /// How many seconds a silent client is kept.
     pub idle: u32,
@@ -58,6 +60,17 @@ fn peers_at(alloc: Global, matches: &ArgMatches<'_>) -> Result<Vec<String>, Comm
     Ok(peers)
 }
 
+/// The address of HTTP, if one is given.
+fn http_at(alloc: Global, matches: &ArgMatches<'_>) -> Result<Option<String>, CommandFault>
+    ensures { IfOk result (λ http. IsHttp (rows_of (found_of matches.now))
+        (option_map string_bytes http)) }
+{
+    if value_at(matches, "http").is_none() {
+        return Ok(None);
+    }
+    Ok(Some(address_at(alloc, matches, "http")?))
+}
+
 /// The words of `trustd serve`.
 pub(crate) fn serve_words(
     alloc: Global,
@@ -79,6 +92,7 @@ pub(crate) fn serve_words(
         quiet: is_set(matches, "quiet"),
         keys: optional_string_at(alloc, matches, "keys")?,
         key: optional_string_at(alloc, matches, "key")?,
+        http: http_at(alloc, matches)?,
         open: is_set(matches, "open"),
         idle: number_or(matches, "idle", 1, 3600, 30, WrongValue::Seconds)?,
         request: number_or(matches, "request", 1, 3600, 5, WrongValue::Seconds)?,

@@ -4,6 +4,7 @@ use crate::command_words::CommandWords;
 use crate::question_words::QuestionWords;
 use crate::reach::Reach;
 use crate::serve_words::ServeWords;
+use crate::sync_words::SyncWords;
 use crate::verify_words::VerifyWords;
 use ts_access::Role;
 
@@ -81,6 +82,37 @@ pub enum Task {
         /// The node, and the key that it is shown.
         reach: Reach,
     },
+    /// Print what a node's store holds.
+    Store {
+        /// The node, and the key that it is shown.
+        reach: Reach,
+        /// After how many commands, if it is given.
+        k: Option<u32>,
+        /// Whether as JSON.
+        json: bool,
+    },
+    /// Print the commands that a node's store took.
+    Log {
+        /// The node, and the key that it is shown.
+        reach: Reach,
+        /// From which position on.
+        from: u32,
+        /// Up to which, if it is given.
+        k: Option<u32>,
+        /// Whether as JSON.
+        json: bool,
+    },
+    /// Print what changed in a node's store.
+    Diff {
+        /// The node, and the key that it is shown.
+        reach: Reach,
+        /// The number of commands before.
+        old: u32,
+        /// The number of commands behind.
+        new: u32,
+    },
+    /// Make a store hold exactly what files hold.
+    Sync(SyncWords),
     /// Print a line of a file of keys, with a new secret.
     Keygen {
         /// What its holder is to a node.

@@ -1,10 +1,11 @@
 //! What words write.
 
-ghost use Rattle.std.specs.Prelude.{◌≡◌, ◌*◌, ℕ, ℤ, List, length, IfSome, MatchOption};
+ghost use Rattle.std.specs.Prelude.{◌≡◌, ◌↔◌, ◌*◌, ℕ, ℤ, List, length, IfSome, IsTrue, MatchOption};
 ghost use Rattle.std.specs.Bool.{MatchBool};
 ghost use Rattle.ts_time.specs.Text.{IsGeneral};
-ghost use Rattle.ts_cli.specs.Values.{IsNumber, IsNumberIn, IsAddress, IsHex, IsPeer};
+ghost use Rattle.ts_cli.specs.Values.{IsNumber, IsNumberIn, IsAddress, IsAddressed, IsHex, IsPeer};
 
+use std::net::SocketAddrV6;
 use ts_time::{Moment, read_general};
 
 /// Stands between the host and the port of an address.
@@ -49,13 +50,26 @@ pub fn address_of(text: &str) -> Option<(&str, u16)>
     Some((host, port as u16))
 }
 
+/// Whether a text is an address: a host and a port, or an IPv6 address in brackets and a port, as
+/// `[::1]:7101`.
+pub fn is_address(text: &str) -> bool
+    ensures { IsTrue result ↔ IsAddressed text.now }
+{
+    if address_of(text).is_some() {
+        return true;
+    }
+    text.parse::<SocketAddrV6>().is_ok()
+}
+
 /// The number of a node, 1 to 9, and its address, with an equals sign between.
 pub fn peer_of(text: &str) -> Option<(u8, &str)>
     ensures { IfSome result (λ found. IsPeer text.now found.0 found.1.now) }
 {
     let (node, address) = text.split_once(EQUALS)?;
     let node = number_in(node, 1, 9)?;
-    let _ = address_of(address)?;
+    if !is_address(address) {
+        return None;
+    }
     Some((node as u8, address))
 }
 

@@ -25,6 +25,7 @@ use Rattle.ts_crl.specs.Fault.{ListFault, broken, criticalCrlExtension, indirect
 use Rattle.ts_crl.specs.Findings.{findings_of}
 use Rattle.ts_crl.specs.Kept.{first_place, only_place, HavePlace, EntriesRead, SignedRead, WasRead}
 use Rattle.ts_crl.specs.List.{LocatedEntry, LocatedList, CertificateList, unlocated_entry, unlocated_list}
+use Rattle.ts_crl.specs.OwnedView.{list_of, no_list}
 use Rattle.ts_crl.specs.Profile.{profile_fault, unprocessed, unprocessed_of_entries, names_issuer, is_indirect}
 use Rattle.ts_crl.specs.Reading.{entry_in, revoked_of, signed_of, whole_of, shape_of}
 use Rattle.ts_crl.specs.Rules.{entries_fault, fault_by_place, version_fault, algorithms_fault, placed_fault}
@@ -167,6 +168,10 @@ list-is first octets w =
     ap (λ (r : Result LocatedList CertFault). as_list r >>= λ l. unless_broken l (list_fault l)) w.shape ∙ ap (unless_broken w.list) w.unbroken
 
 -- the list that was lent is that list
+-- the list that they are
+pub read-list : (first : Option CertFault) (octets : List ℕ) → (w : WasRead first octets) → list_of octets ≡ unlocated_list w.list
+read-list first octets w = ap (λ (r : Result CertificateList ListFault). result_unwrap_or r no_list) (list-is first octets w)
+
 pub lent-is : (first : Option CertFault) (octets lent : List ℕ) → lent ≡ octets → WasRead first octets → (l : LocatedList) → whole_of lent ≡ Ok l → crl_of octets ≡ Ok (unlocated_list l)
 lent-is first octets lent same w l read =
     list-is first octets w ∙ ap (λ (x : LocatedList). Ok (unlocated_list x)) (ok_is {E = CertFault} w.list l (sym (whole-kept octets w.list w.shape) ∙ (ap whole_of (sym same) ∙ read)))

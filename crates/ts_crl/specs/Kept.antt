@@ -6,12 +6,15 @@ use Rattle.ts_der.specs.Octets.{AreOctets}
 use Rattle.ts_shape.specs.declared.fault.CertFault.{CertFault}
 use Rattle.ts_shape.specs.Fields.{optional_of}
 use Rattle.ts_crl.specs.declared.extension_rule.ExtensionRule.TheVariants.{OldVersion}
+use Rattle.ts_digest.specs.Message.{IsDigestOf}
 use Rattle.ts_crl.specs.declared.fault.CrlFault.{CrlFault}
+use Rattle.ts_crl.specs.declared.owned.Checked.{Checked}
 use Rattle.ts_crl.specs.declared.owned.OwnedCrlFault.{OwnedCrlFault}
 use Rattle.ts_crl.specs.declared.owned.OwnedCrlFault.TheVariants.{Memory, Unreadable}
 use Rattle.ts_crl.specs.Fault.{ListFault, fault_in, fault_text}
 use Rattle.ts_crl.specs.Findings.{Findings, findings_of}
 use Rattle.ts_crl.specs.List.{LocatedEntry, LocatedTbsList, LocatedList}
+use Rattle.ts_crl.specs.OwnedView.{list_of}
 use Rattle.ts_crl.specs.Reading.{revoked_of, tbs_of, signed_of, shape_of}
 use Rattle.ts_crl.specs.Table.{list_fault, crl_of}
 use Rattle.ts_crl.specs.Rules.{entries_fault}
@@ -73,6 +76,7 @@ pub record WasRead (first : Option CertFault) (octets : List ℕ) : Type 0 where
   pub entries : HavePlace first list.tbsCertList.revokedCertificates
 
 -- a call answered what has to be known of octets that are a list, or the first rule that they break
-abbrev pub Checks : List ℕ → Result (Option CertFault) CrlFault → Type 0
-Checks octets (Ok first) = WasRead first octets
+abbrev pub Checks : List ℕ → Result Checked CrlFault → Type 0
+Checks octets (Ok checked) = WasRead checked.first octets
+    × IsDigestOf checked.digest (list_of octets).tbs
 Checks octets (Err fault) = crl_of octets ≡ Err (fault_in fault)

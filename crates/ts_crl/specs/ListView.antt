@@ -22,7 +22,7 @@ tbs_in t =
 abbrev pub located_list_in : Crl → LocatedList
 located_list_in c =
     record {
-      tbs = c.tbs.now;
+      tbs = c.tbs.octets.now;
       tbsCertList = record {
         version = c.version;
         signature = algorithm_in c.signature;

@@ -26,6 +26,7 @@ use crate::shape::read_shape;
 use crate::values::{base_if_any, value_if_any};
 use crate::version::ListVersion;
 use ts_der::Integer;
+use ts_digest::Message;
 use ts_ext::{
     AuthorityKeyIdentifier, CrlNumber, Ext, Extensions, Holder, IssuingDistributionPoint, Known,
 };
@@ -38,7 +39,7 @@ pub const MAX_CRL: usize = 4_194_304;
 /// A CRL as it lies in the source (RFC 5280 5.1).
 #[derive(Clone, Copy)]
 pub struct Crl<'a> {
-    pub(crate) tbs: &'a [u8],
+    pub(crate) tbs: Message<'a>,
     pub(crate) version: ListVersion,
     pub(crate) signature: AlgorithmIdentifier<'a>,
     pub(crate) issuer: Name<'a>,
@@ -85,6 +86,13 @@ impl<'a> Crl<'a> {
     /// 5.1.1.3).
     pub fn tbs(self) -> &'a [u8]
         ensures { result.now ≡ (crl_in self.entry).tbs }
+    {
+        self.tbs.octets
+    }
+
+    /// The octets that are signed, with their hash where it is at hand.
+    pub fn signed(self) -> Message<'a>
+        ensures { result.octets.now ≡ (crl_in self.entry).tbs }
     {
         self.tbs
     }

@@ -25,6 +25,7 @@ use crate::update::next_update;
 use crate::version::next_version;
 use ts_der::tag::SEQUENCE;
 use ts_der::{Element, Fault, Reader};
+use ts_digest::Message;
 use ts_field::{Stamp, next_algorithm, next_bits, next_time, read_algorithm};
 use ts_name::Name;
 use ts_shape::{CertFault, tagged_as};
@@ -138,7 +139,7 @@ fn signed_in<'a>(element: Element<'a>, first: Option<CertFault>) -> Result<Crl<'
     let signature_value = next_bits(&mut fields)?;
     fields.end()?;
     Ok(Crl {
-        tbs: tbs.whole,
+        tbs: Message::of(tbs.whole),
         version: signed.version,
         signature: signed.signature,
         issuer: signed.issuer,

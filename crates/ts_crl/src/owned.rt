@@ -6,7 +6,8 @@ ghost use Rattle.ts_crl.specs.Fault.{ListFault};
 ghost use Rattle.ts_crl.specs.Kept.{kept_text, unreadable_in, RefusedFor, first_place, WasRead};
 ghost use Rattle.ts_crl.specs.Kept.{Checks};
 ghost use Rattle.ts_crl.specs.EntryView.{revoked_in};
-ghost use Rattle.ts_crl.specs.ListView.{crl_in};
+ghost use Rattle.ts_crl.specs.ListView.{crl_in, located_list_in};
+ghost use Rattle.ts_digest.specs.Message.{IsDigestOf};
 ghost use Rattle.ts_crl.specs.OwnedView.{list_of};
 ghost use Rattle.ts_crl.specs.Encoding.{IsCertificateList};
 ghost use Rattle.ts_crl.specs.Table.{crl_fault, crl_of};
@@ -20,6 +21,7 @@ use std::alloc::{AllocError, Global};
 use std::error::Error;
 use std::fmt;
 use std::marker::Model;
+use ts_digest::{Digest, Message, likely_hash};
 use ts_shape::CertFault;
 
 /// Why a list is not kept.
@@ -60,14 +62,22 @@ pub struct OwnedCrl {
     octets: Vec<u8>,
     /// Where the first extensions of its entries are, which is all that has to be known of these.
     first: Option<CertFault>,
+    /// The hash of what is signed of it.
+    digest: Digest,
 }
 
 impl Model for OwnedCrl {
+    ghost use Rattle.std.specs.Prelude.{List, ℕ};
+    ghost use Rattle.ts_digest.specs.Message.{IsDigestOf};
+    ghost use Rattle.ts_crl.specs.OwnedView.{list_of};
+    ghost use Rattle.ts_crl.specs.Kept.{WasRead};
+
     ghost Value = { List ℕ };
 
     ghost view = { λ crl. crl.octets.items };
 
-    ghost invariant = { λ crl. WasRead crl.first crl.octets.items };
+    ghost invariant = { λ crl. WasRead crl.first crl.octets.items
+        × IsDigestOf crl.digest (list_of crl.octets.items).tbs };
 }
 
 /// Where the first extensions of the entries of a list are.
@@ -81,14 +91,54 @@ fn first_extensions<'a>(crl: &Crl<'a>) -> Option<CertFault>
 }
 
 /// What has to be known of octets that are a list, to lend it again.
+#[derive(Drop)]
+struct Checked {
+    first: Option<CertFault>,
+    digest: Digest,
+}
+
+/// The hash of what is signed of a list, by the function that its signature is likely to use.
+fn digest_of(crl: &Crl<'_>) -> Digest
+    ensures { IsDigestOf result (crl_in crl.now).tbs }
+{
+    Digest::of(
+        likely_hash(crl.signature_algorithm.algorithm),
+        crl.tbs.octets,
+    )
+}
+
+/// What has to be known of octets that are a list, to lend it again.
 #[tactic(auto, unfolding(crate::specs::Table::crl_of))]
-fn check<'a>(octets: &'a [u8]) -> Result<Option<CertFault>, CrlFault<'a>>
+fn check<'a>(octets: &'a [u8]) -> Result<Checked, CrlFault<'a>>
     ensures { Checks octets.now result }
 {
     let crl = read_shape(octets)?;
     match broken_rule(&crl) {
         Some(fault) => Err(fault),
-        None => Ok(first_extensions(&crl)),
+        None => Ok(Checked {
+            first: first_extensions(&crl),
+            digest: digest_of(&crl),
+        }),
+    }
+}
+
+/// A list that is lent with the hash of what is signed of it.
+fn with_digest<'a>(crl: Crl<'a>, digest: &'a Digest) -> Crl<'a>
+    requires { IsDigestOf digest.now (crl_in crl).tbs }
+    ensures { located_list_in result ≡ located_list_in crl.entry }
+{
+    Crl {
+        tbs: Message::with_digest(crl.tbs.octets, digest),
+        version: crl.version,
+        signature: crl.signature,
+        issuer: crl.issuer,
+        this_update: crl.this_update,
+        next_update: crl.next_update,
+        revoked: crl.revoked,
+        extensions: crl.extensions,
+        signature_algorithm: crl.signature_algorithm,
+        signature_value: crl.signature_value,
+        identifier_at: crl.identifier_at,
     }
 }
 
@@ -106,12 +156,16 @@ impl OwnedCrl {
             → IsErrAnd result (λ e. unreadable_in e ≡ Some f) }
         ensures exact { IfErr result (λ e. RefusedFor octets.now e) }
     {
-        let first = match check(octets) {
-            Ok(first) => first,
+        let Checked { first, digest } = match check(octets) {
+            Ok(checked) => checked,
             Err(fault) => return Err(OwnedCrlFault::Unreadable(fault)),
         };
         let octets = Vec::from_slice(alloc, octets)?;
-        Ok(OwnedCrl { octets, first })
+        Ok(OwnedCrl {
+            octets,
+            first,
+            digest,
+        })
     }
 
     /// The list, lent. Its names, its entries and its extensions are not read again.
@@ -121,7 +175,7 @@ impl OwnedCrl {
         ensures same { crl_in result ≡ list_of self.now }
     {
         match list_in(self.octets.as_slice(), self.first) {
-            Ok(crl) => crl,
+            Ok(crl) => with_digest(crl, &self.digest),
             Err(_) => unreachable!(),
         }
     }

@@ -9,6 +9,7 @@ use crate::crl::{Crl, MAX_CRL};
 use crate::tbs::read_tbs;
 use ts_der::tag::SEQUENCE;
 use ts_der::{DerFault, Element, Reader};
+use ts_digest::Message;
 use ts_field::{next_bits, read_algorithm};
 use ts_shape::{CertFault, CertRule};
 
@@ -25,7 +26,7 @@ fn read_signed<'a>(element: Element<'a>) -> Result<Crl<'a>, CertFault>
     let signature_value = next_bits(&mut fields)?;
     fields.end()?;
     Ok(Crl {
-        tbs: tbs.whole,
+        tbs: Message::of(tbs.whole),
         version: signed.version,
         signature: signed.signature,
         issuer: signed.issuer,

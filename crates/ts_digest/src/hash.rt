@@ -43,7 +43,7 @@ pub fn append<const N: usize>(octets: &mut ArrayVec<u8, N>, more: &[u8])
 }
 
 /// Octets in an array.
-fn array_of(octets: &[u8]) -> ArrayVec<u8, HASH_OCTETS>
+pub(crate) fn array_of(octets: &[u8]) -> ArrayVec<u8, HASH_OCTETS>
     requires { length octets.now ≤ HASH_OCTETS }
     ensures items { result.items ≡ octets.now }
     ensures len { array_vec_len result ≡ length octets.now }

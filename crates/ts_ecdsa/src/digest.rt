@@ -6,7 +6,7 @@ ghost use Rattle.ts_ecdsa.specs.Key.{size};
 ghost use Rattle.ts_ecdsa.specs.Signature.{hash_number};
 
 use ts_curve::{DomainParameters, Limbs, Residue, residue_of_octets};
-use ts_digest::{Hash, hash_of_message};
+use ts_digest::{Hash, Message};
 
 /// The leftmost octets of a hash as a number modulo the order (FIPS 186-5 6.4.1).
 fn leftmost<C: DomainParameters>(hash: &[u8]) -> Residue<C::Order>
@@ -21,8 +21,8 @@ fn leftmost<C: DomainParameters>(hash: &[u8]) -> Residue<C::Order>
 }
 
 /// The number of a message's hash, modulo the order.
-pub fn hashed<C: DomainParameters>(hash: Hash, message: &[u8]) -> Residue<C::Order>
-    ensures { result ≡ hash_number C.curve hash message.now % C.curve.order }
+pub fn hashed<C: DomainParameters>(hash: Hash, message: &Message<'_>) -> Residue<C::Order>
+    ensures { result ≡ hash_number C.curve hash message.now.octets.now % C.curve.order }
 {
-    leftmost::<C>(hash_of_message(hash, message).as_slice())
+    leftmost::<C>(message.hash_by(hash).as_slice())
 }

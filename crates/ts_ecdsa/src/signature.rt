@@ -15,7 +15,7 @@ use crate::number::{is_number_signature, residue_from_integer};
 use crate::value::signature_parts;
 use ts_curve::{CurvePoint, DomainParameters, P256, P384, Residue};
 use ts_der::Integer;
-use ts_digest::Hash;
+use ts_digest::{Hash, Message};
 
 /// Whether two INTEGERs are a signature of `e` under the key `q`.
 fn is_integer_signature<C: DomainParameters>(
@@ -42,11 +42,11 @@ fn is_integer_signature<C: DomainParameters>(
 fn is_signature_on<C: DomainParameters>(
     hash: Hash,
     public_key: &[u8],
-    signed: &[u8],
+    signed: &Message<'_>,
     signature: &[u8],
 ) -> bool
     ensures { IsTrue result
-        ↔ IsEcdsaSignature C.curve hash public_key.now signed.now signature.now }
+        ↔ IsEcdsaSignature C.curve hash public_key.now signed.now.octets.now signature.now }
 {
     match point_from_octets::<C>(public_key) {
         None => false,
@@ -64,13 +64,13 @@ pub fn is_ecdsa_signature(
     curve: Curve,
     hash: Hash,
     public_key: &[u8],
-    signed: &[u8],
+    signed: &Message<'_>,
     signature: &[u8],
 ) -> bool
     ensures exactly { IsTrue result
-        ↔ IsEcdsaSignature (curve_of curve) hash public_key.now signed.now signature.now }
+        ↔ IsEcdsaSignature (curve_of curve) hash public_key.now signed.now.octets.now signature.now }
     ensures test { result
-        ≡ is_ecdsa_signature_of (curve_of curve) hash public_key.now signed.now signature.now }
+        ≡ is_ecdsa_signature_of (curve_of curve) hash public_key.now signed.now.octets.now signature.now }
 {
     match curve {
         Curve::P256 => is_signature_on::<P256>(hash, public_key, signed, signature),

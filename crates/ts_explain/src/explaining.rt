@@ -6,22 +6,23 @@ ghost use Rattle.ts_explain.specs.Line.{IsLine};
 use crate::reason::reason_of;
 use std::alloc::{AllocError, Global};
 use ts_cert::Cert;
-use ts_question::{OctetStrings, Question, Reason, Reply, Target};
+use ts_question::{Question, Reason, Reply, Target};
 use ts_report::reason_line;
 use ts_show::Line;
 
-/// The certificates of a question.
-fn strings_of(question: &Question) -> &OctetStrings {
+/// The certificates of a question, if it has any.
+fn strings_of(question: &Question) -> &[Vec<u8>] {
     match question.target() {
-        Target::Chain { certificates, .. } => certificates,
-        Target::Search { certificates } => certificates,
+        Target::Chain { certificates, .. } => certificates.as_slice(),
+        Target::Search { certificates } => certificates.as_slice(),
+        Target::Store { .. } | Target::Log { .. } => &[],
     }
 }
 
 /// Certificates that are read, up to the first that is none.
-fn certificates_of(alloc: Global, strings: &OctetStrings) -> Result<Vec<Cert<'_>>, AllocError> {
+fn certificates_of(alloc: Global, strings: &[Vec<u8>]) -> Result<Vec<Cert<'_>>, AllocError> {
     let mut certificates = Vec::new(alloc);
-    for octets in strings.as_slice() {
+    for octets in strings {
         match Cert::read(octets.as_slice()) {
             Ok(cert) => certificates.push(cert)?,
             Err(_) => return Ok(certificates),
@@ -86,6 +87,16 @@ fn not_yet_line(alloc: Global, prefix: u32) -> Result<Line, AllocError> {
     Ok(line)
 }
 
+/// The line on a page.
+fn page_line(alloc: Global, total: u32, count: usize) -> Result<Line, AllocError> {
+    let mut line = Line::of(alloc, b"a page of ")?;
+    line.number(count as u64)?;
+    line.text(b" rows, of ")?;
+    line.number(total as u64)?;
+    line.text(b" in all; trustd store and trustd log print them")?;
+    Ok(line)
+}
+
 /// What a reply to a question means.
 fn line_of(alloc: Global, question: &Question, reply: &Reply) -> Result<Line, AllocError> {
     match reply {
@@ -107,6 +118,7 @@ fn line_of(alloc: Global, question: &Question, reply: &Reply) -> Result<Line, Al
             b"the store has no trust anchor of this id after these commands",
         ),
         Reply::Limit => Line::of(alloc, b"the policies have more paths than a limit"),
+        Reply::Page { total, rows } => page_line(alloc, *total, rows.len()),
     }
 }
 

@@ -1,2 +1,4 @@
+mod Encodings
 mod Saying
 mod Dropping
+mod Naming

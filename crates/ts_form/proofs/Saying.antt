@@ -2,10 +2,12 @@
 use Rattle.std.proofs.Common.{◌≡◌, ◌∙◌, refl, sym, ap, subst, ℕ, List, [], ◌∷◌, ◌++◌, true, false, Option, Some, None, append_assoc, codes}
 use Rattle.std.specs.Fmt.{decimal}
 use Rattle.std.proofs.lemmas.List.{append-nil}
-use Rattle.serde_json.specs.Data.{Data, null, boolean, number, string, array, Num, unsigned, negative, float, Items, no_items, item, Members, no_members, member}
-use Rattle.serde_json.specs.Find.{as_u64}
+use Rattle.serde_json.specs.Data.{Data, null, boolean, number, string, array, Num, unsigned, negative, float, Items, no_items, item, Members, no_members, member, object}
+use Rattle.serde_json.specs.Find.{as_str, as_u64}
 use Rattle.ts_form.specs.Pairs.{Named}
-use Rattle.ts_form.specs.Said.{both, items_said, members_said, text_said, value_said, Said}
+use Rattle.ts_form.specs.Said.{both, items_said, members_said, text_said, value_said, IsUnsaid, Said}
+use Rattle.ts_form.specs.declared.fault.FormFault.{FormFault}
+use Rattle.ts_form.specs.declared.fault.FormFault.TheVariants as faults
 
 -- nothing before
 pub both_front : (o : Option (List Named)) → both (Some []) o ≡ o
@@ -75,10 +77,59 @@ said_number name other n (unsigned m) value before after seen whole same behind 
 said_number name other n (negative z) value before after seen whole same behind = cc
 said_number name other n (float f) value before after seen whole same behind = cc
 
-pub said_list : (name : List ℕ) (value : Data) (items : Items) (before after : List Named) → value ≡ array items → Said (items_said name items) before after → Said (value_said name value) before after
+pub listed : (name : List ℕ) (value : Data) (items : Items) → value ≡ array items → items_said name items ≡ value_said name value
 unfolding value_said
-said_list name value items before after seen s = record { more = s.more; is = ap (value_said name) seen ∙ s.is; behind = s.behind }
+listed name value items seen = ap (value_said name) (sym seen)
 
 -- one more pair behind those of a list
 pub behind_all : (first done now after : List Named) (pair : Named) → now ≡ first ++ done → after ≡ now ++ pair ∷ [] → after ≡ first ++ (done ++ pair ∷ [])
 behind_all first done now after pair is new = new ∙ (ap (λ (xs : List Named). xs ++ pair ∷ []) is ∙ append_assoc first done (pair ∷ []))
+
+-- ---- what says nothing
+
+no_front : (done : List Named) (rest : Option (List Named)) → both (Some done) (both None rest) ≡ None
+no_front done rest = refl
+
+pub no_text : (name : List ℕ) (value : Data) → as_str value ≡ None → text_said name value ≡ None
+no_text name null none = refl
+no_text name (boolean b) none = refl
+no_text name (number n) none = refl
+no_text name (string s) none = cc
+no_text name (array items) none = refl
+no_text name (object ms) none = refl
+
+pub text_is : (value : Data) (text : List ℕ) → as_str value ≡ Some text → value ≡ string text
+text_is null text is = cc
+text_is (boolean b) text is = cc
+text_is (number n) text is = cc
+text_is (string s) text is = cc
+text_is (array items) text is = cc
+text_is (object ms) text is = cc
+
+pub unsaid_item : (whole : Option (List Named)) (done : List Named) (name : List ℕ) (value : Data) (rest : Items)
+    → whole ≡ both (Some done) (items_said name (item value rest)) → text_said name value ≡ None → whole ≡ None
+unfolding items_said
+unsaid_item whole done name value rest is none = is ∙ (ap (λ o. both (Some done) (both o (items_said name rest))) none ∙ no_front done (items_said name rest))
+
+unsaid_front : (whole said rest : Option (List Named)) (done : List Named) (fault : FormFault) → whole ≡ both (Some done) (both said rest) → IsUnsaid said fault → IsUnsaid whole fault
+unsaid_front whole said rest done faults.Memory is none = none
+unsaid_front whole said rest done faults.Json is none = is ∙ (ap (λ o. both (Some done) (both o rest)) none ∙ no_front done rest)
+unsaid_front whole said rest done faults.Name is none = none
+unsaid_front whole said rest done (faults.Value f) is none = none
+unsaid_front whole said rest done (faults.Twice f) is none = none
+
+pub unsaid_member : (whole : Option (List Named)) (done : List Named) (name other : List ℕ) (value : Data) (rest : Members) (fault : FormFault)
+    → whole ≡ both (Some done) (members_said (member name value rest)) → other ≡ name → IsUnsaid (value_said other value) fault → IsUnsaid whole fault
+unfolding members_said
+unsaid_member whole done name other value rest fault is same none =
+    unsaid_front whole (value_said name value) (members_said rest) done fault is (subst (λ (n : List ℕ). IsUnsaid (value_said n value) fault) same none)
+
+pub unsaid_object : (name : List ℕ) (value : Data) (ms : Members) → value ≡ object ms → value_said name value ≡ None
+unfolding value_said
+unsaid_object name value ms seen = ap (value_said name) seen
+
+pub unsaid_number : (name : List ℕ) (value : Data) (x : Num) → value ≡ number x → as_u64 x ≡ None → value_said name value ≡ None
+unfolding value_said
+unsaid_number name value (unsigned m) seen none = cc
+unsaid_number name value (negative z) seen none = ap (value_said name) seen
+unsaid_number name value (float f) seen none = ap (value_said name) seen

@@ -1,30 +1,22 @@
--- The fields of a request: their names, and what each says.
-use Rattle.std.specs.Prelude.{◌≡◌, ◌⊎◌, ℕ, ℤ, List, [], ◌∷◌, ◌++◌, Bool, true, false, map, codes}
+-- The fields of a question: what a text says of each, and when it is refused.
+use Rattle.std.specs.Prelude.{◌≡◌, ◌≢◌, ◌⊎◌, ℕ, ℤ, List, [], ◌∷◌, ◌++◌, Bool, true, false, map}
+use Rattle.std.specs.Prelude.{codes}
 use Rattle.std.specs.Prelude.{Option, Some, None, if◌then◌else◌, ◌||◌}
 use Rattle.std.specs.Str.{bytes_eq}
 use Rattle.std.specs.declared.vec.Vec.{Vec}
 use Rattle.std.specs.declared.alloc.Global.{Global}
 use Rattle.ts_question.specs.declared.terms.Flags.{Flags}
+use Rattle.ts_der.specs.Octets.{AreOctets}
 use Rattle.ts_time.specs.Text.{IsGeneral}
+use Rattle.ts_form.specs.Names.{field_named}
 use Rattle.ts_form.specs.Pairs.{Named}
 use Rattle.ts_form.specs.Values.{AreCertificates, AreWritten, IsDotted, IsHex, IsPosition}
 use Rattle.ts_form.specs.declared.field.Field.{Field}
 use Rattle.ts_form.specs.declared.field.Field.TheVariants.{Chain, At, K, Hard, Deltas, Explicit}
 use Rattle.ts_form.specs.declared.field.Field.TheVariants.{NoMap, NoAny, Policies, Purpose, Anchor}
+use Rattle.ts_form.specs.declared.fault.FormFault.{FormFault}
+use Rattle.ts_form.specs.declared.fault.FormFault.TheVariants as faults
 use Rattle.ts_form.specs.declared.wanted.Wanted.{Wanted}
-
-abbrev pub name_of : Field → List ℕ
-name_of Chain = codes "chain"
-name_of At = codes "at"
-name_of K = codes "k"
-name_of Hard = codes "hard"
-name_of Deltas = codes "deltas"
-name_of Explicit = codes "explicit"
-name_of NoMap = codes "nomap"
-name_of NoAny = codes "noany"
-name_of Policies = codes "policies"
-name_of Purpose = codes "purpose"
-name_of Anchor = codes "anchor"
 
 -- ---- flags
 
@@ -103,25 +95,77 @@ Adds Policies text old new = (policy : List ℕ) × IsDotted text policy
     × (new ≡ record old { policies = new.policies })
 Adds Purpose text old new = (purpose : List ℕ) × IsDotted text purpose × (old.purpose ≡ None)
     × (new ≡ record old { purpose = Some purpose })
-Adds Anchor text old new = (anchor : List ℕ) × IsHex text anchor × (old.anchor ≡ None)
+Adds Anchor text old new = (anchor : List ℕ) × IsHex 32 text anchor × (old.anchor ≡ None)
     × (new ≡ record old { anchor = Some anchor })
 Adds field text old new = SetsFlag field text old new
 
 -- a pair names a field, and says this of it; an empty text says nothing, but sets a flag
 pub record Sets (pair : Named) (old new : Wanted) : Type 0 where
   pub field : Field
-  pub named : pair.0 ≡ name_of field
+  pub named : field_named pair.0 ≡ Some field
   pub adds : ((pair.1 ≡ []) × (is_flag field ≡ false) × (new ≡ old)) ⊎ Adds field pair.1 old new
 
--- pairs, one after another
+-- ---- refusals
+
+-- a text is no value of a field
+abbrev pub IsNoValue : Field → List ℕ → Type 0
+IsNoValue Chain text = (certificates : List (List ℕ)) → ¬ (AreWritten text certificates)
+IsNoValue At text = (moment : ℤ) → ¬ (IsGeneral text moment)
+IsNoValue K text = (k : ℕ) → ¬ (IsPosition text k)
+IsNoValue Policies text = (policy : List ℕ) → AreOctets policy → ¬ (IsDotted text policy)
+IsNoValue Purpose text = (purpose : List ℕ) → AreOctets purpose → ¬ (IsDotted text purpose)
+IsNoValue Anchor text = (anchor : List ℕ) → ¬ (IsHex 32 text anchor)
+IsNoValue field text = says text ≡ None
+
+-- a field that is given once has a value
+abbrev pub IsGiven : Field → Wanted → Type 0
+IsGiven At wanted = wanted.at ≢ None
+IsGiven K wanted = wanted.k ≢ None
+IsGiven Purpose wanted = wanted.purpose ≢ None
+IsGiven Anchor wanted = wanted.anchor ≢ None
+IsGiven field wanted = ⊥
+
+-- why a text is refused that is given a field
+abbrev pub IsRefusedIn : Field → List ℕ → Wanted → FormFault → Type 0
+IsRefusedIn field text old faults.Memory = Unit {0}
+IsRefusedIn field text old (faults.Value other) = (other ≡ field) × IsNoValue field text
+IsRefusedIn field text old (faults.Twice other) = (other ≡ field) × IsGiven field old
+IsRefusedIn field text old fault = ⊥
+
+-- a pair names a field, and is refused there
+pub record IsWrong (pair : Named) (old : Wanted) (fault : FormFault) : Type 0 where
+  pub field : Field
+  pub named : field_named pair.0 ≡ Some field
+  pub refused : IsRefusedIn field pair.1 old fault
+
+-- why a pair is refused: memory, no field has its name, or what it says of one
+abbrev pub IsRefused : Named → Wanted → FormFault → Type 0
+IsRefused pair old faults.Memory = Unit {0}
+IsRefused pair old faults.Name = field_named pair.0 ≡ None
+IsRefused pair old fault = IsWrong pair old fault
+
+-- ---- pairs, one after another
 abbrev pub SetsAll : List Named → Wanted → Wanted → Type 0
 SetsAll [] old new = new ≡ old
 SetsAll (pair ∷ pairs) old new = (mid : Wanted) × Sets pair old mid × SetsAll pairs mid new
+
+-- the first pair that is refused
+abbrev pub IsRefusedInAll : List Named → Wanted → FormFault → Type 0
+IsRefusedInAll [] old fault = ⊥
+IsRefusedInAll (pair ∷ pairs) old fault = IsRefused pair old fault
+    ⊎ ((mid : Wanted) × Sets pair old mid × IsRefusedInAll pairs mid fault)
 
 -- the certificates of octets are behind those that were there
 abbrev pub AddsCertificates : List ℕ → Wanted → Wanted → Type 0
 AddsCertificates octets old new = (certificates : List (List ℕ))
     × AreCertificates octets certificates × Appends certificates old new
+
+-- why octets are refused as certificates
+abbrev pub AreRefused : List ℕ → FormFault → Type 0
+AreRefused octets faults.Memory = Unit {0}
+AreRefused octets (faults.Value Chain) =
+    (certificates : List (List ℕ)) → ¬ (AreCertificates octets certificates)
+AreRefused octets fault = ⊥
 
 -- nothing is given
 pub record IsNothing (wanted : Wanted) : Type 0 where

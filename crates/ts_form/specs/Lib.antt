@@ -1,5 +1,8 @@
 pub mod Pairs
+pub mod Names
 pub mod Said
 pub mod Values
 pub mod Fields
+pub mod Refusals
+pub mod Rows
 pub mod Asking

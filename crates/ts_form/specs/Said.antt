@@ -5,6 +5,8 @@ use Rattle.serde_json.specs.Data.{Data, null, boolean, number, unsigned, string,
 use Rattle.serde_json.specs.Data.{Items, no_items, item, Members, no_members, member}
 use Rattle.serde_json.specs.Read.{read}
 use Rattle.ts_form.specs.Pairs.{Named}
+use Rattle.ts_form.specs.declared.fault.FormFault.{FormFault}
+use Rattle.ts_form.specs.declared.fault.FormFault.TheVariants as faults
 
 -- what two say, if both say something
 abbrev pub both : Option (List Named) → Option (List Named) → Option (List Named)
@@ -55,3 +57,15 @@ pub record Said (said : Option (List Named)) (before after : List Named) : Type 
   pub more : List Named
   pub is : said ≡ Some more
   pub behind : after ≡ before ++ more
+
+-- memory was refused, or this says nothing
+abbrev pub IsUnsaid : Option (List Named) → FormFault → Type 0
+IsUnsaid said faults.Memory = Unit {0}
+IsUnsaid said faults.Json = said ≡ None
+IsUnsaid said fault = ⊥
+
+-- memory was refused, or the text is of no object that says pairs
+abbrev pub IsUnsaidText : List ℕ → FormFault → Type 0
+IsUnsaidText text faults.Memory = Unit {0}
+IsUnsaidText text faults.Json = (pairs : List Named) → ¬ (IsSaid text pairs)
+IsUnsaidText text fault = ⊥

@@ -1,27 +1,34 @@
--- What texts write: positions, ids, flags, certificates.
-use Rattle.std.specs.Prelude.{◌≡◌, ◌≤◌, ◌⊎◌, ℕ, true, false, List, ◌∷◌, [], length, Ok}
+-- What texts write: numbers, positions, ids, object identifiers, certificates.
+use Rattle.std.specs.Prelude.{◌≡◌, ◌≤◌, ◌<◌, ◌^◌, ◌⊎◌, ℕ, true, false, List, ◌∷◌, [], length, Ok}
 use Rattle.std.specs.Fmt.{decimal}
 use Rattle.base64.specs.Engines.{standard}
 use Rattle.base64.specs.GeneralPurpose.{decode_of}
-use Rattle.hex.specs.Hex.{encode_lower}
-use Rattle.ts_der.specs.ObjectIdentifier.{arcs}
+use Rattle.hex.specs.Hex.{encode_lower, IsBytes}
+use Rattle.ts_der.specs.ObjectIdentifier.{arcs, is_oid}
 use Rattle.ts_der.specs.Dotted.{dotted}
 use Rattle.ts_pem.specs.Files.{has_begin, values_of}
 use Rattle.ts_pem.specs.declared.block.Label.TheVariants.{Certificate}
 
--- 0 to 1,000,000, in decimal without leading zeros
+-- a number below 2^32, in decimal without leading zeros
+pub record IsNumber (text : List ℕ) (number : ℕ) : Type 0 where
+  pub written : text ≡ decimal number
+  pub range : number < 2 ^ 32
+
+-- 0 to 1,000,000, written so
 pub record IsPosition (text : List ℕ) (k : ℕ) : Type 0 where
-  pub written : text ≡ decimal k
+  pub is : IsNumber text k
   pub most : k ≤ 1000000
 
--- 32 octets, in lower-case hexadecimal digits
-pub record IsHex (text octets : List ℕ) : Type 0 where
+-- so many octets, in lower-case hexadecimal digits
+pub record IsHex (size : ℕ) (text octets : List ℕ) : Type 0 where
   pub written : text ≡ encode_lower octets
-  pub count : length octets ≡ 32
+  pub count : length octets ≡ size
+  pub bytes : IsBytes octets
 
 -- the contents octets of the object identifier of a dotted form
-abbrev pub IsDotted : List ℕ → List ℕ → Type 0
-IsDotted text content = text ≡ dotted (arcs content)
+pub record IsDotted (text content : List ℕ) : Type 0 where
+  pub written : text ≡ dotted (arcs content)
+  pub valid : is_oid content ≡ true
 
 -- the certificates of a text of PEM; any other octets are one, in DER
 abbrev pub AreCertificates : List ℕ → List (List ℕ) → Type 0

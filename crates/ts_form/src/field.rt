@@ -1,7 +1,7 @@
 //! The fields of a request.
 
-ghost use Rattle.std.specs.Prelude.{◌≡◌, IfSome};
-ghost use Rattle.ts_form.specs.Fields.{name_of};
+ghost use Rattle.std.specs.Prelude.{◌≡◌};
+ghost use Rattle.ts_form.specs.Names.{field_named, name_of};
 
 /// A field of a request.
 #[derive(Clone, Copy, Debug, PartialEq, Eq)]
@@ -28,6 +28,10 @@ pub enum Field {
     Purpose,
     /// The id of the trust anchor.
     Anchor,
+    /// How many rows stand before a page. No field of a question.
+    From,
+    /// The id of a command. No field of a question.
+    Id,
 }
 
 impl Field {
@@ -47,12 +51,14 @@ impl Field {
             Field::Policies => "policies",
             Field::Purpose => "purpose",
             Field::Anchor => "anchor",
+            Field::From => "from",
+            Field::Id => "id",
         }
     }
 
-    /// The field of this name.
+    /// The field of a question that has this name.
     pub(crate) fn named(name: &str) -> Option<Field>
-        ensures { IfSome result (λ field. name.now ≡ name_of field) }
+        ensures { result ≡ field_named name.now }
     {
         match name {
             "chain" => Some(Field::Chain),

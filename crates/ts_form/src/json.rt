@@ -1,10 +1,10 @@
 //! The pairs that a JSON object says.
 
-ghost use Rattle.std.specs.Prelude.{◌≡◌, ◌++◌, ◌∷◌, [], Some, IfOk, OnOk, map};
+ghost use Rattle.std.specs.Prelude.{◌≡◌, ◌++◌, ◌∷◌, [], Some, IfOk, IfErr, OnOk, map};
 ghost use Rattle.serde_json.specs.View.{items_view, members_view, view};
 ghost use Rattle.ts_form.specs.Pairs.{pair_in};
 ghost use Rattle.ts_form.specs.Said.{IsSaid, Said, items_said, members_said, object_said};
-ghost use Rattle.ts_form.specs.Said.{value_said};
+ghost use Rattle.ts_form.specs.Said.{IsUnsaid, IsUnsaidText, value_said};
 
 use crate::fault::FormFault;
 use crate::pair::Pair;
@@ -29,14 +29,15 @@ fn push_items(
     name: &str,
     items: &[Value],
 ) -> Result<(), FormFault>
-    ensures { OnOk result (Said (items_said name.now (items_view items.now))
+    ensures said { OnOk result (Said (items_said name.now (items_view items.now))
         (map pair_in pairs.old.items) (map pair_in pairs.new.items)) }
+    ensures unsaid { IfErr result (IsUnsaid (items_said name.now (items_view items.now))) }
 {
     for item in items {
-        match item {
-            Value::String(text) => push(alloc, pairs, name, text.as_str())?,
-            _ => return Err(FormFault::Json),
-        }
+        let Some(text) = item.as_str() else {
+            return Err(FormFault::Json);
+        };
+        push(alloc, pairs, name, text)?;
     }
     Ok(())
 }
@@ -48,8 +49,9 @@ fn push_member(
     name: &str,
     value: &Value,
 ) -> Result<(), FormFault>
-    ensures { OnOk result (Said (value_said name.now (view value.now))
+    ensures said { OnOk result (Said (value_said name.now (view value.now))
         (map pair_in pairs.old.items) (map pair_in pairs.new.items)) }
+    ensures unsaid { IfErr result (IsUnsaid (value_said name.now (view value.now))) }
 {
     match value {
         Value::Null => Ok(()),
@@ -70,8 +72,9 @@ fn push_member(
 
 /// The pairs that the members of an object say.
 fn members_pairs(alloc: Global, members: &Map<String, Value>) -> Result<Vec<Pair>, FormFault>
-    ensures { IfOk result (λ pairs. members_said (members_view members.now.entries)
+    ensures said { IfOk result (λ pairs. members_said (members_view members.now.entries)
         ≡ Some (map pair_in pairs.items)) }
+    ensures unsaid { IfErr result (IsUnsaid (members_said (members_view members.now.entries))) }
 {
     let mut pairs = Vec::new(alloc);
     for (name, value) in members.iter() {
@@ -82,8 +85,9 @@ fn members_pairs(alloc: Global, members: &Map<String, Value>) -> Result<Vec<Pair
 
 /// The pairs that an object says.
 fn object_pairs(alloc: Global, value: &Value) -> Result<Vec<Pair>, FormFault>
-    ensures { IfOk result (λ pairs. object_said (view value.now)
+    ensures said { IfOk result (λ pairs. object_said (view value.now)
         ≡ Some (map pair_in pairs.items)) }
+    ensures unsaid { IfErr result (IsUnsaid (object_said (view value.now))) }
 {
     match value {
         Value::Object(members) => {
@@ -100,9 +104,10 @@ fn object_pairs(alloc: Global, value: &Value) -> Result<Vec<Pair>, FormFault>
 ///
 /// # Errors
 ///
-/// `Json` where the text is no such object; `Memory`.
+/// `Json` exactly where the text is no such object; `Memory`.
 pub fn json_pairs(alloc: Global, text: &str) -> Result<Vec<Pair>, FormFault>
-    ensures { IfOk result (λ pairs. IsSaid text.now (map pair_in pairs.items)) }
+    ensures said { IfOk result (λ pairs. IsSaid text.now (map pair_in pairs.items)) }
+    ensures unsaid { IfErr result (IsUnsaidText text.now) }
 {
     let value = match Value::from_str(alloc, text) {
         Ok(value) => value,

@@ -1,5 +1,5 @@
-//! Pairs of texts, from the query of a URL, a form or a JSON object, as the question that they say:
-//! for a face of the node that speaks HTTP, which is not there. No program uses this crate yet.
+//! What is asked over HTTP: pairs of texts, from the query of a URL, a form or a JSON object, as
+//! the question that they say.
 //!
 //! ```text
 //! let mut wanted = Wanted::new(alloc);
@@ -19,16 +19,18 @@
 //! - [`form_pairs`]: the pairs of `application/x-www-form-urlencoded` octets, decoded, in order.
 //! - [`json_pairs`]: what a JSON object says (`specs/Said`): a pair for each text, number, `true`
 //!   and `false`, and of a list one for each text in it; nothing for `null`.
-//! - [`Wanted::add`]: a pair sets the field that it names, or is refused (`specs/Fields`).
-//! - [`Wanted::add_all`]: one after another.
-//! - [`Wanted::add_certificates`]: the certificates of a text of PEM, or one, in DER.
+//! - [`Wanted::add`]: a pair sets the field that it names (`specs/Fields`), or is refused, for a
+//!   fault that is so: no field has the name, the text is no value of it, it is given twice; or
+//!   memory.
+//! - [`Wanted::add_all`]: one after another; the fault is that of the first that is refused.
+//! - [`Wanted::add_certificates`]: the certificates of a text of PEM, or one, in DER; refused
+//!   exactly where they are a text with a fault.
 //! - [`question_of`]: the question that the fields say, or that it is outside its limits
 //!   (`specs/Asking`): a chain under the anchor that is named, or else a search.
+//! - [`RowsWanted::of`]: which rows of a page pairs ask for: `k` and `from`, each at most once
+//!   (`specs/Rows`). [`command_id_of`]: the id of a command that they name, by `id` alone.
 //!
-//! # Not promised
-//!
-//! That a refusal of [`Wanted::add`] and of [`json_pairs`] is a necessary one, and which fault it
-//! is: a body that refused every pair would be proved. Nothing is tested.
+//! Of memory no clause says that it was refused: any call may give it. Nothing is tested.
 #![tactic(auto)]
 
 mod asking;
@@ -38,6 +40,7 @@ mod flags;
 mod form;
 mod json;
 mod pair;
+mod rows;
 mod values;
 mod wanted;
 
@@ -47,4 +50,5 @@ pub use field::Field;
 pub use form::form_pairs;
 pub use json::json_pairs;
 pub use pair::Pair;
+pub use rows::{RowsWanted, command_id_of};
 pub use wanted::Wanted;

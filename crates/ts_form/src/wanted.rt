@@ -1,12 +1,15 @@
 //! What pairs ask for.
 
-ghost use Rattle.std.specs.Prelude.{◌≡◌, Ok, IfOk, OnOk, map};
+ghost use Rattle.std.specs.Prelude.{◌≡◌, ◌≢◌, ℕ, List, Ok, IfOk, IfErr, OnOk, map};
 ghost use Rattle.base64.specs.Engines.{standard};
 ghost use Rattle.base64.specs.GeneralPurpose.{decode_of};
-ghost use Rattle.ts_form.specs.Fields.{Adds, AddsCertificates, Appends, IsNothing, Sets, SetsAll};
+ghost use Rattle.ts_form.specs.Fields.{Adds, AddsCertificates, Appends, AreRefused, IsNothing};
+ghost use Rattle.ts_form.specs.Fields.{IsRefused, IsRefusedIn, IsRefusedInAll, Sets, SetsAll};
 ghost use Rattle.ts_form.specs.Fields.{SetsFlag};
 ghost use Rattle.ts_form.specs.Pairs.{pair_in};
 ghost use Rattle.ts_form.specs.Values.{AreCertificates, AreWritten, IsDotted};
+ghost use Rattle.ts_form.specs.Refusals.{IsNoBase64, IsNoFlag, IsNoOid, IsRefusedText};
+ghost use Rattle.ts_form.specs.declared.fault.FormFault.TheVariants.{Memory};
 ghost use Rattle.ts_form.specs.declared.field.Field.TheVariants as fields;
 
 use crate::fault::FormFault;
@@ -42,7 +45,8 @@ pub struct Wanted {
 
 /// The object identifier of a dotted form.
 fn oid_of(alloc: Global, field: Field, text: &str) -> Result<Oid, FormFault>
-    ensures { IfOk result (IsDotted text.now) }
+    ensures found { IfOk result (IsDotted text.now) }
+    ensures refused { IfErr result (λ fault. IsNoOid field text.now fault) }
 {
     match Oid::from_text(alloc, text) {
         Ok(oid) => Ok(oid),
@@ -53,7 +57,9 @@ fn oid_of(alloc: Global, field: Field, text: &str) -> Result<Oid, FormFault>
 
 /// The certificates of a text of PEM, or one, in DER.
 fn certificates_of(alloc: Global, octets: &[u8]) -> Result<Vec<Vec<u8>>, FormFault>
-    ensures { IfOk result (λ found. AreCertificates octets.now (map (λ c. c.items) found.items)) }
+    ensures found { IfOk result
+        (λ found. AreCertificates octets.now (map (λ c. c.items) found.items)) }
+    ensures refused { IfErr result (AreRefused octets.now) }
 {
     match read_certificates(alloc, octets) {
         Ok(found) => Ok(found),
@@ -64,7 +70,8 @@ fn certificates_of(alloc: Global, octets: &[u8]) -> Result<Vec<Vec<u8>>, FormFau
 
 /// The octets that a text writes in base64.
 fn base64_of(alloc: Global, text: &str) -> Result<Vec<u8>, FormFault>
-    ensures { IfOk result (λ octets. decode_of standard text.now ≡ Ok octets.items) }
+    ensures found { IfOk result (λ octets. decode_of standard text.now ≡ Ok octets.items) }
+    ensures refused { IfErr result (IsNoBase64 text.now) }
 {
     match STANDARD.decode(alloc, text.as_bytes()) {
         Ok(octets) => Ok(octets),
@@ -75,7 +82,9 @@ fn base64_of(alloc: Global, text: &str) -> Result<Vec<u8>, FormFault>
 
 /// The certificates that a text writes: of PEM, or one, of DER in base64.
 fn written_in(alloc: Global, text: &str) -> Result<Vec<Vec<u8>>, FormFault>
-    ensures { IfOk result (λ found. AreWritten text.now (map (λ c. c.items) found.items)) }
+    ensures found { IfOk result
+        (λ found. AreWritten text.now (map (λ c. c.items) found.items)) }
+    ensures refused { IfErr result (IsRefusedText text.now) }
 {
     if is_pem(text.as_bytes()) {
         return certificates_of(alloc, text.as_bytes());
@@ -103,7 +112,9 @@ impl Wanted {
 
     /// Certificates behind those that are there.
     fn append(&mut self, mut certificates: Vec<Vec<u8>>) -> Result<(), FormFault>
-        ensures { OnOk result (Appends (map (λ c. c.items) certificates.items) self.old self.new) }
+        ensures appends { OnOk result
+            (Appends (map (λ c. c.items) certificates.items) self.old self.new) }
+        ensures refused { IfErr result (λ fault. fault ≡ Memory) }
     {
         self.chain.append(&mut certificates)?;
         Ok(())
@@ -111,49 +122,53 @@ impl Wanted {
 
     /// Gives the moment.
     fn set_at(&mut self, text: &str) -> Result<(), FormFault>
-        ensures { OnOk result (Adds fields.At text.now self.old self.new) }
+        ensures adds { OnOk result (Adds fields.At text.now self.old self.new) }
+        ensures refused { IfErr result (IsRefusedIn fields.At text.now self.old) }
     {
         if self.at.is_some() {
             return Err(FormFault::Twice(Field::At));
         }
-        self.at = moment_of(text);
-        if self.at.is_none() {
+        let Some(moment) = moment_of(text) else {
             return Err(FormFault::Value(Field::At));
-        }
+        };
+        self.at = Some(moment);
         Ok(())
     }
 
     /// Gives the position.
     fn set_k(&mut self, text: &str) -> Result<(), FormFault>
-        ensures { OnOk result (Adds fields.K text.now self.old self.new) }
+        ensures adds { OnOk result (Adds fields.K text.now self.old self.new) }
+        ensures refused { IfErr result (IsRefusedIn fields.K text.now self.old) }
     {
         if self.k.is_some() {
             return Err(FormFault::Twice(Field::K));
         }
-        self.k = position_of(text);
-        if self.k.is_none() {
+        let Some(k) = position_of(text) else {
             return Err(FormFault::Value(Field::K));
-        }
+        };
+        self.k = Some(k);
         Ok(())
     }
 
     /// Gives the anchor.
     fn set_anchor(&mut self, text: &str) -> Result<(), FormFault>
-        ensures { OnOk result (Adds fields.Anchor text.now self.old self.new) }
+        ensures adds { OnOk result (Adds fields.Anchor text.now self.old self.new) }
+        ensures refused { IfErr result (IsRefusedIn fields.Anchor text.now self.old) }
     {
         if self.anchor.is_some() {
             return Err(FormFault::Twice(Field::Anchor));
         }
-        self.anchor = digest_of(text);
-        if self.anchor.is_none() {
+        let Some(anchor) = digest_of(text) else {
             return Err(FormFault::Value(Field::Anchor));
-        }
+        };
+        self.anchor = Some(anchor);
         Ok(())
     }
 
     /// Gives the purpose.
     fn set_purpose(&mut self, alloc: Global, text: &str) -> Result<(), FormFault>
-        ensures { OnOk result (Adds fields.Purpose text.now self.old self.new) }
+        ensures adds { OnOk result (Adds fields.Purpose text.now self.old self.new) }
+        ensures refused { IfErr result (IsRefusedIn fields.Purpose text.now self.old) }
     {
         if self.purpose.is_some() {
             return Err(FormFault::Twice(Field::Purpose));
@@ -164,7 +179,8 @@ impl Wanted {
 
     /// Gives a flag.
     fn set_flag(&mut self, field: Field, text: &str) -> Result<(), FormFault>
-        ensures { OnOk result (SetsFlag field text.now self.old self.new) }
+        ensures sets { OnOk result (SetsFlag field text.now self.old self.new) }
+        ensures refused { IfErr result (λ fault. IsNoFlag field text.now fault) }
     {
         match flag_of(text) {
             Some(true) => {
@@ -178,7 +194,8 @@ impl Wanted {
 
     /// Gives a field that is no flag a text that is not empty.
     fn set_text(&mut self, alloc: Global, field: Field, text: &str) -> Result<(), FormFault>
-        ensures { OnOk result (Adds field text.now self.old self.new) }
+        ensures adds { OnOk result (Adds field text.now self.old self.new) }
+        ensures refused { IfErr result (IsRefusedIn field text.now self.old) }
     {
         match field {
             Field::Chain => self.append(written_in(alloc, text)?),
@@ -192,8 +209,15 @@ impl Wanted {
     }
 
     /// Adds what a pair says.
+    ///
+    /// # Errors
+    ///
+    /// `Name` exactly where no field of a question has this name; `Value` and `Twice` exactly where
+    /// the text is no value of its field, or the field is given and is given once; `Memory`. What
+    /// was wanted before may be lost then.
     pub fn add(&mut self, alloc: Global, name: &str, value: &str) -> Result<(), FormFault>
-        ensures { OnOk result (Sets (name.now, value.now) self.old self.new) }
+        ensures sets { OnOk result (Sets (name.now, value.now) self.old self.new) }
+        ensures refused { IfErr result (IsRefused (name.now, value.now) self.old) }
     {
         let Some(field) = Field::named(name) else {
             return Err(FormFault::Name);
@@ -205,8 +229,13 @@ impl Wanted {
     }
 
     /// Adds what pairs say, one after another.
+    ///
+    /// # Errors
+    ///
+    /// That of the first pair that is refused.
     pub fn add_all(&mut self, alloc: Global, pairs: &[Pair]) -> Result<(), FormFault>
-        ensures { OnOk result (SetsAll (map pair_in pairs.now) self.old self.new) }
+        ensures sets { OnOk result (SetsAll (map pair_in pairs.now) self.old self.new) }
+        ensures refused { IfErr result (IsRefusedInAll (map pair_in pairs.now) self.old) }
     {
         for pair in pairs {
             self.add(alloc, pair.name.as_str(), pair.value.as_str())?;
@@ -215,8 +244,13 @@ impl Wanted {
     }
 
     /// Puts the certificates of a text of PEM, or one, in DER, behind those that are there.
+    ///
+    /// # Errors
+    ///
+    /// `Value(Chain)` exactly where the octets are a text with a fault; `Memory`.
     pub fn add_certificates(&mut self, alloc: Global, octets: &[u8]) -> Result<(), FormFault>
-        ensures { OnOk result (AddsCertificates octets.now self.old self.new) }
+        ensures adds { OnOk result (AddsCertificates octets.now self.old self.new) }
+        ensures refused { IfErr result (AreRefused octets.now) }
     {
         let found = certificates_of(alloc, octets)?;
         self.append(found)

@@ -28,7 +28,6 @@ use Rattle.ts_history.specs.declared.taken.KeptCommand.{KeptCommand}
 use Rattle.ts_history.specs.declared.taken.KeptCommand.TheVariants.{Anchor, Crl, Other}
 use Rattle.ts_history.specs.declared.taken.TakenCommand.{TakenCommand}
 use Rattle.ts_store.proofs.Slots.{is-found, is-within, not-found, set-there}
-use Rattle.ts_history.proofs.Lent as lent
 
 -- ---- a call that answered
 
@@ -85,54 +84,44 @@ put_there new lists next (Some i) is e =
     let more = is-within (has_slot (list_in new)) lists i is in
     set-there new lists i is more ∙ put_replaced new (get_or lists i new) lists next (subst (λ f. put_by new lists f ≡ Ok next) (is-found (has_slot (list_in new)) lists i new is more) e)
 
-abbrev octets : StoredCrl → List ℕ
-octets held = held.crl
-
-seen : (new : StoredCrl) (lists : List StoredCrl) → map octets (lists ++ new ∷ []) ≡ map octets lists ++ new.crl ∷ []
-seen new [] = refl
-seen new (x ∷ xs) = ap (λ l. x.crl ∷ l) (seen new xs)
-
 -- the contents where a list is put among the complete ones, or the deltas
-into_complete : (id crl : List ℕ) (old new : Tables) (lists : List StoredCrl) (o : Option ℕ) → placed (stored crl) old.complete o ≡ lists → record old { complete = lists } ≡ new → changed (crl_change_at Complete o) (Crl id crl) (contents_of old) ≡ contents_of new
+into_complete : (id crl : List ℕ) (old new : Tables) (lists : List StoredCrl) (o : Option ℕ) → placed (stored crl) old.complete o ≡ lists → record old { complete = lists } ≡ new → changed (crl_change_at Complete o) (Crl id (stored crl)) (contents_of old) ≡ contents_of new
 into_complete id crl old new lists None there e =
-    ap (λ l. let c : Contents = record { anchors = old.anchors; complete = l; deltas = map octets old.deltas } in c) (sym (seen (stored crl) old.complete) ∙ ap (map octets) there) ∙ ap contents_of e
+    ap (λ l. let c : Contents = record { anchors = old.anchors; complete = l; deltas = old.deltas } in c) there ∙ ap contents_of e
 into_complete id crl old new lists (Some i) there e =
-    ap (λ l. let c : Contents = record { anchors = old.anchors; complete = l; deltas = map octets old.deltas } in c) (sym (lent.replaced octets old.complete i (stored crl)) ∙ ap (map octets) there) ∙ ap contents_of e
+    ap (λ l. let c : Contents = record { anchors = old.anchors; complete = l; deltas = old.deltas } in c) there ∙ ap contents_of e
 
-into_deltas : (id crl : List ℕ) (old new : Tables) (lists : List StoredCrl) (o : Option ℕ) → placed (stored crl) old.deltas o ≡ lists → record old { deltas = lists } ≡ new → changed (crl_change_at Delta o) (Crl id crl) (contents_of old) ≡ contents_of new
+into_deltas : (id crl : List ℕ) (old new : Tables) (lists : List StoredCrl) (o : Option ℕ) → placed (stored crl) old.deltas o ≡ lists → record old { deltas = lists } ≡ new → changed (crl_change_at Delta o) (Crl id (stored crl)) (contents_of old) ≡ contents_of new
 into_deltas id crl old new lists None there e =
-    ap (λ l. let c : Contents = record { anchors = old.anchors; complete = map octets old.complete; deltas = l } in c) (sym (seen (stored crl) old.deltas) ∙ ap (map octets) there) ∙ ap contents_of e
+    ap (λ l. let c : Contents = record { anchors = old.anchors; complete = old.complete; deltas = l } in c) there ∙ ap contents_of e
 into_deltas id crl old new lists (Some i) there e =
-    ap (λ l. let c : Contents = record { anchors = old.anchors; complete = map octets old.complete; deltas = l } in c) (sym (lent.replaced octets old.deltas i (stored crl)) ∙ ap (map octets) there) ∙ ap contents_of e
+    ap (λ l. let c : Contents = record { anchors = old.anchors; complete = old.complete; deltas = l } in c) there ∙ ap contents_of e
 
-complete_put : (id crl : List ℕ) (old new : Tables) (r : Result (List StoredCrl) Refusal) (o : Option ℕ) → ((next : List StoredCrl) → r ≡ Ok next → placed (stored crl) old.complete o ≡ next) → with_complete old r ≡ Ok new → changed (crl_change_at Complete o) (Crl id crl) (contents_of old) ≡ contents_of new
+complete_put : (id crl : List ℕ) (old new : Tables) (r : Result (List StoredCrl) Refusal) (o : Option ℕ) → ((next : List StoredCrl) → r ≡ Ok next → placed (stored crl) old.complete o ≡ next) → with_complete old r ≡ Ok new → changed (crl_change_at Complete o) (Crl id (stored crl)) (contents_of old) ≡ contents_of new
 complete_put id crl old new (Ok next) o there e = into_complete id crl old new next o (there next refl) (ok_is (record old { complete = next }) new e)
 complete_put id crl old new (Err refusal) o there e = absurd (not_err new refusal e)
 
-deltas_put : (id crl : List ℕ) (old new : Tables) (r : Result (List StoredCrl) Refusal) (o : Option ℕ) → ((next : List StoredCrl) → r ≡ Ok next → placed (stored crl) old.deltas o ≡ next) → with_deltas old r ≡ Ok new → changed (crl_change_at Delta o) (Crl id crl) (contents_of old) ≡ contents_of new
+deltas_put : (id crl : List ℕ) (old new : Tables) (r : Result (List StoredCrl) Refusal) (o : Option ℕ) → ((next : List StoredCrl) → r ≡ Ok next → placed (stored crl) old.deltas o ≡ next) → with_deltas old r ≡ Ok new → changed (crl_change_at Delta o) (Crl id (stored crl)) (contents_of old) ≡ contents_of new
 deltas_put id crl old new (Ok next) o there e = into_deltas id crl old new next o (there next refl) (ok_is (record old { deltas = next }) new e)
 deltas_put id crl old new (Err refusal) o there e = absurd (not_err new refusal e)
 
 by_kind : (id crl : List ℕ) (c : CertificateList) (old new : Tables) (b : Bool) → list_in (stored crl) ≡ c → cond b (with_deltas old (put_list (stored crl) old.deltas)) (with_complete old (put_list (stored crl) old.complete)) ≡ Ok new
-    → changed (cond b (crl_change_at Delta (place_by (has_slot c) old.deltas)) (crl_change_at Complete (place_by (has_slot c) old.complete))) (Crl id crl) (contents_of old) ≡ contents_of new
+    → changed (cond b (crl_change_at Delta (place_by (has_slot c) old.deltas)) (crl_change_at Complete (place_by (has_slot c) old.complete))) (Crl id (stored crl)) (contents_of old) ≡ contents_of new
 by_kind id crl c old new true is e =
     deltas_put id crl old new (put_list (stored crl) old.deltas) (place_by (has_slot c) old.deltas) (λ next h. put_there (stored crl) old.deltas next (place_by (has_slot c) old.deltas) (ap (λ l. place_by (has_slot l) old.deltas) (sym is)) h) e
 by_kind id crl c old new false is e =
     complete_put id crl old new (put_list (stored crl) old.complete) (place_by (has_slot c) old.complete) (λ next h. put_there (stored crl) old.complete next (place_by (has_slot c) old.complete) (ap (λ l. place_by (has_slot l) old.complete) (sym is)) h) e
 
-pub loaded : (id crl octets : List ℕ) (c : CertificateList) (change : Change) (old new : Tables) → crl ≡ octets → crl_of crl ≡ Ok c → change ≡ crl_change_in c old → load_as octets old (crl_of octets) ≡ Ok new → changed change (Crl id crl) (contents_of old) ≡ contents_of new
-loaded id crl octets c change old new kept read is e =
-    let here : load_as crl old (crl_of crl) ≡ Ok new = subst (λ o. load_as o old (crl_of o) ≡ Ok new) (sym kept) e in
-    let by : load_as crl old (Ok c) ≡ Ok new = subst (λ r. load_as crl old r ≡ Ok new) read here in
-    ap (λ x. changed x (Crl id crl) (contents_of old)) is ∙ by_kind id crl c old new (is_delta c) (ap (λ r. result_unwrap_or r no_list) read) by
+pub loaded : (id octets : List ℕ) (crl : StoredCrl) (c : CertificateList) (change : Change) (old new : Tables) → crl ≡ stored octets → crl_of octets ≡ Ok c → change ≡ crl_change_in c old → load_as octets old (crl_of octets) ≡ Ok new → changed change (Crl id crl) (contents_of old) ≡ contents_of new
+loaded id octets crl c change old new kept read is e =
+    let by : load_as octets old (Ok c) ≡ Ok new = subst (λ r. load_as octets old r ≡ Ok new) read e in
+    (λ i. changed (is i) (Crl id (kept i)) (contents_of old)) ∙ by_kind id octets c old new (is_delta c) (ap (λ r. result_unwrap_or r no_list) read) by
 
 -- ---- a list that is dropped
 
 pub dropped : (kept : KeptCommand) (o p : Option ℕ) (old new : Tables) → drop_either old (drop_at old.complete o) (drop_at old.deltas p) ≡ Ok new → changed (crl_removal_at o p) kept (contents_of old) ≡ contents_of new
-dropped kept (Some i) p old new e =
-    ap (λ l. let c : Contents = record { anchors = old.anchors; complete = l; deltas = map octets old.deltas } in c) (sym (lent.removed octets old.complete i)) ∙ ap contents_of (ok_is (record old { complete = remove old.complete i }) new e)
-dropped kept None (Some i) old new e =
-    ap (λ l. let c : Contents = record { anchors = old.anchors; complete = map octets old.complete; deltas = l } in c) (sym (lent.removed octets old.deltas i)) ∙ ap contents_of (ok_is (record old { deltas = remove old.deltas i }) new e)
+dropped kept (Some i) p old new e = ap contents_of (ok_is (record old { complete = remove old.complete i }) new e)
+dropped kept None (Some i) old new e = ap contents_of (ok_is (record old { deltas = remove old.deltas i }) new e)
 dropped kept None None old new e = absurd (not_err new NoCrl e)
 
 -- a copy of a command that drops a list

@@ -6,6 +6,7 @@ use Rattle.ts_store.specs.Anchors.{with_purposes}
 use Rattle.ts_store.specs.declared.anchor.TrustAnchor.{TrustAnchor}
 use Rattle.ts_store.specs.declared.command.Command.{Command}
 use Rattle.ts_store.specs.declared.command.Command.TheVariants.{AddAnchor, LoadCrl, SetPurposes}
+use Rattle.ts_store.specs.declared.stored.StoredCrl.{StoredCrl}
 use Rattle.ts_history.specs.declared.taken.KeptCommand.{KeptCommand}
 use Rattle.ts_history.specs.declared.taken.KeptCommand.TheVariants.{Anchor, Crl, Other}
 use Rattle.ts_history.specs.declared.taken.Kind.TheVariants.{Complete, Delta}
@@ -18,7 +19,7 @@ use Rattle.ts_history.specs.Contents.{Contents}
 -- the command, as the store takes it
 abbrev pub command_in : KeptCommand → Command
 command_in (Anchor id anchor) = AddAnchor id anchor.certificate
-command_in (Crl id crl) = LoadCrl id crl
+command_in (Crl id crl) = LoadCrl id crl.crl
 command_in (Other command) = command
 
 -- ---- one table after a change; a change that does not fit its command leaves it as it is
@@ -40,13 +41,13 @@ with_purposes_in (Crl id crl) at' anchors = anchors
 with_purposes_in (Other command) at' anchors = with_purposes_of command at' anchors
 
 -- the command's list is the last one
-abbrev pub with_last : KeptCommand → List (List ℕ) → List (List ℕ)
+abbrev pub with_last : KeptCommand → List StoredCrl → List StoredCrl
 with_last (Anchor id anchor) lists = lists
 with_last (Crl id crl) lists = lists ++ crl ∷ []
 with_last (Other command) lists = lists
 
 -- the command's list is at a place
-abbrev pub with_crl_at : KeptCommand → ℕ → List (List ℕ) → List (List ℕ)
+abbrev pub with_crl_at : KeptCommand → ℕ → List StoredCrl → List StoredCrl
 with_crl_at (Anchor id anchor) at' lists = lists
 with_crl_at (Crl id crl) at' lists = slice_set lists at' crl
 with_crl_at (Other command) at' lists = lists

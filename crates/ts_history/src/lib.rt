@@ -11,7 +11,7 @@
 //!
 //! A history keeps beside each command which place of which table the command changed. The tables
 //! after the first k commands are made by k such changes of lists of references: no certificate and
-//! no list is read again, hashed or copied, and no slot is searched.
+//! no list is read again, hashed or copied, and no slot is searched. A list is lent with its id.
 //!
 //! - [`History::new`], [`History::count`]: no commands; how many were taken.
 //! - [`History::push`]: `outcome`: that of the store's definition; `pushed`; `refused`: at an error

@@ -10,7 +10,6 @@ use crate::taken::{Change, KeptCommand, Kind, TakenCommand};
 use std::alloc::{AllocError, Global};
 use std::marker::Model;
 use ts_cert::OwnedCert;
-use ts_crl::OwnedCrl;
 use ts_store::{Command, Purposes, StoredCrl, Tables, TrustAnchor};
 
 /// A trust anchor, lent: the SHA-256 of its certificate, the certificate, and its purposes.
@@ -25,8 +24,8 @@ pub struct LentAnchor<'a> {
 #[derive(Drop)]
 pub struct Snapshot<'a> {
     anchors: Vec<LentAnchor<'a>>,
-    complete: Vec<&'a OwnedCrl>,
-    deltas: Vec<&'a OwnedCrl>,
+    complete: Vec<&'a StoredCrl>,
+    deltas: Vec<&'a StoredCrl>,
 }
 
 impl<'a> Model for Snapshot<'a> {
@@ -65,12 +64,12 @@ fn anchors_of(alloc: Global, anchors: &[TrustAnchor]) -> Result<Vec<LentAnchor<'
 }
 
 /// The lists of a table, lent.
-fn crls_of(alloc: Global, lists: &[StoredCrl]) -> Result<Vec<&OwnedCrl>, AllocError>
-    ensures { IfOk result (λ all. map (λ c. c.now) all.items ≡ map (λ c. c.crl) lists.now) }
+fn crls_of(alloc: Global, lists: &[StoredCrl]) -> Result<Vec<&StoredCrl>, AllocError>
+    ensures { IfOk result (λ all. map (λ c. c.now) all.items ≡ lists.now) }
 {
     let mut all = Vec::new(alloc);
     for list in lists {
-        all.push(&list.crl)?;
+        all.push(list)?;
     }
     Ok(all)
 }
@@ -121,7 +120,7 @@ fn set_purposes_in<'a>(anchors: &mut Vec<LentAnchor<'a>>, at: usize, kept: &'a K
 }
 
 /// Adds the list of a command as the last one.
-fn add_crl<'a>(lists: &mut Vec<&'a OwnedCrl>, kept: &'a KeptCommand) -> Result<(), AllocError>
+fn add_crl<'a>(lists: &mut Vec<&'a StoredCrl>, kept: &'a KeptCommand) -> Result<(), AllocError>
     ensures { OnOk result (map (λ c. c.now) lists.new.items
         ≡ with_last kept.now (map (λ c. c.now) lists.old.items)) }
 {
@@ -132,7 +131,7 @@ fn add_crl<'a>(lists: &mut Vec<&'a OwnedCrl>, kept: &'a KeptCommand) -> Result<(
 }
 
 /// Puts the list of a command at a place.
-fn put_crl<'a>(lists: &mut Vec<&'a OwnedCrl>, at: usize, kept: &'a KeptCommand)
+fn put_crl<'a>(lists: &mut Vec<&'a StoredCrl>, at: usize, kept: &'a KeptCommand)
     ensures { map (λ c. c.now) lists.new.items
         ≡ with_crl_at kept.now at (map (λ c. c.now) lists.old.items) }
 {
@@ -144,7 +143,7 @@ fn put_crl<'a>(lists: &mut Vec<&'a OwnedCrl>, at: usize, kept: &'a KeptCommand)
 }
 
 /// Removes the list at a place.
-fn remove_crl(lists: &mut Vec<&OwnedCrl>, at: usize)
+fn remove_crl(lists: &mut Vec<&StoredCrl>, at: usize)
     ensures { map (λ c. c.now) lists.new.items ≡ remove (map (λ c. c.now) lists.old.items) at }
 {
     if at < lists.len() {
@@ -220,14 +219,14 @@ impl<'a> Snapshot<'a> {
     }
 
     /// The complete lists, in their order.
-    pub fn complete(&self) -> &[&'a OwnedCrl]
+    pub fn complete(&self) -> &[&'a StoredCrl]
         ensures { map (λ c. c.now) result.now ≡ self.now.complete }
     {
         self.complete.as_slice()
     }
 
     /// The deltas, in their order.
-    pub fn deltas(&self) -> &[&'a OwnedCrl]
+    pub fn deltas(&self) -> &[&'a StoredCrl]
         ensures { map (λ c. c.now) result.now ≡ self.now.deltas }
     {
         self.deltas.as_slice()

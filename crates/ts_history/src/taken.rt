@@ -11,7 +11,9 @@ use crate::placing::{crl_change, crl_removal, removal, setting};
 use std::alloc::{AllocError, Global};
 use ts_cert::{OwnedCert, OwnedCertFault};
 use ts_crl::{OwnedCrl, OwnedCrlFault};
-use ts_store::{CertificateOctets, Command, CrlOctets, Purposes, Tables, TrustAnchor, digest};
+use ts_store::{
+    CertificateOctets, Command, CrlOctets, Purposes, StoredCrl, Tables, TrustAnchor, digest,
+};
 
 /// A command, kept so that what it loads can be lent: an anchor and a list in the form in which
 /// they were read.
@@ -20,7 +22,7 @@ pub(crate) enum KeptCommand {
     /// Adds this trust anchor, for any purpose.
     Anchor { id: [u8; 16], anchor: TrustAnchor },
     /// Adds a CRL.
-    Crl { id: [u8; 16], crl: OwnedCrl },
+    Crl { id: [u8; 16], crl: StoredCrl },
     /// Any other command, and those whose octets are no certificate or no list.
     Other(Command),
 }
@@ -109,6 +111,10 @@ fn crl_taken(
     match OwnedCrl::read(alloc, octets) {
         Ok(crl) => {
             let change = crl_change(alloc, tables, crl.view())?;
+            let crl = StoredCrl {
+                id: digest(octets),
+                crl,
+            };
             Ok(TakenCommand {
                 kept: KeptCommand::Crl { id, crl },
                 change,

@@ -4,7 +4,7 @@ use Rattle.std.specs.Ordering.{match_ordering, nat_cmp}
 use Rattle.std.specs.declared.cmp.Ordering.{Ordering}
 use Rattle.std.specs.declared.cmp.Ordering.TheVariants.{Less, Equal, Greater}
 use Rattle.std.specs.Cmp.Lexicographic.{slice_cmp}
-use Rattle.serde_json.specs.Data.{Data, boolean, number, unsigned, string, object, Members, no_members, member, put}
+use Rattle.serde_json.specs.Data.{Data, boolean, number, unsigned, string, object, Items, item, Members, no_members, member, put}
 use Rattle.serde_json.specs.View.{items_of}
 use Rattle.serde_json.specs.Written.{has_float, items_have_float, members_have_float}
 use Rattle.ts_json.specs.Object.{text_or_null, number_or_null, texts, array_of, failing_in, members_in, object_in}
@@ -17,6 +17,9 @@ chosen Greater a b c x y z = z
 
 joined : (d : Data) (k : List ℕ) (ms : Members) → has_float d ≡ false → members_have_float ms ≡ false → members_have_float (member k d ms) ≡ false
 joined d k ms x y = rw (x, y) refl
+
+pub joined_items : (d : Data) (ds : Items) → has_float d ≡ false → items_have_float ds ≡ false → items_have_float (item d ds) ≡ false
+joined_items d ds x y = rw (x, y) refl
 
 or_front : (a b : Bool) → (a || b) ≡ false → a ≡ false
 or_front true b x = x
@@ -32,21 +35,21 @@ front d k ms x = or_front (has_float d) (members_have_float ms) x
 behind : (d : Data) (k : List ℕ) (ms : Members) → members_have_float (member k d ms) ≡ false → members_have_float ms ≡ false
 behind d k ms x = or_behind (has_float d) (members_have_float ms) x
 
-put_none : (k : List ℕ) (d : Data) (ms : Members) → has_float d ≡ false → members_have_float ms ≡ false → members_have_float (put k d ms) ≡ false
+pub put_none : (k : List ℕ) (d : Data) (ms : Members) → has_float d ≡ false → members_have_float ms ≡ false → members_have_float (put k d ms) ≡ false
 put_none k d no_members x y = joined d k no_members x refl
 put_none k d (member l e ms) x y =
     chosen (slice_cmp nat_cmp k l) (member k d (member l e ms)) (member l d ms) (member l e (put k d ms))
     (joined d k (member l e ms) x y) (joined d l ms x (behind e l ms y)) (joined e l (put k d ms) (front e l ms y) (put_none k d ms x (behind e l ms y)))
 
-of_text : (t : Option (List ℕ)) → has_float (text_or_null t) ≡ false
+pub of_text : (t : Option (List ℕ)) → has_float (text_or_null t) ≡ false
 of_text None = refl
 of_text (Some t) = refl
 
-of_number : (n : Option ℕ) → has_float (number_or_null n) ≡ false
+pub of_number : (n : Option ℕ) → has_float (number_or_null n) ≡ false
 of_number None = refl
 of_number (Some n) = refl
 
-of_texts : (ts : List (List ℕ)) → items_have_float (items_of (texts ts)) ≡ false
+pub of_texts : (ts : List (List ℕ)) → items_have_float (items_of (texts ts)) ≡ false
 of_texts [] = refl
 of_texts (t ∷ ts) = of_texts ts
 

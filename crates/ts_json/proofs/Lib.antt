@@ -1,1 +1,3 @@
 mod Floats
+mod AnswerFloats
+mod MemberFloats

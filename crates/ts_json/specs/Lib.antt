@@ -1,1 +1,3 @@
 pub mod Object
+pub mod Answer
+pub mod Members

@@ -2,6 +2,7 @@
 
 ghost use Rattle.std.specs.Prelude.{◌≡◌, IfOk, map, option_map, string_bytes};
 ghost use Rattle.serde_json.specs.View.{view};
+ghost use Rattle.ts_json.specs.Answer.{flag_or_null, numbers_of, whole};
 ghost use Rattle.ts_json.specs.Object.{array_of, number_or_null, text_or_null, texts};
 
 use serde_json::Value;
@@ -43,4 +44,32 @@ pub(crate) fn array_of(alloc: Global, items: &[String]) -> Result<Value, AllocEr
     ensures { IfOk result (λ v. view v ≡ array_of (map string_bytes items.now)) }
 {
     Ok(Value::from(values_of(alloc, items)?))
+}
+
+/// Whether something is so, or null.
+pub(crate) fn flag_or_null(flag: Option<bool>) -> Value
+    ensures { view result ≡ flag_or_null flag }
+{
+    match flag {
+        Some(flag) => Value::from(flag),
+        None => Value::Null,
+    }
+}
+
+/// Numbers, as values.
+fn number_values(alloc: Global, items: &[u64]) -> Result<Vec<Value>, AllocError>
+    ensures { IfOk result (λ values. map view values.items ≡ map whole items.now) }
+{
+    let mut values = Vec::new(alloc);
+    for item in items {
+        values.push(Value::from(*item))?;
+    }
+    Ok(values)
+}
+
+/// An array of numbers.
+pub(crate) fn numbers_of(alloc: Global, items: &[u64]) -> Result<Value, AllocError>
+    ensures { IfOk result (λ v. view v ≡ numbers_of items.now) }
+{
+    Ok(Value::from(number_values(alloc, items)?))
 }

@@ -163,7 +163,13 @@ pub fn reply_text(alloc: Global, reply: &Reply) -> Result<String, AllocError> {
         Reply::Malformed { index, fault, .. } => malformed_text(alloc, *index, *fault),
         Reply::NoAnchor => String::from_str(alloc, "NoAnchor"),
         Reply::Limit => String::from_str(alloc, "Limit PolicyPaths"),
+        Reply::Page { total, rows } => page_text(alloc, *total, rows.len()),
     }
+}
+
+/// How many rows a page has, of how many.
+fn page_text(alloc: Global, total: u32, count: usize) -> Result<String, AllocError> {
+    format!(in alloc; "Page {count} {total}")
 }
 
 /// That a node knows of so many commands alone.

@@ -49,7 +49,7 @@ pub(crate) struct Entry<'a, R> {
     pub rt: &'a R,
     pub alloc: Global,
     pub registry: &'a Registry,
-    pub access: &'a Access,
+    pub access: &'a Access<'a>,
 }
 
 /// Puts the door of a slot in its place. `false` where its events, or random octets, can't be had.

@@ -4,10 +4,11 @@ use crate::keyring::Keyring;
 use std::alloc::Global;
 use std::rt::Files;
 use ts_access::Key;
+use ts_meter::Meter;
 
 /// Who may ask a node, and the key that it shows its peers.
 #[derive(Drop)]
-pub struct Access {
+pub struct Access<'m> {
     /// The number of the node.
     pub node: u8,
     /// The keys of those who may ask. `None`: whoever reaches the address may ask anything.
@@ -16,16 +17,22 @@ pub struct Access {
     pub own: Option<Key>,
     /// Whether an address may be listened at without keys that other machines reach.
     pub open: bool,
+    /// Where questions are asked over HTTP, by whoever reaches it.
+    pub http: Option<String>,
+    /// What counts how often the node's disks are written and synced.
+    pub meter: Option<&'m Meter>,
 }
 
-impl Access {
+impl<'m> Access<'m> {
     /// Whoever reaches the node may ask anything: for tests.
-    pub fn open(node: u8) -> Access {
+    pub fn open(node: u8) -> Access<'m> {
         Access {
             node,
             keyring: None,
             own: None,
             open: true,
+            http: None,
+            meter: None,
         }
     }
 

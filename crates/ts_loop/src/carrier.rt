@@ -114,6 +114,11 @@ impl Carrier {
             .is_ok()
     }
 
+    /// The lines to peers.
+    pub fn lines(&self) -> &[Line] {
+        &self.lines
+    }
+
     /// An event of a line.
     pub fn mark(&mut self, place: usize, event: &Event) {
         if let Some(line) = self.lines.get_mut(place) {
@@ -140,6 +145,14 @@ impl Carrier {
             Some(&PREPARE) => self.rivals = now,
             Some(&BUSY) => self.hurry(now),
             _ => {}
+        }
+    }
+
+    /// The frame is taken next for a request of HTTP: it may be a client's command.
+    pub fn see_http(&mut self, frame: &[u8], now: u64) {
+        if self.carries && frame.get(KIND) == Some(&SUBMIT) {
+            self.begin(frame, now);
+            self.more = true;
         }
     }
 
@@ -294,8 +307,8 @@ impl Carrier {
         self.more = true;
     }
 
-    /// Until when no command is taken after one that was chosen: where another node proposes too, it
-    /// is let pass, for as long as two positions take.
+    /// Until when no command is taken after one that was chosen: where another node proposes too,
+    /// it is let pass, for as long as two positions take.
     fn rest_until(&self, now: u64) -> u64 {
         if now.saturating_sub(self.rivals) >= RIVALRY {
             return now;
@@ -382,8 +395,8 @@ impl Carrier {
         let _ = eprintln!(rt; "trustd: knows {prefix} commands");
     }
 
-    /// One round of the lines to the peers. Standard error is told of those reached and lost, and of
-    /// commands that were chosen.
+    /// One round of the lines to the peers. Standard error is told of those reached and lost, and
+    /// of commands that were chosen.
     pub fn tend<R: Net + Eprint + RandomSource>(
         &mut self,
         rt: &R,

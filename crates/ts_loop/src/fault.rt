@@ -9,6 +9,10 @@ pub enum LoopFault {
     Listen,
     /// Other machines reach the address, and no keys are wanted.
     Unprotected,
+    /// The address of HTTP can't be listened at.
+    ListenHttp,
+    /// Other machines reach the address of HTTP, and it isn't said that they may.
+    UnprotectedHttp,
     /// The address of this peer can't be found.
     Peer(u8),
     /// The system gives no events.

@@ -12,8 +12,8 @@ pub struct PeerAddress {
 /// What a loop does for its node besides answering.
 #[derive(Debug, Drop)]
 pub struct Group {
-    /// Whether messages are carried: those of the node to itself, and those to peers. Otherwise they
-    /// wait at the node until somebody takes them.
+    /// Whether messages are carried: those of the node to itself, and those to peers. Otherwise
+    /// they wait at the node until somebody takes them.
     pub carries: bool,
     /// Where messages to other nodes are carried.
     pub peers: Vec<PeerAddress>,

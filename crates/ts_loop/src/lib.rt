@@ -4,7 +4,8 @@
 //! ```text
 //! let limits = Limits::usual();
 //! let group = Group { carries: true, peers, tells: true };      // peers: node and address of each
-//! let mut access = Access { node: 1, keyring: Some(keyring), own: Some(key), open: false };
+//! let (keyring, own, http) = (Some(keyring), Some(key), None);
+//! let mut access = Access { node: 1, keyring, own, open: false, http };
 //! let at = "10.0.0.1:7001";
 //! let counts = serve_all(&rt, alloc, &mut server, at, &limits, &group, &mut access)?;
 //! ```
@@ -25,10 +26,16 @@
 //! no key for as long as a request may take is closed, and each is after an hour. The file of keys
 //! is read again within a second of its change.
 //!
+//! Where HTTP is wanted, its connections (`ts_http`) have a listener and slots of their own, as
+//! many as those of frames. What a request asks of the node the loop asks for it, on a connection
+//! without a socket, as for itself. A round visits them behind the others: one read, at most 8
+//! requests and one write each.
+//!
 //! With a group the loop is also a client of its own node: on a connection without a socket it
-//! takes the node's messages, hands the node those to itself at once, and puts the others on a line
-//! to each peer, which is dialed again where it breaks (`ts_carrier`). While a command of a client
-//! is under way no other is taken; it is proposed again where its round was lost.
+//! takes the node's messages, hands the node those to itself at once (a server that takes its own
+//! gives them only beyond the bounds of a turn), and puts the others on a line to each peer, which
+//! is dialed again where it breaks (`ts_carrier`). While a command of a client is under way no
+//! other is taken; it is proposed again where its round was lost.
 //!
 //! A sync of the node's disks stops the round, and every connection waits for it.
 //!
@@ -46,7 +53,8 @@
 //! Nothing says what a socket gives or takes: that the octets of a move `Came` are those that came,
 //! or that the lock let through, and those of `Left` reach the client, is the work of `read_once`
 //! and `write_once` in `door` and of `lock`. Nor that anything is accepted, read, written or
-//! carried, that a line brings only what the node gave, that the system's time is right, or that a
+//! carried, that what HTTP is answered is what the node was asked for it (`web`, `web_door`), that
+//! a line brings only what the node gave, that the system's time is right, or that a
 //! round ends soon. `bench/hostile`, `tools/forge` and `bench/group` try these over the loopback.
 //! What is counted.
 #![tactic(auto)]
@@ -70,6 +78,10 @@ mod pumping;
 mod rounds;
 mod seal;
 mod serving;
+mod showing;
+mod watch;
+mod web;
+mod web_door;
 
 pub use access::Access;
 pub use counts::Counts;

@@ -114,6 +114,16 @@ impl Line {
         }
     }
 
+    /// Whether the peer has answered on the connection that is there.
+    pub fn is_known(&self) -> bool {
+        self.is_known
+    }
+
+    /// How many messages wait for the peer.
+    pub fn waiting(&self) -> usize {
+        self.mailbox.len()
+    }
+
     /// An event of its socket.
     pub fn mark(&mut self, event: &Event) {
         if event.is_readable() || event.is_read_closed() || event.is_error() {

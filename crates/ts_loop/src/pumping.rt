@@ -4,12 +4,23 @@ ghost use Rattle.ts_links.specs.Calls.{HasReached};
 
 use crate::carrier::Carrier;
 use crate::door::{Door, PIECE, finish, read_once, shut_if_done, write_last};
+use crate::watch::{Watch, kind_at, moment};
+use std::rt::Clock;
 use ts_access::Key;
 use ts_links::reaching::take_some;
 use ts_links::{Connections, Service, Stage};
 
 /// The most requests of one connection that are taken before the others have their turn.
 const TURNS: u32 = 64;
+
+/// What a round has at hand.
+#[derive(Clone, Copy)]
+pub(crate) struct Round<'a, R> {
+    pub rt: &'a R,
+    pub keys: &'a [Key],
+    /// The moment, in milliseconds since the loop began.
+    pub now: u64,
+}
 
 /// What became of a connection in a round.
 #[derive(Clone, Copy, Debug, PartialEq, Eq)]
@@ -59,41 +70,67 @@ fn what_is_left(table: &Connections, door: &Door, slot: usize, taken: u32) -> Pu
     }
 }
 
-/// Takes the first request of a connection, unless it has to wait for a command that is under way.
-/// How many were taken, and whether memory was there.
-fn take_one<S: Service>(
+/// Takes the first request of a connection, and counts it. How many were taken, and whether memory
+/// was there.
+fn take_next<S: Service, R: Clock>(
+    round: &Round<'_, R>,
     table: &mut Connections,
     service: &mut S,
-    carrier: &mut Carrier,
     slot: usize,
-    now: u64,
+    watch: &mut Watch,
 ) -> (u32, bool)
     requires { S.is_ready service.old }
     ensures reached { HasReached S.turn service.old table.old service.new table.new }
     ensures ready { S.is_ready service.new }
 {
-    if carrier.gate.holds_back(table.held(slot), now) {
-        return (0, true);
+    let asked = kind_at(table.held(slot), 0);
+    let place = table.waiting(slot).len();
+    let begun = moment(round.rt);
+    let (taken, good) = take_some(table, slot, service, 1, round.now);
+    if taken > 0 {
+        watch.took(round.rt, begun);
+        watch.answered(asked, kind_at(table.waiting(slot), place));
     }
-    carrier.see(table.held(slot), slot, now);
-    take_some(table, slot, service, 1, now)
+    (taken, good)
 }
 
-/// Takes requests of a connection, up to one that has to wait. How many, and whether memory was
-/// there.
-fn take_turns<S: Service>(
+/// Takes the first request of a connection, unless it has to wait for a command that is under way.
+/// How many were taken, and whether memory was there.
+fn take_one<S: Service, R: Clock>(
+    round: &Round<'_, R>,
     table: &mut Connections,
     service: &mut S,
     carrier: &mut Carrier,
     slot: usize,
-    now: u64,
+    watch: &mut Watch,
+) -> (u32, bool)
+    requires { S.is_ready service.old }
+    ensures reached { HasReached S.turn service.old table.old service.new table.new }
+    ensures ready { S.is_ready service.new }
+{
+    if carrier.gate.holds_back(table.held(slot), round.now) {
+        return (0, true);
+    }
+    carrier.see(table.held(slot), slot, round.now);
+    take_next(round, table, service, slot, watch)
+}
+
+/// Takes requests of a connection, up to one that has to wait. How many, and whether memory was
+/// there.
+fn take_turns<S: Service, R: Clock>(
+    round: &Round<'_, R>,
+    table: &mut Connections,
+    service: &mut S,
+    carrier: &mut Carrier,
+    slot: usize,
+    watch: &mut Watch,
 ) -> (u32, bool)
     requires { S.is_ready service.old }
     ensures reached { HasReached S.turn service.old table.old service.new table.new }
     ensures ready { S.is_ready service.new }
 {
     for turns in 0..TURNS {
-        let (taken, good) = take_one(table, service, carrier, slot, now);
+        let (taken, good) = take_one(round, table, service, carrier, slot, watch);
         if taken == 0 || !good {
             return (turns, good);
         }
@@ -102,25 +139,26 @@ fn take_turns<S: Service>(
 }
 
 /// One read, some turns and one write of a connection. How many requests were taken.
-pub(crate) fn pump<S: Service>(
+pub(crate) fn pump<S: Service, R: Clock>(
+    round: &Round<'_, R>,
     table: &mut Connections,
     service: &mut S,
     carrier: &mut Carrier,
     door: &mut Door,
-    keys: &[Key],
     slot: usize,
     buffer: &mut [u8; PIECE],
-    now: u64,
+    watch: &mut Watch,
 ) -> (u32, Pumped)
     requires { S.is_ready service.old }
     ensures reached { HasReached S.turn service.old table.old service.new table.new }
     ensures ready { S.is_ready service.new }
 {
+    let (keys, now) = (round.keys, round.now);
     if !read_once(table, door, keys, slot, buffer, now) {
         write_last(door);
         return (0, Pumped::Failed);
     }
-    let (taken, good) = take_turns(table, service, carrier, slot, now);
+    let (taken, good) = take_turns(round, table, service, carrier, slot, watch);
     if !good {
         return (taken, Pumped::Failed);
     }

@@ -5,9 +5,11 @@ ghost use Rattle.ts_links.specs.Calls.{HasReached, IsQuiet};
 use crate::carrier::Carrier;
 use crate::counts::{Counts, Why};
 use crate::door::{Door, PIECE, write_once};
-use crate::pumping::{Pumped, pump};
+use crate::pumping::{Pumped, Round, pump};
+use crate::watch::Watch;
+use crate::web::{WEB, Web};
 use mio::{Events, Token};
-use ts_access::Key;
+use std::rt::Clock;
 use ts_links::reaching::close;
 use ts_links::{Connections, Deadlines, Service};
 
@@ -21,13 +23,22 @@ pub(crate) const PEERS: usize = usize::MAX - 16;
 const SWEEP: u64 = 100;
 
 /// Marks the doors and lines that have something to do. Whether the listener has.
-pub(crate) fn mark(doors: &mut [Option<Door>], carrier: &mut Carrier, events: &Events) -> bool {
+pub(crate) fn mark(
+    doors: &mut [Option<Door>],
+    carrier: &mut Carrier,
+    web: &mut Option<Web>,
+    events: &Events,
+) -> bool {
     let mut accepts = false;
     for event in events.iter() {
         if event.token() == LISTENER {
             accepts = true;
         } else if event.token().0 >= PEERS {
             carrier.mark(event.token().0 - PEERS, event);
+        } else if event.token().0 >= WEB {
+            if let Some(web) = web {
+                web.mark(event.token().0 - WEB, event);
+            }
         } else if let Some(Some(door)) = doors.get_mut(event.token().0) {
             door.hot = true;
             if event.is_readable() || event.is_read_closed() || event.is_error() {
@@ -88,16 +99,16 @@ fn settle(
 }
 
 /// One round of a slot. Whether it could do more.
-fn pump_slot<S: Service>(
+fn pump_slot<S: Service, R: Clock>(
+    round: &Round<'_, R>,
     table: &mut Connections,
     service: &mut S,
     carrier: &mut Carrier,
     place: &mut Option<Door>,
-    keys: &[Key],
     slot: usize,
     buffer: &mut [u8; PIECE],
-    now: u64,
     counts: &mut Counts,
+    watch: &mut Watch,
 ) -> bool
     requires { S.is_ready service.old }
     ensures reached { HasReached S.turn service.old table.old service.new table.new }
@@ -109,22 +120,22 @@ fn pump_slot<S: Service>(
     if !door.hot {
         return false;
     }
-    let (taken, pumped) = pump(table, service, carrier, door, keys, slot, buffer, now);
+    let (taken, pumped) = pump(round, table, service, carrier, door, slot, buffer, watch);
     counts.taken = counts.taken.saturating_add(u64::from(taken));
     settle(table, place, slot, pumped, counts)
 }
 
 /// One round of all doors that are to be looked at, from the one on that is behind the slot whose
 /// command was taken last, so that each client's command has its turn. Whether one could do more.
-pub(crate) fn pump_all<S: Service>(
+pub(crate) fn pump_all<S: Service, R: Clock>(
+    round: &Round<'_, R>,
     table: &mut Connections,
     service: &mut S,
     carrier: &mut Carrier,
     doors: &mut [Option<Door>],
-    keys: &[Key],
     buffer: &mut [u8; PIECE],
-    now: u64,
     counts: &mut Counts,
+    watch: &mut Watch,
 ) -> bool
     requires { S.is_ready service.old }
     ensures reached { HasReached S.turn service.old table.old service.new table.new }
@@ -137,7 +148,7 @@ pub(crate) fn pump_all<S: Service>(
         let slot = first.wrapping_add(step) % slots;
         let place = &mut doors[slot];
         if pump_slot(
-            table, service, carrier, place, keys, slot, buffer, now, counts,
+            round, table, service, carrier, place, slot, buffer, counts, watch,
         ) {
             more = true;
         }

@@ -17,9 +17,13 @@ use crate::door::{Door, PIECE};
 use crate::fault::LoopFault;
 use crate::group::Group;
 use crate::limits::Limits;
+use crate::pumping::Round;
 use crate::rounds::{LISTENER, mark, pump_all, sweep, write_all};
+use crate::showing::{Shown, show_all};
+use crate::watch::Watch;
+use crate::web::Web;
 use mio::net::TcpListener;
-use mio::{Events, Interest, Poll};
+use mio::{Events, Interest, Poll, Registry};
 use std::alloc::Global;
 use std::net::{Net, ToSocketAddrs};
 use std::random::RandomSource;
@@ -48,8 +52,10 @@ struct Edge {
     listener: TcpListener,
     doors: Vec<Option<Door>>,
     carrier: Carrier,
+    web: Option<Web>,
     accepts: Accepts,
     counts: Counts,
+    watch: Watch,
     start: Instant,
     swept: u64,
     /// A connection could do more.
@@ -58,7 +64,11 @@ struct Edge {
 
 /// The listener at an address, whose calls don't wait. `mio` asks for the longest backlog. Without
 /// keys it is one that this machine alone reaches, unless any is allowed.
-fn listener_at<R: Net>(rt: &R, address: &str, access: &Access) -> Result<TcpListener, LoopFault> {
+fn listener_at<R: Net>(
+    rt: &R,
+    address: &str,
+    access: &Access<'_>,
+) -> Result<TcpListener, LoopFault> {
     let Ok(found) = address.to_socket_addrs(rt) else {
         return Err(LoopFault::Listen);
     };
@@ -116,6 +126,28 @@ fn carrier_of<R: Net + Clock>(
     Ok(carrier)
 }
 
+/// The listener of HTTP, where one is wanted.
+fn web_of<R: Net>(
+    rt: &R,
+    alloc: Global,
+    registry: &Registry,
+    slots: usize,
+    access: &Access<'_>,
+) -> Result<Option<Web>, LoopFault> {
+    let Some(address) = &access.http else {
+        return Ok(None);
+    };
+    let web = Web::new(rt, alloc, registry, address.as_str(), slots, access)?;
+    Ok(Some(web))
+}
+
+/// The clock, in seconds from 1970-01-01T00:00:00Z.
+fn seconds_of<R: Clock>(rt: &R) -> Option<i64> {
+    let now = SystemTime::now(rt).ok()?;
+    let past = now.duration_since(UNIX_EPOCH).ok()?;
+    i64::try_from(past.as_secs()).ok()
+}
+
 impl Edge {
     /// The sockets at the start: the listener alone.
     fn new<R: Net + Clock>(
@@ -125,7 +157,7 @@ impl Edge {
         slots: usize,
         own: Identity,
         group: &Group,
-        access: &Access,
+        access: &Access<'_>,
     ) -> Result<Edge, LoopFault> {
         let mut listener = listener_at(rt, address, access)?;
         let Ok(poll) = Poll::new(rt) else {
@@ -139,6 +171,7 @@ impl Edge {
         {
             return Err(LoopFault::Poll);
         }
+        let web = web_of(rt, alloc, poll.registry(), slots, access)?;
         let Ok(start) = Instant::now(rt) else {
             return Err(LoopFault::Clock);
         };
@@ -149,8 +182,10 @@ impl Edge {
             listener,
             doors: places(alloc, slots)?,
             carrier: carrier_of(rt, alloc, own, group)?,
+            web,
             accepts: Accepts::AtEvent,
             counts: Counts::new(),
+            watch: Watch::new(),
             start,
             swept: 0,
             more: false,
@@ -168,7 +203,11 @@ impl Edge {
             return Err(LoopFault::Clock);
         };
         let now = u64::try_from(elapsed.as_millis()).unwrap_or(u64::MAX);
-        Ok((mark(&mut self.doors, &mut self.carrier, &self.events), now))
+        let doors = &mut self.doors;
+        Ok((
+            mark(doors, &mut self.carrier, &mut self.web, &self.events),
+            now,
+        ))
     }
 
     /// Accepts connections, if it is time.
@@ -176,7 +215,7 @@ impl Edge {
         &mut self,
         rt: &R,
         table: &mut Connections,
-        access: &Access,
+        access: &Access<'_>,
         event: bool,
         now: u64,
     )
@@ -220,6 +259,83 @@ impl Edge {
             .tend(rt, self.poll.registry(), own, buffer, now);
     }
 
+    /// Takes down for the connections of HTTP what time it is, and what is counted.
+    fn show<R: Files + Clock>(&mut self, rt: &R, access: &Access<'_>, now: u64) {
+        let Some(web) = &mut self.web else {
+            return;
+        };
+        if !web.has_work(now) {
+            return;
+        }
+        if let Some(seconds) = seconds_of(rt) {
+            web.board.now = seconds;
+        }
+        if web.is_stale(now) {
+            let shown = Shown {
+                frames: &self.counts,
+                http: web.counts,
+                carrier: &self.carrier,
+                watch: &self.watch,
+                meter: access.meter,
+            };
+            let _shown = show_all(rt, self.alloc, &mut web.board, &shown);
+        }
+    }
+
+    /// One round of the connections of HTTP.
+    fn serve_web<S: Service, R: Clock>(
+        &mut self,
+        rt: &R,
+        table: &mut Connections,
+        service: &mut S,
+        limits: &Limits,
+        access: &Access<'_>,
+        buffer: &mut [u8; PIECE],
+        now: u64,
+    )
+        requires { S.is_ready service.old }
+        ensures reached { HasReached S.turn service.old table.old service.new table.new }
+        ensures ready { S.is_ready service.new }
+    {
+        let Some(web) = &mut self.web else {
+            return;
+        };
+        let round = Round {
+            rt,
+            keys: access.keys(),
+            now,
+        };
+        let registry = self.poll.registry();
+        web.round(
+            &round,
+            registry,
+            table,
+            service,
+            &mut self.carrier,
+            &mut self.watch,
+            limits,
+            buffer,
+        );
+    }
+
+    /// Whether something is to be done at once.
+    fn goes_on(&self) -> bool {
+        let web = match &self.web {
+            Some(web) => web.goes_on(),
+            None => false,
+        };
+        web || self.more || self.carrier.has_more() || self.accepts == Accepts::Now
+    }
+
+    /// How many connections are over.
+    fn over(&self) -> u64 {
+        let web = match &self.web {
+            Some(web) => web.counts.over(),
+            None => 0,
+        };
+        self.counts.over().saturating_add(web)
+    }
+
     /// One round. The milliseconds since the start.
     fn round<S: Service, R: Net + Files + Clock + Eprint + RandomSource>(
         &mut self,
@@ -228,27 +344,33 @@ impl Edge {
         service: &mut S,
         buffer: &mut [u8; PIECE],
         limits: &Limits,
-        access: &mut Access,
+        access: &mut Access<'_>,
     ) -> Result<u64, LoopFault>
         requires { S.is_ready service.old }
         ensures reached { HasReached S.turn service.old table.old service.new table.new }
         ensures ready { S.is_ready service.new }
     {
-        let goes_on = self.more || self.carrier.has_more() || self.accepts == Accepts::Now;
-        let (event, now) = self.wait(rt, if goes_on { 0 } else { ROUND })?;
+        let (event, now) = self.wait(rt, if self.goes_on() { 0 } else { ROUND })?;
         access.refresh(rt, self.alloc, now);
         self.accept(rt, table, access, event, now);
+        let round = Round {
+            rt,
+            keys: access.keys(),
+            now,
+        };
         self.more = pump_all(
+            &round,
             table,
             service,
             &mut self.carrier,
             &mut self.doors,
-            access.keys(),
             buffer,
-            now,
             &mut self.counts,
+            &mut self.watch,
         );
         self.carry(rt, table, service, &access.own, buffer, now);
+        self.show(rt, access, now);
+        self.serve_web(rt, table, service, limits, access, buffer, now);
         self.swept = sweep(
             table,
             &self.carrier,
@@ -298,7 +420,7 @@ impl Edge {
             let _written = self.write_rest(rt, table, now.saturating_add(limits.request_ms));
             return Some(Err(LoopFault::NodeFailed));
         }
-        if self.counts.over() >= limits.connections {
+        if self.over() >= limits.connections {
             return Some(Ok(()));
         }
         None
@@ -312,7 +434,7 @@ impl Edge {
         service: &mut S,
         buffer: &mut [u8; PIECE],
         limits: &Limits,
-        access: &mut Access,
+        access: &mut Access<'_>,
     ) -> Option<Result<(), LoopFault>>
         requires { S.is_ready service.old }
         ensures reached { HasReached S.turn service.old table.old service.new table.new }
@@ -331,7 +453,7 @@ impl Edge {
         table: &mut Connections,
         service: &mut S,
         limits: &Limits,
-        access: &mut Access,
+        access: &mut Access<'_>,
     ) -> Result<(), LoopFault>
         requires { S.is_ready service.old }
         ensures reached { HasReached S.turn service.old table.old service.new table.new }
@@ -368,7 +490,7 @@ pub fn serve_all<R, D, M>(
     address: &str,
     limits: &Limits,
     group: &Group,
-    access: &mut Access,
+    access: &mut Access<'_>,
 ) -> Result<Counts, LoopFault>
 where
     R: Net + Files + Clock + Eprint + RandomSource,

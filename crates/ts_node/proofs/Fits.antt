@@ -1,5 +1,5 @@
 -- What a node keeps of an input that fits can be written in one body.
-use Rattle.std.proofs.Common.{◌≡◌, ◌≤◌, ◌<◌, ◌+◌, ◌^◌, ◌++◌, ◌∷◌, ℕ, suc, max, List, [], Option, Some, None, Result, Ok, Err, IsErrOf, Bool, true, false, nat_le, nat_lt, is_some, length, refl, sym, ap, subst, arith, length-append, if◌then◌else◌, ◌==◌, ◌&&◌}
+use Rattle.std.proofs.Common.{◌≡◌, ◌≤◌, ◌<◌, ◌+◌, ◌++◌, ◌∷◌, ℕ, suc, List, [], Option, Some, None, Result, Ok, Err, IsErrOf, Bool, true, false, nat_lt, is_some, length, refl, sym, ap, subst, arith, length-append, if◌then◌else◌, ◌==◌, ◌&&◌}
 use Rattle.std.proofs.lemmas.Bool.Decides.{nat_tests}
 use Rattle.std.proofs.lemmas.Grind.{flat_map-append}
 use Rattle.ts_synod.specs.declared.message.Body.TheVariants.{Accept, Accepted, Ask, Busy, Give, Prepare, Promise}
@@ -16,7 +16,7 @@ use Rattle.ts_synod.specs.Messages.{broadcast, send}
 use Rattle.ts_synod.specs.Force.{log_of, promised_ballot, taken_vote, used_round}
 use Rattle.ts_synod.specs.Acceptor.{Output, accept, accept_or_repeat, on_accept, on_prepare, only_messages}
 use Rattle.ts_synod.specs.Log.{LogStep, Received, ask_back, count_votes, is_vote_in, keep_received, learn, next_position, on_accepted, on_give, prefix, with_vote}
-use Rattle.ts_synod.specs.Proposer.{ProposerState, ProposerStep, after_growth, begin_round, drop_wanted, greatest_round, on_growth, on_promise, propose, propose_again, rounds_are_exhausted}
+use Rattle.ts_synod.specs.Proposer.{ProposerState, ProposerStep, after_growth, begin_round, drop_wanted, greatest_round, on_growth, propose_again, rounds_are_exhausted}
 use Rattle.ts_synod.specs.Store.{Settling, Store, settling}
 use Rattle.ts_synod.specs.Node as world
 use Rattle.ts_synod.proofs.Sets.{by_test}
@@ -33,7 +33,7 @@ use Rattle.ts_node.specs.declared.plan.Plan.{Plan}
 use Rattle.ts_node.specs.declared.roles.Roles.{Roles}
 use Rattle.ts_node.proofs.Used.{promise_none}
 
-all_more : {X : Type 0} (P : X → Type 0) (xs ys : List X) → AllByRecursion P xs → AllByRecursion P ys → AllByRecursion P (xs ++ ys)
+pub all_more : {X : Type 0} (P : X → Type 0) (xs ys : List X) → AllByRecursion P xs → AllByRecursion P ys → AllByRecursion P (xs ++ ys)
 all_more P [] ys a b = b
 all_more P (x ∷ xs) ys a b = (a.0, all_more P xs ys a.1 b)
 

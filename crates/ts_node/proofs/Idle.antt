@@ -1,8 +1,8 @@
 -- Facts that a role doesn't look at.
-use Rattle.std.proofs.Common.{◌≡◌, ◌∙◌, ◌++◌, ◌∷◌, ℕ, List, [], None, max, refl, sym, ap, subst, append_assoc, arith}
+use Rattle.std.proofs.Common.{◌≡◌, ◌∙◌, ◌++◌, ◌∷◌, List, [], refl, sym, ap, subst, append_assoc, arith}
 use Rattle.ts_synod.specs.declared.message.Fact.{Fact}
 use Rattle.ts_synod.specs.declared.message.Fact.TheVariants.{Chosen, Promised, Took, Used}
-use Rattle.ts_synod.specs.Force.{ballot_at, command_at, log_of, round_used_by, used_round, vote_at}
+use Rattle.ts_synod.specs.Force.{log_of, round_used_by, used_round}
 use Rattle.ts_synod.proofs.Same.{used_push}
 use Rattle.ts_acceptor.specs.Acceptor as acceptor
 use Rattle.ts_acceptor.specs.Steps as acceptor_steps

@@ -1,3 +1,4 @@
+pub mod Breaks
 pub mod Idle
 pub mod Same
 pub mod Used
@@ -8,4 +9,9 @@ pub mod Questions
 pub mod Deliveries
 pub mod Fits
 pub mod Images
+pub mod Rooms
+pub mod Turns
+pub mod Staging
+pub mod Coming
 pub mod Simulation
+pub mod Allowing

@@ -1,8 +1,7 @@
 -- The prefix of a log, position by position, and as more is learned.
-use Rattle.std.proofs.Common.{◌≡◌, ◌∙◌, ◌+◌, ◌<◌, ◌≤◌, ◌++◌, ◌∷◌, ◌==◌, ℕ, zero, suc, List, [], Option, Some, None, Bool, true, false, is_some, length, take, drop, get_or, refl, sym, ap, subst, arith}
+use Rattle.std.proofs.Common.{◌≡◌, ◌∙◌, ◌+◌, ◌<◌, ◌≤◌, ◌++◌, ◌∷◌, ◌==◌, ℕ, zero, suc, List, [], Option, Some, None, true, false, is_some, length, take, drop, get_or, refl, sym, ap, subst, arith}
 use Rattle.std.proofs.lemmas.List.{take_more, drop_more, length-take-le}
 use Rattle.std.proofs.lemmas.Bool.Decides.{Decides-eqb}
-use Rattle.ts_synod.specs.Lists.{put}
 use Rattle.ts_synod.specs.Log.{last_position, leading, prefix}
 use Rattle.ts_synod.proofs.PrefixLength.{length_leads}
 use Rattle.ts_synod.proofs.Sets.{by_test}

@@ -1,5 +1,5 @@
 -- A role that is not changed leaves the roles unchanged.
-use Rattle.std.proofs.Common.{◌≡◌, ◌∙◌, refl, ap, sym}
+use Rattle.std.proofs.Common.{◌∙◌, refl, ap}
 use Rattle.ts_synod.specs.Node.{Volatile}
 use Rattle.ts_acceptor.specs.Acceptor as acceptors
 use Rattle.ts_acceptor.specs.declared.acceptor.Acceptor.{Acceptor}
@@ -8,7 +8,7 @@ use Rattle.ts_proposer.specs.declared.proposer.Proposer.{Proposer}
 use Rattle.ts_log.specs.Log as logs
 use Rattle.ts_log.specs.declared.log.Log.{Log}
 use Rattle.ts_node.specs.declared.roles.Roles.{Roles}
-use Rattle.ts_node.specs.Roles.{StandFor, Unchanged}
+use Rattle.ts_node.specs.Roles.{Unchanged}
 
 pub same_acceptor : {C : Type 0} (roles : Roles C) (a : Acceptor C) → acceptors.Unchanged roles.acceptor a → Unchanged roles (record roles { acceptor = a })
 same_acceptor roles a u = record {

@@ -1,12 +1,12 @@
 -- Where an id is found among commands, and among more.
-use Rattle.std.proofs.Common.{arith, nat_le, ◌+◌, ◌<◌, ◌≡◌, ◌∙◌, ◌≤◌, ◌++◌, ◌∷◌, ◌==◌, ◌≢◌, ℕ, suc, List, [], Option, Some, None, Bool, true, false, is_some, length, take, drop, refl, sym, ap, subst, if◌then◌else◌}
+use Rattle.std.proofs.Common.{arith, nat_le, ◌+◌, ◌<◌, ◌≡◌, ◌∙◌, ◌++◌, ◌∷◌, ◌==◌, ◌≢◌, ℕ, suc, List, [], Option, Some, None, Bool, true, false, is_some, length, drop, refl, sym, ap, if◌then◌else◌}
 use Rattle.std.proofs.lemmas.List.{take-append-drop}
 use Rattle.std.proofs.lemmas.Bool.Decides.{Decides-eqb, nat_tests}
 use Rattle.ts_synod.proofs.Sets.{and_true, by_test}
 use Rattle.ts_synod.specs.Store.{Settling, Store, found, same_id, settling}
 use Rattle.ts_synod.specs.Config.{Config}
 use Rattle.ts_synod.specs.Log.{last_position, next_position, prefix}
-use Rattle.ts_synod.specs.Node.{position_for, position_for_wanted}
+use Rattle.ts_synod.specs.Node.{position_for}
 use Rattle.ts_node.specs.Growing.{has_id}
 use Rattle.ts_node.specs.Machine.{settling_as}
 use Rattle.ts_node.proofs.Prefix.{Extends, prefix_drop, prefix_extends}

@@ -1,33 +1,35 @@
 -- A run of nodes is a run of the world.
-use Rattle.std.proofs.Common.{◌≡◌, ◌≢◌, ◌∙◌, ◌⊎◌, ◌≤◌, ◌==◌, ◌++◌, ◌∷◌, ℕ, List, [], Option, Some, None, Ok, Bool, true, false, nat_le, length, take, inl, inr, refl, sym, ap, subst, append_assoc, ⊎_elim, if◌then◌else◌, true≢false}
+use Rattle.std.proofs.Common.{◌≡◌, ◌∙◌, ◌≤◌, ◌==◌, ◌++◌, ◌∷◌, ℕ, List, [], Option, Some, None, Bool, true, false, nat_le, length, map, take, inl, inr, refl, sym, ap, subst, append_assoc, ⊎_elim, if◌then◌else◌, true≢false}
 use Rattle.std.proofs.lemmas.Bool.Decides.{Decides-eqb}
 use Rattle.ts_synod.specs.declared.message.Fact.{Fact}
 use Rattle.ts_synod.specs.declared.message.Fact.TheVariants.{Chosen}
 use Rattle.ts_synod.specs.declared.message.Message.{Message}
 use Rattle.ts_synod.specs.Config.{Config, is_node}
 use Rattle.ts_synod.specs.Force.{SameForce, learned_command, log_of}
-use Rattle.ts_synod.specs.Laws.{FirstChosen, IsChosen, RightOutcome, node_with}
+use Rattle.ts_synod.specs.Laws.{FirstChosen, RightOutcome, node_with}
 use Rattle.ts_synod.specs.Lists.{Has, put}
 use Rattle.ts_synod.specs.Log.{prefix}
-use Rattle.ts_synod.specs.Proposer.{ProposerStep, greatest_round, propose}
+use Rattle.ts_synod.specs.Proposer.{ProposerStep, propose}
 use Rattle.ts_synod.specs.Store.{Settling, Store, settling, tables}
+use Rattle.ts_synod.specs.Turn.{Turn, events_of_turn, turn}
 use Rattle.ts_synod.specs.World.{Event, Handle, Restart, Stop, World, after_event, after_events, after_run, config_of, start_world, submitted, submitted_by, with_restart, with_step, with_stop}
 use Rattle.ts_synod.specs.Node as world
 use Rattle.ts_synod.proofs.Forces.{learned_is}
 use Rattle.ts_synod.proofs.Runs.{agreement, only_submitted}
 use Rattle.ts_synod.proofs.Same.{same_append}
 use Rattle.ts_synod.proofs.Sets.{by_test, has_cases, has_left, has_right, put_all}
+use Rattle.ts_synod.proofs.Turns.{crash_is_events, turn_is_events}
 use Rattle.ts_synod.proofs.Verdicts.{equal_verdicts}
 use Rattle.ts_node.specs.declared.node.Node.{Node}
 use Rattle.ts_node.specs.declared.input.Input.{Input}
 use Rattle.ts_node.specs.declared.input.Input.TheVariants as inputs
-use Rattle.ts_node.specs.declared.input.Output.{Output}
 use Rattle.ts_node.specs.declared.input.Reply.TheVariants as replies
 use Rattle.ts_node.specs.Inputs.{IsInput, IsReply}
 use Rattle.ts_node.specs.Machine.{store_of}
 use Rattle.ts_journal.specs.Images.{Member}
 use Rattle.ts_node.specs.Node.{Does, config, facts, owner, volatile}
-use Rattle.ts_node.specs.Run.{AreAllowed, Exchange, Follows, Group, Happening, IsAllowed, IsNode, IsStart, IsWorld, Promised, after, after_all, called, events_of, handed_in, handed_in_by, refused, reopened, rewritten, stopped}
+use Rattle.ts_node.specs.Turn.{DoesTurn}
+use Rattle.ts_node.specs.Run.{AreAllowed, Exchange, Follows, Group, Happening, IsAllowed, IsNode, IsStart, IsWorld, Promised, after, after_all, called, cut, events_of, handed_in, handed_in_by, refused, reopened, rewritten, stopped, turned}
 use Rattle.ts_node.proofs.Questions.{tables_are}
 
 same_refl : {C : Type 0} (fs : List (Fact C)) → SameForce fs fs
@@ -50,10 +52,10 @@ both_put {A} {B} P f h i v u here there j = go (j == i) refl
     go true e = subst (λ k. P k v u) (sym ((Decides-eqb j i).0 e)) here
     go false e = there j
 
--- the world after the event that something is, if it is one
-abbrev with_event : {C O Q : Type 0} → ℕ → Store C O (List C) Q (List C) → World C O Q (List C) → Option (Event C Q) → World C O Q (List C)
-with_event n store w None = w
-with_event n store w (Some e) = after_event n store w e
+-- the world after events, and then others
+events_then : {C O Q : Type 0} (n : ℕ) (store : Store C O (List C) Q (List C)) (es fs : List (Event C Q)) (w : World C O Q (List C)) → after_events n store (es ++ fs) w ≡ after_events n store fs (after_events n store es w)
+events_then n store [] fs w = refl
+events_then n store (e ∷ es) fs w = events_then n store es fs (after_event n store w e)
 
 -- what is submitted in two runs, one after the other
 submitted_append : {C Q : Type 0} (es fs : List (Event C Q)) → submitted (es ++ fs) ≡ submitted es ++ submitted fs
@@ -61,6 +63,17 @@ submitted_append [] fs = refl
 submitted_append (Handle i input ∷ es) fs = ap (λ xs. submitted_by input ++ xs) (submitted_append es fs) ∙ sym (append_assoc (submitted_by input) (submitted es) (submitted fs))
 submitted_append (Restart i ∷ es) fs = submitted_append es fs
 submitted_append (Stop i input ∷ es) fs = ap (λ xs. submitted_by input ++ xs) (submitted_append es fs) ∙ sym (append_assoc (submitted_by input) (submitted es) (submitted fs))
+
+abbrev deliveries : {C Q : Type 0} → List ℕ → List (world.Input C Q)
+deliveries ks = map world.Deliver ks
+
+none_submitted : (C Q : Type 0) (i : ℕ) (ks : List ℕ) → submitted (events_of_turn i (deliveries {C = C} {Q = Q} ks)) ≡ []
+none_submitted C Q i [] = refl
+none_submitted C Q i (k ∷ ks) = none_submitted C Q i ks
+
+-- what a turn submits is what its first event does
+turn_submits : {C Q : Type 0} (i : ℕ) (event : world.Input C Q) (more : List ℕ) → submitted (events_of_turn i (event ∷ map world.Deliver more)) ≡ submitted_by event ++ []
+turn_submits {C} {Q} i event more = ap (λ xs. submitted_by event ++ xs) (none_submitted C Q i more)
 
 push_nil : {X : Type 0} (xs : List X) → xs ++ [] ≡ xs
 push_nil [] = refl
@@ -193,6 +206,18 @@ module _ {C O Q A : Type 0} (store : Store C O (List C) Q (List C)) (is_answer :
         ∙ ap (λ v. world.step store (config_of n i) (node_with (w.nodes i).facts v) s.sent event) (sim.nodes i).volatile
         ∙ ap (λ m. world.step store (config_of n i) (w.nodes i) m event) sim.sent
 
+    -- the same for a turn
+    same_turn : (s : Group D C M O Q A) (w : World C O Q (List C)) (i : ℕ) (inputs : List (world.Input C Q)) → Simulates s w → is_node n i ≡ true
+        → turn store (config (s.nodes i)) (node_with (w.nodes i).facts (volatile (s.nodes i))) s.sent inputs ≡ turn store (config_of n i) (w.nodes i) w.sent inputs
+    same_turn s w i inputs sim node =
+        ap (λ k. turn store k (node_with (w.nodes i).facts (volatile (s.nodes i))) s.sent inputs) ((sim.nodes i).numbered node)
+        ∙ ap (λ v. turn store (config_of n i) (node_with (w.nodes i).facts v) s.sent inputs) (sim.nodes i).volatile
+        ∙ ap (λ m. turn store (config_of n i) (w.nodes i) m inputs) sim.sent
+
+    -- the nodes of a world in which one has changed
+    nodes_as : (s : Group D C M O Q A) (w v : World C O Q (List C)) (i : ℕ) (new : Node D C M) (there : world.Node C) → ((j : ℕ) → v.nodes j ≡ put w.nodes i there j) → Simulates s w → IsNode n i new there → (j : ℕ) → IsNode n j (put s.nodes i new j) (v.nodes j)
+    nodes_as s w v i new there is sim here j = subst (IsNode n j (put s.nodes i new j)) (sym (is j)) (both_put (λ k a b. IsNode n k a b) s.nodes w.nodes i new there here sim.nodes j)
+
     -- a node whose facts have the force that they had
     same_node : (a b : Node D C M) (i : ℕ) (v : world.Node C) → IsNode n i a v → config b ≡ config a → SameForce (facts a) (facts b) → volatile b ≡ volatile a → IsNode n i b v
     same_node a b i v h c f e = record { force = same_trans v.facts (facts a) (facts b) h.force f; volatile = e ∙ h.volatile; numbered = λ t. c ∙ h.numbered t }
@@ -208,12 +233,12 @@ module _ {C O Q A : Type 0} (store : Store C O (List C) Q (List C)) (is_answer :
     restarted_node a b i v h c f e = record { force = same_trans v.facts (facts a) (facts b) h.force f; volatile = e; numbered = λ t. c ∙ h.numbered t }
 
     abbrev Simulated : Group D C M O Q A → World C O Q (List C) → List C → Type 0
-    Simulated s w commands = (e : Option (Event C Q)) × Simulates s (with_event n store w e) × ((c : C) → Has (submitted (events_of (e ∷ []))) c → Has commands c)
+    Simulated s w commands = (es : List (Event C Q)) × Simulates s (after_events n store es w) × ((c : C) → Has (submitted es) c → Has commands c)
 
     -- a restart of a node of the world
     restart : (s : Group D C M O Q A) (w : World C O Q (List C)) (i : ℕ) (new : Node D C M) (commands : List C) → Simulates s w → is_node n i ≡ true → IsNode n i new (record { facts = (w.nodes i).facts; volatile = world.initial }) → Simulated (record s { nodes = put s.nodes i new }) w commands
     restart s w i new commands sim node here = (
-      Some (Restart i),
+      Restart i ∷ [],
       subst (λ (b : Bool). Simulates (record s { nodes = put s.nodes i new }) (if b then with_restart w i else w)) (sym node)
           (record { nodes = both_put (λ j a b. IsNode n j a b) s.nodes w.nodes i new (record { facts = (w.nodes i).facts; volatile = world.initial }) here sim.nodes; sent = sim.sent; given = sim.given }),
       λ c h. absurd h,
@@ -227,7 +252,7 @@ module _ {C O Q A : Type 0} (store : Store C O (List C) Q (List C)) (is_answer :
         ⊎_elim (λ (old : Has s.given x). let r = sim.given x old in (r.0, has_left w.replies (step.reply ∷ []) r.0 r.1, r.2))
         (elim [ inl e ↦ (step.reply, has_right w.replies (step.reply ∷ []) step.reply (inl refl), subst (λ y. IsGiven y step.reply) e (does.reply, about (config_of n i) (w.nodes i) w.sent input event (subst (λ m. IsInput m input event) sim.sent is))) | inr m ↦ absurd m ])
         (has_cases s.given (record { input = input; reply = output.reply } ∷ []) x k) in (
-          Some (Handle i event),
+          Handle i event ∷ [],
           subst (λ (b : Bool). Simulates (after s (called i input output new)) (if b then with_step w i step else w)) (sym node)
               (record {
                 nodes = both_put (λ j a b. IsNode n j a b) s.nodes w.nodes i new (record { facts = (w.nodes i).facts ++ step.effect.facts; volatile = step.effect.volatile })
@@ -237,10 +262,48 @@ module _ {C O Q A : Type 0} (store : Store C O (List C) Q (List C)) (is_answer :
               }),
           λ c k. subst (λ xs. Has (xs ++ []) c) (same_commands s.sent input event is) k,
         )
+    happens s w (turned i input output made new) sim (node, same, event, is, more, does_so) =
+        let inputs = event ∷ map world.Deliver more in
+        let t = turn store (config_of n i) (w.nodes i) w.sent inputs in
+        let does = subst (λ x. DoesTurn is_answer (s.nodes i) output made new x) (same_turn s w i inputs sim node) (does_so (w.nodes i).facts (sim.nodes i).force) in
+        let at = turn_is_events store n i node inputs w in
+        let step = world.step store (config_of n i) (w.nodes i) w.sent event in
+        let here : (x : Exchange C O Q A) → Has (s.given ++ record { input = input; reply = output.reply } ∷ []) x → (r : world.Reply O Q (List C)) × Has (w.replies ++ t.replies) r × IsGiven x r = λ x k.
+        ⊎_elim (λ (old : Has s.given x). let r = sim.given x old in (r.0, has_left w.replies t.replies r.0 r.1, r.2))
+        (elim [ inl e ↦ (step.reply, has_right w.replies t.replies step.reply (inl refl), subst (λ y. IsGiven y step.reply) e (does.reply, about (config_of n i) (w.nodes i) w.sent input event (subst (λ m. IsInput m input event) sim.sent is))) | inr m ↦ absurd m ])
+        (has_cases s.given (record { input = input; reply = output.reply } ∷ []) x k) in (
+          events_of_turn i inputs,
+          record {
+            nodes = nodes_as s w (after_events n store (events_of_turn i inputs) w) i new (record { facts = (w.nodes i).facts ++ t.effect.facts; volatile = t.effect.volatile }) at.nodes sim
+                (record { force = subst (SameForce ((w.nodes i).facts ++ t.effect.facts)) (sym does.facts) (same_append (w.nodes i).facts (facts (s.nodes i)) t.effect.facts (sim.nodes i).force); volatile = does.volatile; numbered = λ b. same ∙ (sim.nodes i).numbered b });
+            sent = ap (λ xs. s.sent ++ xs) does.same ∙ ap (λ xs. xs ++ t.effect.messages) sim.sent ∙ sym at.sent;
+            given = λ x k. let r = here x k in (r.0, subst (λ rs. Has rs r.0) (sym at.replies) r.1, r.2);
+          },
+          λ c k. subst (λ xs. Has (xs ++ []) c) (same_commands s.sent input event is) (subst (λ xs. Has xs c) (turn_submits i event more) k),
+        )
+    happens s w (cut i input made a b new) sim (node, event, is, more, opens, opened) =
+        let inputs = event ∷ map world.Deliver more in
+        let t = turn store (config_of n i) (w.nodes i) w.sent inputs in
+        let there = turn store (config (s.nodes i)) (node_with (w.nodes i).facts (volatile (s.nodes i))) s.sent inputs in
+        let told = opens (w.nodes i).facts (sim.nodes i).force in
+        let read = opened.only (owner (s.nodes i)) (facts (s.nodes i) ++ there.effect.facts) told.1 in
+        let same = same_config (s.nodes i) new read.1 in
+        let e = same_turn s w i inputs sim node in
+        let f = read.0 ∙ ap (λ (x : Turn C O Q (List C)). facts (s.nodes i) ++ x.effect.facts) e in
+        let at = crash_is_events store n i node inputs w in (
+          events_of_turn i inputs ++ Restart i ∷ [],
+          record {
+            nodes = nodes_as s w (after_events n store (events_of_turn i inputs ++ Restart i ∷ []) w) i new (record { facts = (w.nodes i).facts ++ t.effect.facts; volatile = world.initial }) at.nodes sim
+                (opened_node (s.nodes i) new i (w.nodes i) t.effect.facts (sim.nodes i) same f opened.restarted);
+            sent = ap (λ xs. s.sent ++ xs) (told.0 ∙ ap (λ (x : Turn C O Q (List C)). x.effect.messages) e) ∙ ap (λ xs. xs ++ t.effect.messages) sim.sent ∙ sym at.sent;
+            given = λ x k. let r = sim.given x k in (r.0, subst (λ rs. Has rs r.0) (sym at.replies) (has_left w.replies t.replies r.0 r.1), r.2);
+          },
+          λ c k. subst (λ xs. Has (xs ++ []) c) (same_commands s.sent input event is) (subst (λ xs. Has xs c) (submitted_append (events_of_turn i inputs) (Restart i ∷ []) ∙ push_nil (submitted (events_of_turn i inputs)) ∙ turn_submits i event more) k),
+        )
     happens s w (refused i new) sim (node, same, kept) =
-        (None, one_same s w i new sim (same_node (s.nodes i) new i (w.nodes i) (sim.nodes i) same (subst (SameForce (facts (s.nodes i))) (ap (λ k. k.facts) (sym kept.kept)) (same_refl (facts (s.nodes i)))) kept.volatile), λ c h. absurd h)
+        ([], one_same s w i new sim (same_node (s.nodes i) new i (w.nodes i) (sim.nodes i) same (subst (SameForce (facts (s.nodes i))) (ap (λ k. k.facts) (sym kept.kept)) (same_refl (facts (s.nodes i)))) kept.volatile), λ c h. absurd h)
     happens s w (rewritten i output new) sim (node, same, did) =
-        (None, one_same s w i new sim (same_node (s.nodes i) new i (w.nodes i) (sim.nodes i) same (same_sym (facts new) (facts (s.nodes i)) did.force) did.volatile), λ c h. absurd h)
+        ([], one_same s w i new sim (same_node (s.nodes i) new i (w.nodes i) (sim.nodes i) same (same_sym (facts new) (facts (s.nodes i)) did.force) did.volatile), λ c h. absurd h)
     happens s w (reopened i a b new) sim (node, opens, opened) =
         let read = opened.only (owner (s.nodes i)) opens.0 opens.1 in
         let e = read.0 in
@@ -255,7 +318,7 @@ module _ {C O Q A : Type 0} (store : Store C O (List C) Q (List C)) (is_answer :
         let e = read.0 in
         let same = same_config (s.nodes i) new read.1 in
         let f = e ∙ ap (λ st. facts (s.nodes i) ++ st.effect.facts) (same_step s w i event sim node) in (
-          Some (Stop i event),
+          Stop i event ∷ [],
           subst (λ (t : Bool). Simulates (record s { nodes = put s.nodes i new }) (if t then with_stop w i step.effect.facts else w)) (sym node)
               (record { nodes = both_put (λ j x y. IsNode n j x y) s.nodes w.nodes i new (record { facts = (w.nodes i).facts ++ step.effect.facts; volatile = world.initial }) (opened_node (s.nodes i) new i (w.nodes i) step.effect.facts (sim.nodes i) same f opened.restarted) sim.nodes; sent = sim.sent; given = sim.given }),
           λ c k. subst (λ xs. Has (xs ++ []) c) (same_commands s.sent input event is) k,
@@ -264,6 +327,8 @@ module _ {C O Q A : Type 0} (store : Store C O (List C) Q (List C)) (is_answer :
 
     handed_append : (h : Happening D C M O Q A) (hs : List (Happening D C M O Q A)) → handed_in (h ∷ hs) ≡ handed_in (h ∷ []) ++ handed_in hs
     handed_append (called i input output new) hs = ap (λ xs. xs ++ handed_in hs) (sym (push_nil (handed_in_by input)))
+    handed_append (turned i input output made new) hs = ap (λ xs. xs ++ handed_in hs) (sym (push_nil (handed_in_by input)))
+    handed_append (cut i input made a b new) hs = ap (λ xs. xs ++ handed_in hs) (sym (push_nil (handed_in_by input)))
     handed_append (refused i new) hs = refl
     handed_append (rewritten i output new) hs = refl
     handed_append (reopened i a b new) hs = refl
@@ -271,7 +336,7 @@ module _ {C O Q A : Type 0} (store : Store C O (List C) Q (List C)) (is_answer :
 
     -- a whole run, at each of its moments
     record Run (s : Group D C M O Q A) (w : World C O Q (List C)) (hs : List (Happening D C M O Q A)) : Type 0 where
-      pub moments : List (Option (Event C Q))
+      pub moments : List (List (Event C Q))
       pub follows : Follows store n s w hs moments
       pub ends : Simulates (after_all s hs) (after_events n store (events_of moments) w)
       pub commands : (c : C) → Has (submitted (events_of moments)) c → Has (handed_in hs) c
@@ -279,25 +344,19 @@ module _ {C O Q A : Type 0} (store : Store C O (List C) Q (List C)) (is_answer :
     is_world : (s : Group D C M O Q A) (w : World C O Q (List C)) → Simulates s w → IsWorld n s w
     is_world s w sim = record { nodes = sim.nodes; sent = sim.sent }
 
-    first : (s : Group D C M O Q A) (w : World C O Q (List C)) (h : Happening D C M O Q A) (hs : List (Happening D C M O Q A)) → Simulates s w → (one : Simulated (after s h) w (handed_in (h ∷ []))) → Run (after s h) (with_event n store w one.0) hs → Run s w (h ∷ hs)
-    first s w h hs sim (None, after_one, has) rest = record {
-      moments = None ∷ rest.moments;
+    first : (s : Group D C M O Q A) (w : World C O Q (List C)) (h : Happening D C M O Q A) (hs : List (Happening D C M O Q A)) → Simulates s w → (one : Simulated (after s h) w (handed_in (h ∷ []))) → Run (after s h) (after_events n store one.0 w) hs → Run s w (h ∷ hs)
+    first s w h hs sim (es, after_one, has) rest = record {
+      moments = es ∷ rest.moments;
       follows = (is_world s w sim, rest.follows);
-      ends = rest.ends;
-      commands = λ c k. subst (λ xs. Has xs c) (sym (handed_append h hs)) (has_right (handed_in (h ∷ [])) (handed_in hs) c (rest.commands c k));
-    }
-    first s w h hs sim (Some e, after_one, has) rest = record {
-      moments = Some e ∷ rest.moments;
-      follows = (is_world s w sim, rest.follows);
-      ends = rest.ends;
-      commands = λ c k. subst (λ xs. Has xs c) (sym (handed_append h hs)) (⊎_elim (λ (x : Has (submitted (e ∷ [])) c). has_left (handed_in (h ∷ [])) (handed_in hs) c (has c x)) (λ (y : Has (submitted (events_of rest.moments)) c). has_right (handed_in (h ∷ [])) (handed_in hs) c (rest.commands c y)) (has_cases (submitted (e ∷ [])) (submitted (events_of rest.moments)) c (subst (λ xs. Has xs c) (submitted_append (e ∷ []) (events_of rest.moments)) k)));
+      ends = subst (Simulates (after_all (after s h) hs)) (sym (events_then n store es (events_of rest.moments) w)) rest.ends;
+      commands = λ c k. subst (λ xs. Has xs c) (sym (handed_append h hs)) (⊎_elim (λ (x : Has (submitted es) c). has_left (handed_in (h ∷ [])) (handed_in hs) c (has c x)) (λ (y : Has (submitted (events_of rest.moments)) c). has_right (handed_in (h ∷ [])) (handed_in hs) c (rest.commands c y)) (has_cases (submitted es) (submitted (events_of rest.moments)) c (subst (λ xs. Has xs c) (submitted_append es (events_of rest.moments)) k)));
     }
 
     all_happen : (s : Group D C M O Q A) (w : World C O Q (List C)) (hs : List (Happening D C M O Q A)) → Simulates s w → AreAllowed octets store is_answer n s hs → Run s w hs
     all_happen s w [] sim allowed = record { moments = []; follows = is_world s w sim; ends = sim; commands = λ c h. absurd h }
     all_happen s w (h ∷ hs) sim allowed =
         let one = happens s w h sim allowed.0 in
-        first s w h hs sim one (all_happen (after s h) (with_event n store w one.0) hs one.1 allowed.1)
+        first s w h hs sim one (all_happen (after s h) (after_events n store one.0 w) hs one.1 allowed.1)
 
     -- a node at the start
     starts_as : (s : Group D C M O Q A) → IsStart octets n s → (i : ℕ) (b : Bool) → is_node n i ≡ b → IsNode n i (s.nodes i) (record { facts = []; volatile = world.initial })

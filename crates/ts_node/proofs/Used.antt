@@ -1,10 +1,10 @@
 -- The proposer keeps no facts but rounds.
-use Rattle.std.proofs.Common.{refl, ◌≡◌, ℕ, List, [], ◌∷◌, Option, Some, None, Bool, is_some, nat_le, ◌==◌, ◌&&◌}
+use Rattle.std.proofs.Common.{refl, ◌≡◌, ℕ, [], Option, Some, None, is_some}
 use Rattle.ts_synod.specs.declared.message.Vote.{Vote}
 use Rattle.ts_synod.specs.Lists.{put}
 use Rattle.ts_synod.specs.Majority.{is_majority}
 use Rattle.ts_synod.specs.Config.{Config}
-use Rattle.ts_synod.specs.Proposer.{Accepting, Phase, Preparing, ProposerState, ProposerStep, Round, after_growth, begin_phase_2, begin_round, command_to_propose, count_promises, drop_wanted, greatest_reported, is_current, on_growth, on_promise, only_state, promise_in_phase, promise_in_round, propose, propose_again, rounds_are_exhausted, with_round}
+use Rattle.ts_synod.specs.Proposer.{Accepting, Phase, Preparing, ProposerState, ProposerStep, Round, after_growth, begin_phase_2, begin_round, command_to_propose, count_promises, drop_wanted, greatest_reported, is_current, on_growth, on_promise, only_state, promise_in_phase, promise_in_round, propose_again, rounds_are_exhausted, with_round}
 use Rattle.ts_synod.proofs.Sets.{by_test}
 use Rattle.ts_node.specs.Roles.{AllUsed}
 

@@ -18,7 +18,8 @@ use Rattle.ts_node.specs.declared.input.NodeFault.{NodeFault}
 use Rattle.ts_node.specs.declared.input.NodeFault.TheVariants.{DiskFailed, Broken}
 use Rattle.ts_node.specs.declared.input.NodeFault.TheVariants.{GenerationsExhausted}
 use Rattle.ts_node.specs.Inputs.{IsInput}
-use Rattle.ts_node.specs.Node.{Compacts, Failed, Handles, Moments, config, facts, owner, volatile}
+use Rattle.ts_node.specs.Node.{Compacts, Failed, Handles, Moments, config, facts, is_broken}
+use Rattle.ts_node.specs.Node.{owner, volatile}
 
 -- What stands behind a node: its disks and the encoding of its commands, the store of the world,
 -- and what its machine's answers rest on.
@@ -37,28 +38,28 @@ module _ {D C M O Q A B : Type 0} (state : D → State) (octets : C → List ℕ
       (result : Result (Output C O A) NodeFault) (new : Node D C M) : Type 0 where
     -- The call keeps, sends and answers what the step of the world's node does, whose facts are
     -- equivalent to this node's (`SameForce`).
-    pub step : old.kept.broken ≡ false
+    pub step : is_broken old ≡ false
         → (kept : List (Fact C)) (sent : List (Message C)) (event : world.Input C Q)
         → SameForce kept (facts old) → IsInput sent input event
         → Handles (is_answer (basis old.machine)) old result new (step_of old kept sent event)
     -- A crash at any moment within the call leaves the facts before it, or those after it.
-    pub moments : old.kept.broken ≡ false
+    pub moments : is_broken old ≡ false
         → (kept : List (Fact C)) (sent : List (Message C)) (event : world.Input C Q)
         → SameForce kept (facts old) → IsInput sent input event
         → Moments state octets old (step_of old kept sent event).effect.facts new
     -- Compaction is no event of the world: the facts stay equivalent, also where a crash comes
     -- within it.
-    pub compacts : old.kept.broken ≡ false → input ≡ inputs.Compact → Compacts old result new
+    pub compacts : is_broken old ≡ false → input ≡ inputs.Compact → Compacts old result new
         × EveryPair (OpensToForce octets (owner old) (facts old))
         (state old.kept.a) (state old.kept.b) (state new.kept.a) (state new.kept.b)
     -- At the last generation there is no next one to rewrite the record in.
-    pub exhausted : old.kept.broken ≡ false → input ≡ inputs.Compact
+    pub exhausted : is_broken old ≡ false → input ≡ inputs.Compact
         → old.kept.generation + 1 ≡ 2 ^ 64 → IsErrOf result GenerationsExhausted
     -- It stays the same node of the same group, and its answers rest on the same.
     pub same_config : config new ≡ config old
     pub same_basis : basis new.machine ≡ basis old.machine
     -- A node that answered is not broken.
-    pub whole : OnOk result (new.kept.broken ≡ false)
+    pub whole : OnOk result (is_broken new ≡ false)
     -- After a device failed the node is broken, and does nothing more.
     pub failed : IsErrOf result DiskFailed → (new.kept.broken ≡ true) × Failed state old new
-    pub broken : old.kept.broken ≡ true → IsErrOf result Broken × (new ≡ old)
+    pub broken : is_broken old ≡ true → IsErrOf result Broken × (new ≡ old)

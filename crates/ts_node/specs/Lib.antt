@@ -4,4 +4,7 @@ pub mod Roles
 pub mod Inputs
 pub mod Node
 pub mod Call
+pub mod Turn
+pub mod Staged
 pub mod Run
+pub mod Allowed

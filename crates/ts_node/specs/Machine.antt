@@ -2,7 +2,7 @@
 -- commands taken so far: whatever it computes from them, an outcome is a function of the commands
 -- before, and an answer is a relation to them.
 use Rattle.std.proofs.Common.{ℕ, List, [], ◌∷◌, ◌++◌, Option, Some, None}
-use Rattle.ts_synod.specs.Store.{Settling, Store, settling}
+use Rattle.ts_synod.specs.Store.{Settling, Store}
 
 -- the store of the world: a client's id in each command, and the outcome of a command after others
 abbrev pub store_of : {C O : Type 0} → (Q : Type 0) → (C → List ℕ) → (List C → C → O)

@@ -1,13 +1,11 @@
 -- A node on two disks: its facts, which its disks hold, and the world's node that it is.
-use Rattle.std.proofs.Common.{◌≡◌, ◌≤◌, ◌⊎◌, ◌++◌, ◌+◌, ◌^◌, ℕ, List, [], false, true, Result, Ok}
-use Rattle.std.proofs.Common.{Err}
+use Rattle.std.proofs.Common.{◌≡◌, ◌⊎◌, ◌||◌, ◌++◌, ◌+◌, ◌^◌, ℕ, List, [], Bool, false, true}
+use Rattle.std.proofs.Common.{Result, Ok, Err}
 use Rattle.ts_disk.specs.Disk.{State}
 use Rattle.ts_journal.specs.Images.{Member, AnyPair, EveryPair}
 use Rattle.ts_synod.specs.declared.message.Fact.{Fact}
-use Rattle.ts_synod.specs.declared.message.Message.{Message}
 use Rattle.ts_synod.specs.Config.{Config}
 use Rattle.ts_synod.specs.Force.{SameForce, log_of}
-use Rattle.ts_synod.specs.Laws.{node_with}
 use Rattle.ts_synod.specs.Node as world
 use Rattle.ts_record.specs.Facts.{OpensTo}
 use Rattle.ts_record.specs.Record.{EitherFailed, OpensToFrom}
@@ -55,10 +53,15 @@ pub record IsWhole {D C M : Type 0} (state : D → State) (octets : C → List �
   pub stand : StandFor node.roles node.kept.facts
   pub part : IsPart (commands node.machine) (log_of node.kept.facts)
 
--- A node is sound until one of its devices fails; then it is broken, and is opened again.
+-- One of its devices failed, or memory was refused to a turn when its roles were ahead of its
+-- record. A broken node does nothing more until it is opened again.
+abbrev pub is_broken : {D C M : Type 0} → Node D C M → Bool
+is_broken node = node.kept.broken || node.ahead
+
+-- a node is sound until it is broken
 abbrev pub IsSound : {D C M : Type 0} → (D → State) → (C → List ℕ) → (M → List C) → Node D C M
     → Type 0
-IsSound state octets commands node = node.kept.broken ≡ false → IsWhole state octets commands node
+IsSound state octets commands node = is_broken node ≡ false → IsWhole state octets commands node
 
 -- the pair opens to the facts before, or to those with the new ones, as the record of this member
 abbrev pub ToEither : {C : Type 0} → (C → List ℕ) → Member → List (Fact C) → List (Fact C) → List ℕ
@@ -92,6 +95,7 @@ fault_as (record_faults.Damaged at) = faults.Broken
 pub record IsSame {D C M : Type 0} (old new : Node D C M) : Type 0 where
   pub kept : new.kept ≡ old.kept
   pub volatile : volatile new ≡ volatile old
+  pub ahead : new.ahead ≡ old.ahead
 
 -- What a call does is the world's step: the facts that it keeps, the volatile part then, the
 -- messages and the reply.

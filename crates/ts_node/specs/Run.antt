@@ -1,6 +1,6 @@
--- A run of n nodes: calls, rewrites, crashes and openings, each as the contracts of `Node::handle`
--- and `Node::open` describe it.
-use Rattle.std.proofs.Common.{◌≡◌, ◌≤◌, ℕ, List, [], ◌∷◌, ◌++◌, Option, Some, None, Ok, true, false}
+-- A run of n nodes: calls, turns, rewrites, crashes and openings, each as the contracts of
+-- `Node::handle`, `Node::turn` and `Node::open` describe it.
+use Rattle.std.proofs.Common.{◌≡◌, ℕ, List, [], ◌∷◌, ◌++◌, map, Option, Some, Ok, true, false}
 use Rattle.ts_synod.specs.declared.message.Fact.{Fact}
 use Rattle.ts_synod.specs.declared.message.Message.{Message}
 use Rattle.ts_synod.specs.Config.{is_node}
@@ -8,7 +8,8 @@ use Rattle.ts_synod.specs.Force.{SameForce, learned_command}
 use Rattle.ts_synod.specs.Laws.{FirstChosen, IsChosen, RightOutcome, node_with}
 use Rattle.ts_synod.specs.Lists.{Has, put}
 use Rattle.ts_synod.specs.Store.{Store}
-use Rattle.ts_synod.specs.World.{Event, World, after_event, after_run, config_of, start_world}
+use Rattle.ts_synod.specs.Turn.{Turn, turn}
+use Rattle.ts_synod.specs.World.{Event, World, after_events, after_run, config_of, start_world}
 use Rattle.ts_synod.specs.Node as world
 use Rattle.ts_journal.specs.Images.{Member}
 use Rattle.ts_record.specs.Facts.{OpensTo}
@@ -21,13 +22,14 @@ use Rattle.ts_node.specs.declared.input.Reply.{Reply}
 use Rattle.ts_node.specs.declared.input.Reply.TheVariants as replies
 use Rattle.ts_node.specs.Inputs.{IsInput}
 use Rattle.ts_node.specs.Node.{Handles, IsSame, Rewrites, ToEither, config, facts, owner, volatile}
+use Rattle.ts_node.specs.Turn.{DoesTurn}
 
 -- an input, and the reply that was given to it
 pub record Exchange (C O Q A : Type 0) : Type 0 where
   pub input : Input C Q
   pub reply : Reply O A
 
--- the nodes by number, every message that a call answered, and every reply
+-- the nodes by number, every message that a call answered or a turn made, and every reply
 pub record Group (D C M O Q A : Type 0) : Type 0 where
   pub nodes : ℕ → Node D C M
   pub sent : List (Message C)
@@ -36,10 +38,12 @@ pub record Group (D C M O Q A : Type 0) : Type 0 where
 -- What happens at node i, and the node then.
 pub data Happening (D C M O Q A : Type 0) : Type 0 where
   called : (i : ℕ) → (input : Input C Q) → (output : Output C O A) → (new : Node D C M) → Happening D C M O Q A  -- a call answers
+  turned : (i : ℕ) → (input : Input C Q) → (output : Output C O A) → (made : List (Message C)) → (new : Node D C M) → Happening D C M O Q A  -- a turn answers, which made these messages, those to the node itself too
   refused : (i : ℕ) → (new : Node D C M) → Happening D C M O Q A  -- a call answers a fault other than that of a device
   rewritten : (i : ℕ) → (output : Output C O A) → (new : Node D C M) → Happening D C M O Q A  -- a compaction makes a step
   reopened : (i : ℕ) → (a b : List ℕ) → (new : Node D C M) → Happening D C M O Q A  -- it stops between two calls or within a compaction, and is opened on these images
   stopped : (i : ℕ) → (input : Input C Q) → (a b : List ℕ) → (new : Node D C M) → Happening D C M O Q A  -- it stops within a call, or a device fails, and is opened on these images
+  cut : (i : ℕ) → (input : Input C Q) → (made : List (Message C)) → (a b : List ℕ) → (new : Node D C M) → Happening D C M O Q A  -- it stops within a turn whose facts are all kept, and is opened on these images
 
 abbrev pub after : {D C M O Q A : Type 0} → Group D C M O Q A → Happening D C M O Q A
     → Group D C M O Q A
@@ -49,12 +53,20 @@ after s (called i input output new) = record {
   given = s.given
       ++ record { input = input; reply = output.reply } ∷ [];
 }
+after s (turned i input output made new) = record {
+  nodes = put s.nodes i new;
+  sent = s.sent ++ made;
+  given = s.given
+      ++ record { input = input; reply = output.reply } ∷ [];
+}
 after s (refused i new) = record { nodes = put s.nodes i new; sent = s.sent; given = s.given }
 after s (rewritten i output new) =
     record { nodes = put s.nodes i new; sent = s.sent; given = s.given }
 after s (reopened i a b new) = record { nodes = put s.nodes i new; sent = s.sent; given = s.given }
 after s (stopped i input a b new) =
     record { nodes = put s.nodes i new; sent = s.sent; given = s.given }
+after s (cut i input made a b new) =
+    record { nodes = put s.nodes i new; sent = s.sent ++ made; given = s.given }
 
 abbrev pub after_all : {D C M O Q A : Type 0} → Group D C M O Q A → List (Happening D C M O Q A)
     → Group D C M O Q A
@@ -69,10 +81,12 @@ handed_in_by other = []
 abbrev pub handed_in : {D C M O Q A : Type 0} → List (Happening D C M O Q A) → List C
 handed_in [] = []
 handed_in (called i input output new ∷ hs) = handed_in_by input ++ handed_in hs
+handed_in (turned i input output made new ∷ hs) = handed_in_by input ++ handed_in hs
 handed_in (refused i new ∷ hs) = handed_in hs
 handed_in (rewritten i output new ∷ hs) = handed_in hs
 handed_in (reopened i a b new ∷ hs) = handed_in hs
 handed_in (stopped i input a b new ∷ hs) = handed_in_by input ++ handed_in hs
+handed_in (cut i input made a b new ∷ hs) = handed_in_by input ++ handed_in hs
 
 -- a node that was opened on a pair of images: what they open to are its facts, it is the member
 -- whose record they are, and it has forgotten the rest
@@ -90,14 +104,25 @@ module _ {D C M O Q A : Type 0} (octets : C → List ℕ) (store : Store C O (Li
   step_at s i kept event = world.step store (config (s.nodes i))
       (node_with kept (volatile (s.nodes i))) s.sent event
 
-  -- Which things can happen: a call that meets the contract of `handle` at an input that the
-  -- messages sent so far allow, and an opening that meets that of `open` on images that a crash may
-  -- leave.
+  -- the turn of the world at node i: an event, and then deliveries of messages by their numbers
+  abbrev pub turn_of : Group D C M O Q A → ℕ → List (Fact C) → world.Input C Q → List ℕ
+      → Turn C O Q (List C)
+  turn_of s i kept event more = turn store (config (s.nodes i))
+      (node_with kept (volatile (s.nodes i))) s.sent (event ∷ map world.Deliver more)
+
+  -- Which things can happen: a call that meets the contract of `handle` or of `turn` at an input
+  -- that the messages sent so far allow, and an opening that meets that of `open` on images that a
+  -- crash may leave. A node that stops within a turn of which nothing is kept is one that stopped
+  -- before it.
   abbrev pub IsAllowed : Group D C M O Q A → Happening D C M O Q A → Type 0
   IsAllowed s (called i input output new) = (is_node n i ≡ true)
       × (config new ≡ config (s.nodes i)) × (event : world.Input C Q) × IsInput s.sent input event
       × ((kept : List (Fact C)) → SameForce kept (facts (s.nodes i))
       → Handles is_answer (s.nodes i) (Ok output) new (step_at s i kept event))
+  IsAllowed s (turned i input output made new) = (is_node n i ≡ true)
+      × (config new ≡ config (s.nodes i)) × (event : world.Input C Q) × IsInput s.sent input event
+      × (more : List ℕ) × ((kept : List (Fact C)) → SameForce kept (facts (s.nodes i))
+      → DoesTurn is_answer (s.nodes i) output made new (turn_of s i kept event more))
   IsAllowed s (refused i new) = (is_node n i ≡ true) × (config new ≡ config (s.nodes i))
       × IsSame (s.nodes i) new
   IsAllowed s (rewritten i output new) =
@@ -109,6 +134,13 @@ module _ {D C M O Q A : Type 0} (octets : C → List ℕ) (store : Store C O (Li
       × ((kept : List (Fact C)) → SameForce kept (facts (s.nodes i))
       → ToEither octets (owner (s.nodes i)) (facts (s.nodes i))
       (step_at s i kept event).effect.facts a b) × IsOpened octets a b new
+  IsAllowed s (cut i input made a b new) =
+      (is_node n i ≡ true) × (event : world.Input C Q) × IsInput s.sent input event
+      × (more : List ℕ) × ((kept : List (Fact C)) → SameForce kept (facts (s.nodes i))
+      → (made ≡ (turn_of s i kept event more).effect.messages)
+      × OpensTo octets (owner (s.nodes i))
+      (facts (s.nodes i) ++ (turn_of s i kept event more).effect.facts) a b)
+      × IsOpened octets a b new
 
   abbrev pub AreAllowed : Group D C M O Q A → List (Happening D C M O Q A) → Type 0
   AreAllowed s [] = Unit {0}
@@ -140,21 +172,19 @@ pub record IsWorld {D C M O Q A : Type 0} (n : ℕ) (s : Group D C M O Q A)
   pub sent : s.sent ≡ w.sent
 
 -- At each moment of a run the group is the world after the events so far. To each thing that
--- happens belong the events of the world that it is: one, or none.
+-- happens belong the events of the world that it is: none, one, or those of a turn.
 abbrev pub Follows : {D C M O Q A : Type 0} → Store C O (List C) Q (List C) → ℕ → Group D C M O Q A
-    → World C O Q (List C) → List (Happening D C M O Q A) → List (Option (Event C Q)) → Type 0
+    → World C O Q (List C) → List (Happening D C M O Q A) → List (List (Event C Q)) → Type 0
 Follows store n s w [] [] = IsWorld n s w
-Follows store n s w [] (e ∷ es) = ⊥
+Follows store n s w [] (es ∷ rest) = ⊥
 Follows store n s w (h ∷ hs) [] = ⊥
-Follows store n s w (h ∷ hs) (None ∷ es) = IsWorld n s w × Follows store n (after s h) w hs es
-Follows store n s w (h ∷ hs) (Some e ∷ es) =
-    IsWorld n s w × Follows store n (after s h) (after_event n store w e) hs es
+Follows store n s w (h ∷ hs) (es ∷ rest) =
+    IsWorld n s w × Follows store n (after s h) (after_events n store es w) hs rest
 
 -- the events, one after the other
-abbrev pub events_of : {C Q : Type 0} → List (Option (Event C Q)) → List (Event C Q)
+abbrev pub events_of : {C Q : Type 0} → List (List (Event C Q)) → List (Event C Q)
 events_of [] = []
-events_of (None ∷ es) = events_of es
-events_of (Some e ∷ es) = e ∷ events_of es
+events_of (es ∷ rest) = es ++ events_of rest
 
 -- What is promised of a run of a group: there is a run of the world which it follows at each
 -- moment, and after which
@@ -168,7 +198,7 @@ events_of (Some e ∷ es) = e ∷ events_of es
 pub record Promised {D C M O Q A : Type 0} (store : Store C O (List C) Q (List C))
     (is_answer : List C → Q → A → Type 0) (n : ℕ) (start : Group D C M O Q A)
     (run : List (Happening D C M O Q A)) : Type 0 where
-  pub moments : List (Option (Event C Q))
+  pub moments : List (List (Event C Q))
   pub follows : Follows store n start start_world run moments
   pub learned : (i p : ℕ) (c : C)
       → learned_command p (facts ((after_all start run).nodes i)) ≡ Some c

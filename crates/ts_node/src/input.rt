@@ -55,7 +55,8 @@ pub enum NodeFault {
     Memory,
     /// A device failed in this call. The node is broken until it is opened again.
     DiskFailed,
-    /// A device failed in an earlier call.
+    /// A device failed in an earlier call; or memory was refused to a turn when its roles were
+    /// ahead of the record, in this call or in an earlier one. The node is opened again.
     Broken,
     /// The greatest round used or seen is the last one.
     RoundsExhausted,

@@ -2,6 +2,7 @@
 
 ghost use Rattle.std.specs.Prelude.{◌≤◌, ℕ, List};
 ghost use Rattle.ts_node.specs.Machine.{store_of};
+ghost use Rattle.ts_node.specs.Allowed.{AllCallsAre};
 ghost use Rattle.ts_node.specs.Run.{AreAllowed, Group, Happening, IsStart, Promised};
 
 use crate::machine::Machine;
@@ -14,12 +15,12 @@ use ts_synod::{Codec, Command};
 /// settled at the first position that has it, with the outcome there; and each chosen command was
 /// submitted.
 ///
-/// A run is what the contracts of `Node::handle` and `Node::open` allow: each call meets that of
-/// `handle`, and each opening that of `open` on images that a crash may leave. At each moment the
-/// nodes have the facts, by their force, and the messages of one run of the protocol's world. The
-/// premises: at most nine nodes, each of which was first opened on what `Record::format` left for
-/// its own number, and has a machine of the same basis; and no message that was not sent is
-/// delivered.
+/// A run is what the contracts of `Node::handle`, `Node::turn` and `Node::open` allow
+/// (`calls_are_allowed`): each call meets that of `handle` or of `turn`, and each opening that of
+/// `open` on images that a crash may leave. At each moment the nodes have the facts, by their
+/// force, and the messages of one run of the protocol's world. The premises: at most nine nodes,
+/// each of which was first opened on what `Record::format` left for its own number, and has a
+/// machine of the same basis; and no message that was not sent is delivered.
 pub fn headline<D: Disk, C: Command + Codec, M: Machine<C>>()
     ensures { (basis : M.Basis) (n : ℕ) (start : Group D C M M.Outcome M.Question M.Answer)
         (run : List (Happening D C M M.Outcome M.Question M.Answer)) → n ≤ 9
@@ -27,4 +28,13 @@ pub fn headline<D: Disk, C: Command + Codec, M: Machine<C>>()
         → AreAllowed C.octets (store_of M.Question M.client_id M.outcome)
         (M.is_answer basis) n start run
         → Promised (store_of M.Question M.client_id M.outcome) (M.is_answer basis) n start run }
+{}
+
+/// What the contracts of `Node::handle`, `Node::turn` and `Node::open` say is what a run allows. Of
+/// a node of a group that is not broken, an answer and a fault are things that can happen; and
+/// where it stops, between two calls or at any moment within one, and is opened again, that is one
+/// too. So `headline` speaks of every list of such calls.
+pub fn calls_are_allowed<D: Disk, C: Command + Codec, M: Machine<C>>()
+    ensures { (basis : M.Basis) (n : ℕ) → AllCallsAre D.state C.octets
+        (store_of M.Question M.client_id M.outcome) M.commands M.basis M.is_answer n basis }
 {}

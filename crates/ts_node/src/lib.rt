@@ -2,13 +2,16 @@
 //! machine that takes the learned commands.
 //!
 //! Each call of `Node::handle` is one event of the world of `ts_synod`, and what it keeps is on
-//! disk before it answers.
+//! disk before it answers. A call of `Node::turn` is one such event, and then the delivery of each
+//! message to the node itself that follows from it; what all of them keep is on disk before it
+//! answers, by one append, which a crash leaves done or undone as a whole.
 //!
 //! ```text
 //! // refused, it gives the disks and the machine back
 //! let mut node = Node::open(alloc, a, b, machine)?;
 //! let output = node.handle(&Input::Submit(command))?;              // Started, or Settled
 //! for message in output.messages { .. }                            // to itself too
+//! let output = node.turn(&Input::Submit(command))?;                // those to itself are taken
 //! let (a, b, machine) = node.close();
 //! ```
 //!
@@ -24,6 +27,18 @@
 //!   a compaction leaves the force of the facts, and the rest; `failed`, `broken`: broken after a
 //!   device's failure; `sound`, `config`, `basis`.
 //! - `Node::identity`: which node of which group it is, as its record has it.
+//! - `Node::turn`: `turned`: the same of a turn of the world's node: the event and the
+//!   deliveries of the messages to the node itself among the first 64 that it makes, in their
+//!   order; `given`: those that it took are not given out; `ends`: it leaves such a message
+//!   only where it has looked at 64, or where a record can't keep its facts with the others at
+//!   once; `alone`: an input that makes no such message is handled as by `handle`. A node alone
+//!   so knows a command after one append in place of four. Where memory is refused once the
+//!   roles are ahead of the record the node is broken, as after a device's failure, and nothing
+//!   of the turn is kept.
+//! - `headline`: what is promised of every run of nodes (`specs/Run`). `calls_are_allowed`:
+//!   these runs are the lists of calls that meet their contracts, with stops between and within
+//!   them.
+//! - `Node::is_broken`: a device failed, or memory was refused in the middle of a turn.
 //! - `Node::close`: the two disks and the machine.
 //!
 //! `IsSound` says that a node is one that `open` gave: the roles stand for its facts, the disks
@@ -39,9 +54,9 @@
 //! catching up, restarts, and stops that lose a step's output) from the start, and of at most three
 //! more from two points of a run in which one command is about to be chosen, or is chosen and the
 //! other is proposed (what is learned is chosen, one command is chosen at a position, and it was
-//! submitted). Neither proved nor tested: that anything is ever chosen; time. `handle` has as its
-//! condition that the node is one that `open` gave or an earlier `handle` left (`IsSound`), and
-//! that what arrives fits a record (`InputFits`).
+//! submitted); and the calls of a disk in one turn. Neither proved nor tested: that anything is
+//! ever chosen; time. `handle` and `turn` have as their condition that the node is one that `open`
+//! gave or an earlier call left (`IsSound`), and that what arrives fits a record (`InputFits`).
 #![tactic(auto)]
 
 mod feeding;
@@ -55,10 +70,13 @@ mod node;
 mod plan;
 mod planning;
 mod roles;
+mod room;
 mod submit;
+mod turn;
+mod turning;
 
 pub use identity::Identity;
 pub use input::{Input, NodeFault, Output, Reply};
-pub use laws::headline;
+pub use laws::{calls_are_allowed, headline};
 pub use machine::Machine;
 pub use node::{Node, Refused};

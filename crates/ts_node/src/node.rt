@@ -21,7 +21,7 @@ ghost use Rattle.ts_record.specs.Record.{OpensToForce};
 ghost use Rattle.ts_synod.specs.Force.{SameForce};
 ghost use Rattle.ts_record.specs.Opening.{IsFault, NothingNew};
 ghost use Rattle.ts_node.specs.Node.{Compacts, Failed, Handles, IsSound, Moments, config, fault_as};
-ghost use Rattle.ts_node.specs.Node.{facts, owner, volatile};
+ghost use Rattle.ts_node.specs.Node.{facts, is_broken, owner, volatile};
 
 use crate::identity::Identity;
 use crate::input::{Input, NodeFault, Output, Reply};
@@ -37,10 +37,13 @@ use ts_synod::{Codec, Command, Message};
 /// commands.
 #[derive(Drop)]
 pub struct Node<D: Disk, C: Codec, M> {
-    alloc: Global,
-    kept: Record<D, C>,
-    roles: Roles<C>,
-    machine: M,
+    pub(crate) alloc: Global,
+    pub(crate) kept: Record<D, C>,
+    pub(crate) roles: Roles<C>,
+    pub(crate) machine: M,
+    /// Whether the roles stand for facts of a turn that the record could not keep, since memory was
+    /// refused.
+    pub(crate) ahead: bool,
 }
 
 /// Why a node was not opened, its two disks and the machine.
@@ -63,7 +66,7 @@ impl<D: Disk, C: Command + Codec, M: Machine<C>> Node<D, C, M> {
             (D.state node.kept.a) (D.state node.kept.b)) }
         ensures sound { IfOk result (λ node. IsSound D.state C.octets M.commands node) }
         ensures restarted { IfOk result (λ node. volatile node ≡ initial) }
-        ensures whole { IfOk result (λ node. node.kept.broken ≡ false) }
+        ensures whole { IfOk result (λ node. is_broken node ≡ false) }
         // Which node it is is in the header of the disk in use.
         ensures owner { IfOk result (λ node. (choice : Choice)
             × IsChosen choice (D.state a).read (D.state b).read
@@ -106,6 +109,7 @@ impl<D: Disk, C: Command + Codec, M: Machine<C>> Node<D, C, M> {
                 kept,
                 roles,
                 machine,
+                ahead: false,
             }),
             Err(_) => {
                 let (a, b) = kept.close();
@@ -143,14 +147,29 @@ impl<D: Disk, C: Command + Codec, M: Machine<C>> Node<D, C, M> {
             kept,
             roles: _roles,
             machine,
+            ahead: _ahead,
         } = self;
         let (a, b) = kept.close();
         (a, b, machine)
     }
 
+    /// A device failed, or memory was refused to a turn whose roles were ahead of the record. The
+    /// node does nothing more until it is opened again.
+    pub fn is_broken(&self) -> bool
+        ensures broken { result ≡ is_broken self.now }
+        ensures whole { result ≡ false → self.now.kept.broken ≡ false }
+        ensures still { result ≡ false → self.now.ahead ≡ false }
+    {
+        if self.ahead {
+            return true;
+        }
+        self.kept.is_broken()
+    }
+
     /// Keeps the facts of a plan, and makes its change once they are kept.
-    fn commit(&mut self, plan: Plan<C>) -> Result<Vec<Message<C>>, NodeFault>
+    pub(crate) fn commit(&mut self, plan: Plan<C>) -> Result<Vec<Message<C>>, NodeFault>
         requires whole { self.old.kept.broken ≡ false }
+        requires still { self.old.ahead ≡ false }
         requires sound { IsSound D.state C.octets M.commands self.old }
         requires latest { IsLatest self.old.roles plan.change }
         requires fit { AllFit C.octets (facts_in plan.change) }
@@ -164,6 +183,7 @@ impl<D: Disk, C: Command + Codec, M: Machine<C>> Node<D, C, M> {
         ensures moments { Moments D.state C.octets self.old (facts_in plan.change) self.new }
         ensures sound { IsSound D.state C.octets M.commands self.new }
         ensures whole { OnOk result (self.new.kept.broken ≡ false) }
+        ensures ahead { self.new.ahead ≡ self.old.ahead }
         ensures fault { IfErr result (λ fault. (fault ≡ NodeFault.Memory)
             ⊎ (fault ≡ NodeFault.DiskFailed)) }
         ensures memory { IsErrOf result NodeFault.Memory
@@ -182,8 +202,9 @@ impl<D: Disk, C: Command + Codec, M: Machine<C>> Node<D, C, M> {
     }
 
     /// Makes one step of a rewrite of the record.
-    fn compact(&mut self) -> Result<Output<C, M::Outcome, M::Answer>, NodeFault>
+    pub(crate) fn compact(&mut self) -> Result<Output<C, M::Outcome, M::Answer>, NodeFault>
         requires whole { self.old.kept.broken ≡ false }
+        requires still { self.old.ahead ≡ false }
         requires sound { IsSound D.state C.octets M.commands self.old }
         ensures step { Compacts self.old result self.new }
         ensures exhausted { self.old.kept.generation + 1 ≡ 2 ^ 64
@@ -195,6 +216,7 @@ impl<D: Disk, C: Command + Codec, M: Machine<C>> Node<D, C, M> {
         ensures config { config self.new ≡ config self.old }
         ensures basis { M.basis self.new.machine ≡ M.basis self.old.machine }
         ensures whole { OnOk result (self.new.kept.broken ≡ false) }
+        ensures ahead { self.new.ahead ≡ self.old.ahead }
         ensures failed { IsErrOf result NodeFault.DiskFailed
             → (self.new.kept.broken ≡ true) × Failed D.state self.old self.new }
     {
@@ -219,7 +241,7 @@ impl<D: Disk, C: Command + Codec, M: Machine<C>> Node<D, C, M> {
             M.basis M.is_answer self.old input.now result self.new }
         ensures sound { IsSound D.state C.octets M.commands self.new }
     {
-        if self.kept.is_broken() {
+        if self.is_broken() {
             return Err(NodeFault::Broken);
         }
         match input {
@@ -234,6 +256,7 @@ impl<D: Disk, C: Command + Codec, M: Machine<C>> Node<D, C, M> {
         input: &Input<C, M::Question>,
     ) -> Result<Output<C, M::Outcome, M::Answer>, NodeFault>
         requires whole { self.old.kept.broken ≡ false }
+        requires still { self.old.ahead ≡ false }
         requires sound { IsSound D.state C.octets M.commands self.old }
         requires fits { InputFits C.octets input.now }
         requires event { input.now ≡ Input.Compact → ⊥ }
@@ -251,6 +274,7 @@ impl<D: Disk, C: Command + Codec, M: Machine<C>> Node<D, C, M> {
         ensures config { config self.new ≡ config self.old }
         ensures basis { M.basis self.new.machine ≡ M.basis self.old.machine }
         ensures whole { OnOk result (self.new.kept.broken ≡ false) }
+        ensures ahead { self.new.ahead ≡ self.old.ahead }
         ensures failed { IsErrOf result NodeFault.DiskFailed
             → (self.new.kept.broken ≡ true) × Failed D.state self.old self.new }
     {

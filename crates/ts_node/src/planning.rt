@@ -86,7 +86,7 @@ impl<C: Command> Roles<C> {
 
     /// The plan that answers a message. One for another node, or from a number that is no node,
     /// changes nothing.
-    fn plan_message<M: Machine<C>>(
+    pub fn plan_message<M: Machine<C>>(
         &mut self,
         machine: &mut M,
         message: &Message<C>,

@@ -32,7 +32,7 @@ use ts_cert::Cert;
 use ts_constraint::NameFault;
 use ts_policy::{Certificate, Policies};
 use ts_revoke::{Crls, Issuer, Status, status};
-use ts_sig::SignatureCheck;
+use ts_sig::{Message, SignatureCheck};
 
 fn has_begun(cert: &Cert<'_>, inputs: &Inputs<'_>) -> bool
     ensures { IsTrue result ↔ ((cert_in cert.now).tbsCertificate.validity.not_before.moment ≤ℤ
@@ -57,7 +57,7 @@ impl<'a> State<'a> {
         check.good(
             cert.signature_algorithm().whole,
             &self.key,
-            cert.tbs(),
+            &Message::of(cert.tbs()),
             cert.signature(),
         )
     }

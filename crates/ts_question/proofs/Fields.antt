@@ -12,7 +12,7 @@ use Rattle.ts_der.specs.ObjectIdentifier.{is_oid}
 use Rattle.ts_question.specs.declared.terms.Presence.{Presence}
 use Rattle.ts_question.specs.declared.terms.Terms.{Terms}
 use Rattle.ts_question.specs.declared.question.Target.{Target}
-use Rattle.ts_question.specs.declared.question.Target.TheVariants.{Chain, Search}
+use Rattle.ts_question.specs.declared.question.Target.TheVariants.{Chain, Search, Store, Log}
 use Rattle.ts_question.specs.Parts.{bits, blob8, blob32, optional}
 use Rattle.ts_question.specs.Reading.{◌>>=◌, provided, octet_at, optional_at, many_at, whole}
 use Rattle.ts_question.specs.Question.{Asked, is_position, are_subtrees, are_terms, are_certificates, is_target, flags_octet, policies_encoding, subtrees_encoding, certificates_encoding, terms_encoding, kind_of, target_encoding, encoding, TermsFit, TargetFits, Fits}
@@ -59,7 +59,7 @@ policies_part : Part policies_encoding (λ xs. (length xs < 256) × (nat_le (len
 unfolding policies_at
 policies_part = listed octet_part (λ n. nat_le n 32) oid_part
 
-subtrees_part : Part subtrees_encoding (λ xs. (length xs < 2 ^ 16) × (nat_le (length xs) 64 ≡ true) × AllByRecursion (λ c. length c < 2 ^ 16) xs) subtrees_at
+pub subtrees_part : Part subtrees_encoding (λ xs. (length xs < 2 ^ 16) × (nat_le (length xs) 64 ≡ true) × AllByRecursion (λ c. length c < 2 ^ 16) xs) subtrees_at
 unfolding subtrees_at
 subtrees_part = listed number16 (λ n. nat_le n 64) blob16_part
 
@@ -222,12 +222,12 @@ pub both_true : (a b : Bool) → a ≡ true → b ≡ true → a && b ≡ true
 both_true true b h k = k
 both_true false b h k = h
 
-subtrees_within : (xs : List (List ℕ)) → nat_le (length xs) 64 ≡ true → AllByRecursion (λ c. length c < 2 ^ 16) xs → are_subtrees xs ≡ true
+pub subtrees_within : (xs : List (List ℕ)) → nat_le (length xs) 64 ≡ true → AllByRecursion (λ c. length c < 2 ^ 16) xs → are_subtrees xs ≡ true
 subtrees_within xs few short =
     both_true (nat_le (length xs) 64) (list_all (λ s. nat_le (length s) 65535) xs) few
     (all_and (λ s. nat_le (length s) 65535) (λ s. nat_le (length s) 65535) (λ c. length c < 2 ^ 16) (λ c h. let k : nat_le (length c) 65535 ≡ true = le-leb (length c) 65535 (omega (arith, h)) in (k, k)) xs short).0
 
-subtrees_fit : (xs : List (List ℕ)) → are_subtrees xs ≡ true → (length xs < 2 ^ 16) × (nat_le (length xs) 64 ≡ true) × AllByRecursion (λ c. length c < 2 ^ 16) xs
+pub subtrees_fit : (xs : List (List ℕ)) → are_subtrees xs ≡ true → (length xs < 2 ^ 16) × (nat_le (length xs) 64 ≡ true) × AllByRecursion (λ c. length c < 2 ^ 16) xs
 subtrees_fit xs good =
     let few = first_true (nat_le (length xs) 64) (list_all (λ s. nat_le (length s) 65535) xs) good in
     let short = second_true (nat_le (length xs) 64) (list_all (λ s. nat_le (length s) 65535) xs) good in
@@ -413,6 +413,12 @@ after_anchor anchor = certificates_at 16 anchor.1 >>= chain_of anchor.0
 abbrev search_of : List (List ℕ) × List ℕ → Option (Target × List ℕ)
 search_of cs = answer (Search cs.0) cs.1
 
+abbrev store_from : ℕ × List ℕ → Option (Target × List ℕ)
+store_from from = answer (Store from.0) from.1
+
+abbrev log_from : ℕ × List ℕ → Option (Target × List ℕ)
+log_from from = answer (Log from.0) from.1
+
 target_take : (kind : ℕ) (octets : List ℕ) (t : Target) (rest : List ℕ) → IsBytes octets → target_at kind octets ≡ Some (t, rest) → Takes octets (target_encoding t) rest × Targeted kind t
 unfolding target_at
 target_take zero octets t rest bytes is = absurd (cc is)
@@ -426,7 +432,15 @@ target_take (suc (suc zero)) octets t rest bytes is =
     step (certificates_part 33) octets search_of (t, rest) bytes is
     (λ cs o1 e0 b1 f0 h0. made target_encoding (Targeted 2) octets o1 (Search cs) t rest h0 e0 b1
     (record { fits = tt; within = certificates_within 33 cs f0.1 f0.2; kind_is = refl }))
-target_take (suc (suc (suc kind))) octets t rest bytes is = absurd (cc is)
+target_take (suc (suc (suc zero))) octets t rest bytes is =
+    step number32 octets store_from (t, rest) bytes is
+    (λ from o1 e0 b1 f0 h0. made target_encoding (Targeted 3) octets o1 (Store from) t rest h0 e0 b1
+    (record { fits = lt-ltb from 4294967296 (omega (arith, f0)); within = refl; kind_is = refl }))
+target_take (suc (suc (suc (suc zero)))) octets t rest bytes is =
+    step number32 octets log_from (t, rest) bytes is
+    (λ from o1 e0 b1 f0 h0. made target_encoding (Targeted 4) octets o1 (Log from) t rest h0 e0 b1
+    (record { fits = lt-ltb from 4294967296 (omega (arith, f0)); within = refl; kind_is = refl }))
+target_take (suc (suc (suc (suc (suc kind))))) octets t rest bytes is = absurd (cc is)
 
 target_again : (t : Target) (rest : List ℕ) → TargetFits t → is_target t ≡ true → target_at (kind_of t) (target_encoding t ++ rest) ≡ Some (t, rest)
 unfolding target_at
@@ -436,6 +450,12 @@ target_again (Chain anchor cs) rest fits within =
     ∙ ap (λ r. r >>= chain_of anchor) ((certificates_part 16).again cs rest (certificates_fit 16 cs (omega arith) within))
 target_again (Search cs) rest fits within =
     ap (λ r. r >>= search_of) ((certificates_part 33).again cs rest (certificates_fit 33 cs (omega arith) within))
+target_again (Store from) rest fits within =
+    let small : from < 4294967296 = ltb-true from 4294967296 fits in
+    ap (λ r. r >>= store_from) (number32.again from rest (omega (arith, small)))
+target_again (Log from) rest fits within =
+    let small : from < 4294967296 = ltb-true from 4294967296 fits in
+    ap (λ r. r >>= log_from) (number32.again from rest (omega (arith, small)))
 
 -- ---- the question
 

@@ -3,3 +3,4 @@ pub mod Lengths
 pub mod Fields
 pub mod Loop
 pub mod Replies
+pub mod RowLaws

@@ -8,15 +8,16 @@ use Rattle.ts_der.specs.ObjectIdentifier.{is_oid}
 use Rattle.ts_question.specs.declared.reason.Reason.{Reason}
 use Rattle.ts_question.specs.declared.reason.Reason.TheVariants.{AnchorPurpose, Signature, TooEarly, Expired, Revoked, Undetermined, IssuerName, UnsupportedConstraint, NotPermitted, Excluded, PolicyRequired, MapsAny, NotCa, PathLength, KeyUsage, CriticalExtension, FinalPolicy, Purpose}
 use Rattle.ts_question.specs.declared.reply.Reply.{Reply}
-use Rattle.ts_question.specs.declared.reply.Reply.TheVariants.{Valid, Invalid, Found, NoPath, SearchLimit, NotYet, Malformed, NoAnchor, Limit}
+use Rattle.ts_question.specs.declared.reply.Reply.TheVariants.{Valid, Invalid, Found, NoPath, SearchLimit, NotYet, Malformed, NoAnchor, Limit, Page}
 use Rattle.ts_question.specs.Parts.{blob8}
+use Rattle.ts_question.specs.Question.{subtrees_encoding}
 use Rattle.ts_question.specs.Reading.{◌>>=◌, provided, octet_at, number_at, blob8_at, many_at, whole, lookup}
-use Rattle.ts_question.specs.QuestionReading.{oid_at}
+use Rattle.ts_question.specs.QuestionReading.{oid_at, subtrees_at}
 use Rattle.ts_question.specs.Reply.{Answered, is_distinct, are_places, are_countable, is_place, is_reply, number_of, detail, reason_encoding, accepted_encoding, tag_of, fields, encoding, DetailFits, FieldsFit, Fits}
-use Rattle.ts_question.specs.ReplyReading.{accepted_at, plain_reasons, with_rest, detail_at, reason_at, valid_at, invalid_at, found_at, not_yet_at, malformed_at, limit_at, bare, readers, reply_at, answer_at}
+use Rattle.ts_question.specs.ReplyReading.{accepted_at, plain_reasons, with_rest, detail_at, reason_at, valid_at, invalid_at, found_at, not_yet_at, malformed_at, limit_at, page_at, bare, readers, reply_at, answer_at}
 use Rattle.ts_question.proofs.Lengths.{first_true, second_true}
 use Rattle.ts_question.proofs.PartLaws.{IsBytes, Takes, Part, answer, step, test, provided_is, some_is, made, octet_part, number32, octets_part, blob8_part, many_part, whole_again}
-use Rattle.ts_question.proofs.Fields.{position_part, oid_part, both_true, all_and, all_from, oid_fits}
+use Rattle.ts_question.proofs.Fields.{position_part, oid_part, subtrees_part, subtrees_within, subtrees_fit, both_true, all_and, all_from, oid_fits}
 
 -- ---- tables
 
@@ -276,9 +277,24 @@ limit_take k octets r rest bytes is =
     (λ one same. subst (λ (p : Reply × List ℕ). Takes octets (fields p.0) p.1 × Replied k 9 p.0) same
     (record { is = e0 ∙ ap (λ m. m ∷ o1) (eqb-true n 1 one); more = b1 }, record { fits = tt; within = refl; tag = refl })))
 
+abbrev page_of : ℕ → List (List ℕ) × List ℕ → Option (Reply × List ℕ)
+page_of total rows = answer (Page total rows.0) rows.1
+
+abbrev after_total : ℕ × List ℕ → Option (Reply × List ℕ)
+after_total total = subtrees_at total.1 >>= page_of total.0
+
+page_take : (k : ℕ) → Reads k 10 page_at
+unfolding page_at
+page_take k octets r rest bytes is =
+    step number32 octets after_total (r, rest) bytes is
+    (λ total o1 e0 b1 f0 h0. step subtrees_part o1 (page_of total) (r, rest) b1 h0
+    (λ rows o2 e1 b2 f1 h1. made fields (Replied k 10) octets o2 (Page total rows) r rest h1
+    (e0 ∙ ap (λ l. to_be_bytes w32 total ++ l) e1 ∙ sym (append_assoc (to_be_bytes w32 total) (subtrees_encoding rows) o2)) b2
+    (record { fits = lt-ltb total 4294967296 (omega (arith, f0)); within = subtrees_within rows f1.1 f1.2; tag = refl })))
+
 rows_read : (k : ℕ) → AllByRecursion (λ (row : ℕ × (List ℕ → Option (Reply × List ℕ))). Reads k row.0 row.1) (readers k)
 rows_read k =
-    (valid_take k, (invalid_take k, (found_take k, (bare_take k 4 NoPath refl tt refl refl, (bare_take k 5 SearchLimit refl tt refl refl, (not_yet_take k, (malformed_take k, (bare_take k 8 NoAnchor refl tt refl refl, (limit_take k, tt)))))))))
+    (valid_take k, (invalid_take k, (found_take k, (bare_take k 4 NoPath refl tt refl refl, (bare_take k 5 SearchLimit refl tt refl refl, (not_yet_take k, (malformed_take k, (bare_take k 8 NoAnchor refl tt refl refl, (limit_take k, (page_take k, tt))))))))))
 
 reply_take : (k n : ℕ) → Reads k n (reply_at k n)
 unfolding reply_at
@@ -292,7 +308,7 @@ are_few : (places : List ℕ) → are_places places ≡ true → nat_le (length 
 are_few places good = first_true (nat_le (length places) 255) (slice_index places (length places - 1) == 1) (first_true (nat_le (length places) 255 && slice_index places (length places - 1) == 1) (is_distinct places) good)
 
 reply_again : (k : ℕ) (r : Reply) (rest : List ℕ) → FieldsFit r → is_reply k r ≡ true → reply_at k (tag_of r) (fields r ++ rest) ≡ Some (r, rest)
-unfolding reply_at valid_at invalid_at found_at not_yet_at malformed_at limit_at
+unfolding reply_at valid_at invalid_at found_at not_yet_at malformed_at limit_at page_at
 reply_again k (Valid anchor ps) rest fit within =
     ap valid_at (append_assoc anchor (accepted_encoding ps) rest)
     ∙ ap (λ r. r >>= after_anchor) ((octets_part 32).again anchor (accepted_encoding ps ++ rest) fit.0)
@@ -317,6 +333,11 @@ reply_again k (Malformed i f place) rest fit within =
     ap (λ r. r >>= malformed_of i f) (number32.again place rest (omega (arith, small)))
 reply_again k NoAnchor rest fit within = refl
 reply_again k Limit rest fit within = refl
+reply_again k (Page total rows) rest fit within =
+    let small : total < 4294967296 = ltb-true total 4294967296 fit in
+    ap page_at (append_assoc (to_be_bytes w32 total) (subtrees_encoding rows) rest)
+    ∙ ap (λ r. r >>= after_total) (number32.again total (subtrees_encoding rows ++ rest) (omega (arith, small)))
+    ∙ ap (λ r. r >>= page_of total) (subtrees_part.again rows rest (subtrees_fit rows within))
 
 -- ---- the answer
 

@@ -4,3 +4,6 @@ pub mod Question
 pub mod QuestionReading
 pub mod Reply
 pub mod ReplyReading
+pub mod Rows
+pub mod RowReading
+pub mod RowView

@@ -1,6 +1,7 @@
 -- What is asked of a node: its limits, and its one encoding.
-use Rattle.std.specs.Prelude.{◌≡◌, ◌&&◌, ℕ, Bool, true, nat_le, is_some, List, [], ◌∷◌, ◌++◌}
-use Rattle.std.specs.Prelude.{length, Option, Some, None, IfSome}
+use Rattle.std.specs.Prelude.{◌≡◌, ◌&&◌, ℕ, pos, Bool, true, false, nat_le, nat_lt, is_some, List}
+use Rattle.std.specs.Prelude.{[], ◌∷◌}
+use Rattle.std.specs.Prelude.{◌++◌, length, Option, Some, None, IfSome}
 use Rattle.std.specs.List.{flat_map, list_all}
 use Rattle.std.specs.Int.{to_be_bytes, w16, w32, w64, cast_unsigned}
 use Rattle.std.specs.Int.RustNames.{FitsSigned}
@@ -8,13 +9,31 @@ use Rattle.ts_der.specs.ObjectIdentifier.{is_oid}
 use Rattle.ts_question.specs.declared.terms.Flags.{Flags}
 use Rattle.ts_question.specs.declared.terms.Terms.{Terms}
 use Rattle.ts_question.specs.declared.question.Target.{Target}
-use Rattle.ts_question.specs.declared.question.Target.TheVariants.{Chain, Search}
+use Rattle.ts_question.specs.declared.question.Target.TheVariants.{Chain, Search, Store, Log}
 use Rattle.ts_question.specs.Parts.{bits, blob8, blob16, blob32, optional}
 
 -- what is asked
 pub record Asked : Type 0 where
   pub terms : Terms
   pub target : Target
+
+-- terms that ask for nothing, after the first k commands
+abbrev pub plain_terms : Option ℕ → Terms
+plain_terms k = record {
+  moment = pos 0;
+  flags = record {
+    explicit_policy = false;
+    inhibit_policy_mapping = false;
+    inhibit_any_policy = false;
+    hard = false;
+    use_deltas = false;
+  };
+  k = k;
+  purpose = None;
+  user_policies = [];
+  permitted_subtrees = [];
+  excluded_subtrees = [];
+}
 
 -- ---- limits
 
@@ -41,6 +60,8 @@ are_certificates most certificates = nat_le 1 (length certificates)
 abbrev pub is_target : Target → Bool
 is_target (Chain anchor certificates) = are_certificates 16 certificates
 is_target (Search certificates) = are_certificates 33 certificates
+is_target (Store from) = true
+is_target (Log from) = true
 
 abbrev pub is_within : Asked → Bool
 is_within q = are_terms q.terms && is_target q.target
@@ -77,12 +98,17 @@ terms_encoding t = to_be_bytes w64 (cast_unsigned w64 t.moment)
 abbrev pub kind_of : Target → ℕ
 kind_of (Chain anchor certificates) = 1
 kind_of (Search certificates) = 2
+kind_of (Store from) = 3
+kind_of (Log from) = 4
 
 abbrev pub target_encoding : Target → List ℕ
 target_encoding (Chain anchor certificates) = anchor ++ certificates_encoding certificates
 target_encoding (Search certificates) = certificates_encoding certificates
+target_encoding (Store from) = to_be_bytes w32 from
+target_encoding (Log from) = to_be_bytes w32 from
 
--- 1 for a chain and 2 for a search, the terms, and the certificates
+-- 1 for a chain, 2 for a search, 3 for the store and 4 for the log; the terms; and the
+-- certificates, or the number of rows before a page
 abbrev pub encoding : Asked → List ℕ
 encoding q = kind_of q.target ∷ (terms_encoding q.terms ++ target_encoding q.target)
 
@@ -96,6 +122,8 @@ pub record TermsFit (t : Terms) : Type 0 where
 abbrev pub TargetFits : Target → Type 0
 TargetFits (Chain anchor certificates) = length anchor ≡ 32
 TargetFits (Search certificates) = Unit {0}
+TargetFits (Store from) = nat_lt from 4294967296 ≡ true
+TargetFits (Log from) = nat_lt from 4294967296 ≡ true
 
 pub record Fits (q : Asked) : Type 0 where
   pub terms : TermsFit q.terms

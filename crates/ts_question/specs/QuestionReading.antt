@@ -6,7 +6,7 @@ use Rattle.ts_der.specs.ObjectIdentifier.{is_oid}
 use Rattle.ts_question.specs.declared.terms.Presence.{Presence}
 use Rattle.ts_question.specs.declared.terms.Terms.{Terms}
 use Rattle.ts_question.specs.declared.question.Target.{Target}
-use Rattle.ts_question.specs.declared.question.Target.TheVariants.{Chain, Search}
+use Rattle.ts_question.specs.declared.question.Target.TheVariants.{Chain, Search, Store, Log}
 use Rattle.ts_question.specs.Reading.{◌>>=◌, provided, octet_at, number_at, octets_at, blob8_at}
 use Rattle.ts_question.specs.Reading.{blob16_at, blob32_at, optional_at, many_at}
 use Rattle.ts_question.specs.Question.{Asked}
@@ -97,7 +97,13 @@ target_at (suc zero) octets = do
 target_at (suc (suc zero)) octets = do
   certificates ← certificates_at 33 octets
   Some (Search certificates.0, certificates.1)
-target_at (suc (suc (suc kind))) octets = None
+target_at (suc (suc (suc zero))) octets = do
+  from ← number_at w32 octets
+  Some (Store from.0, from.1)
+target_at (suc (suc (suc (suc zero)))) octets = do
+  from ← number_at w32 octets
+  Some (Log from.0, from.1)
+target_at (suc (suc (suc (suc (suc kind))))) octets = None
 
 unfoldable pub question_at : List ℕ → Option (Asked × List ℕ)
 question_at octets = do

@@ -16,8 +16,9 @@ use Rattle.ts_question.specs.declared.reason.Reason.TheVariants.{Purpose}
 use Rattle.ts_question.specs.declared.reply.Reply.{Reply}
 use Rattle.ts_question.specs.declared.reply.Reply.TheVariants.{Valid, Invalid, Found, NoPath}
 use Rattle.ts_question.specs.declared.reply.Reply.TheVariants.{SearchLimit, NotYet, Malformed}
-use Rattle.ts_question.specs.declared.reply.Reply.TheVariants.{NoAnchor, Limit}
+use Rattle.ts_question.specs.declared.reply.Reply.TheVariants.{NoAnchor, Limit, Page}
 use Rattle.ts_question.specs.Parts.{blob8}
+use Rattle.ts_question.specs.Question.{are_subtrees, subtrees_encoding}
 
 -- a reply, and the number of commands after which the store was looked at
 pub record Answered : Type 0 where
@@ -47,12 +48,14 @@ are_countable policies = nat_lt (length policies) 4294967296
 abbrev pub is_place : ℕ → Bool
 is_place position = nat_le 1 position && nat_le position 16
 
--- each field is in its range; a prefix that is not yet k is below it
+-- each field is in its range; a prefix that is not yet k is below it; the rows of a page are at
+-- most as many, and as long, as the subtrees of a kind
 abbrev pub is_reply : ℕ → Reply → Bool
 is_reply k (Valid anchor policies) = are_countable policies
 is_reply k (Invalid position reason) = is_place position
 is_reply k (Found anchor places policies) = are_places places && are_countable policies
 is_reply k (NotYet prefix) = nat_lt prefix k
+is_reply k (Page total rows) = are_subtrees rows
 is_reply k other = true
 
 abbrev pub is_answer : Answered → Bool
@@ -104,6 +107,7 @@ tag_of (NotYet prefix) = 6
 tag_of (Malformed index fault place) = 7
 tag_of NoAnchor = 8
 tag_of Limit = 9
+tag_of (Page total rows) = 10
 
 abbrev pub fields : Reply → List ℕ
 fields (Valid anchor policies) = anchor ++ accepted_encoding policies
@@ -115,6 +119,7 @@ fields (NotYet prefix) = to_be_bytes w32 prefix
 fields (Malformed index fault place) = index ∷ fault ∷ to_be_bytes w32 place
 fields NoAnchor = []
 fields Limit = 1 ∷ []
+fields (Page total rows) = to_be_bytes w32 total ++ subtrees_encoding rows
 
 -- four octets of k, the tag, and the fields
 abbrev pub encoding : Answered → List ℕ
@@ -132,6 +137,7 @@ FieldsFit (Invalid position reason) = DetailFits reason
 FieldsFit (Found anchor places policies) = (length anchor ≡ 32) × (list_all is_oid policies ≡ true)
 FieldsFit (NotYet prefix) = nat_lt prefix 4294967296 ≡ true
 FieldsFit (Malformed index fault place) = nat_lt place 4294967296 ≡ true
+FieldsFit (Page total rows) = nat_lt total 4294967296 ≡ true
 FieldsFit other = Unit {0}
 
 pub record Fits (a : Answered) : Type 0 where

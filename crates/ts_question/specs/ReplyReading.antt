@@ -13,10 +13,10 @@ use Rattle.ts_question.specs.declared.reason.Reason.TheVariants.{Purpose}
 use Rattle.ts_question.specs.declared.reply.Reply.{Reply}
 use Rattle.ts_question.specs.declared.reply.Reply.TheVariants.{Valid, Invalid, Found, NoPath}
 use Rattle.ts_question.specs.declared.reply.Reply.TheVariants.{SearchLimit, NotYet, Malformed}
-use Rattle.ts_question.specs.declared.reply.Reply.TheVariants.{NoAnchor, Limit}
+use Rattle.ts_question.specs.declared.reply.Reply.TheVariants.{NoAnchor, Limit, Page}
 use Rattle.ts_question.specs.Reading.{◌>>=◌, provided, octet_at, number_at, octets_at, blob8_at}
 use Rattle.ts_question.specs.Reading.{many_at, lookup}
-use Rattle.ts_question.specs.QuestionReading.{position_at, oid_at}
+use Rattle.ts_question.specs.QuestionReading.{position_at, oid_at, subtrees_at}
 use Rattle.ts_question.specs.Reply.{Answered, answered, are_places, is_place}
 
 unfoldable pub accepted_at : List ℕ → Option (List (List ℕ) × List ℕ)
@@ -84,6 +84,12 @@ limit_at octets = do
   one ← octet_at octets
   provided (one.0 == 1) (Limit, one.1)
 
+unfoldable pub page_at : List ℕ → Option (Reply × List ℕ)
+page_at octets = do
+  total ← number_at w32 octets
+  rows ← subtrees_at total.1
+  Some (Page total.0 rows.0, rows.1)
+
 -- a reply without fields
 abbrev pub bare : Reply → List ℕ → Option (Reply × List ℕ)
 bare reply octets = Some (reply, octets)
@@ -92,7 +98,7 @@ bare reply octets = Some (reply, octets)
 abbrev pub readers : ℕ → List (ℕ × (List ℕ → Option (Reply × List ℕ)))
 readers k = (1, valid_at) ∷ (2, invalid_at) ∷ (3, found_at) ∷ (4, bare NoPath)
     ∷ (5, bare SearchLimit) ∷ (6, not_yet_at k) ∷ (7, malformed_at) ∷ (8, bare NoAnchor)
-    ∷ (9, limit_at) ∷ []
+    ∷ (9, limit_at) ∷ (10, page_at) ∷ []
 
 unfoldable pub reply_at : ℕ → ℕ → List ℕ → Option (Reply × List ℕ)
 reply_at k tag octets = lookup tag (readers k) >>= λ read. read octets

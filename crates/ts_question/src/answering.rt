@@ -21,7 +21,8 @@ impl Answer {
     ///
     /// `OutOfLimits` exactly where k is above 1,000,000, the position of `Invalid` is not 1 to 16,
     /// the places of `Found` are more than 255, not distinct or don't end in 1, the prefix of
-    /// `NotYet` is not below k, or there are 2^32 policies.
+    /// `NotYet` is not below k, there are 2^32 policies, or the rows of a page are more than 64 or
+    /// longer than 65,535 octets.
     pub fn new(k: u32, reply: Reply) -> Result<Answer, OutOfLimits>
         ensures { let answered : Answered = record { k = k; reply = reply } in
             MatchResult result (λ a. (a ≡ answered) × Fits a) (λ _. is_answer answered ≡ false) }

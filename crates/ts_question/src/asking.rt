@@ -3,7 +3,7 @@
 ghost use Rattle.std.specs.Prelude.{◌≡◌, ◌++◌, ◌∷◌, true, false, map, Some, Ok, IfOk, IfSome, OnOk};
 ghost use Rattle.std.specs.Prelude.{MatchResult};
 ghost use Rattle.ts_question.specs.Question.{Asked, is_within, encoding, Fits};
-ghost use Rattle.ts_question.specs.declared.question.Target.TheVariants.{Chain, Search};
+ghost use Rattle.ts_question.specs.declared.question.Target.TheVariants.{Chain, Search, Store, Log};
 
 use crate::fault::ReadFault;
 use crate::limits::{are_terms, is_target, target_fits, terms_fit};
@@ -66,14 +66,30 @@ impl Question {
         checked(terms, Target::Search { certificates })
     }
 
-    /// What is asked beside the certificates.
+    /// A page of what the store holds, after so many rows. Of the terms k alone counts.
+    pub fn store(terms: Terms, from: u32) -> Result<Question, OutOfLimits>
+        ensures { let asked : Asked = record { terms = terms; target = Store from } in
+            MatchResult result (λ q. (q ≡ asked) × Fits q) (λ _. is_within asked ≡ false) }
+    {
+        checked(terms, Target::Store { from })
+    }
+
+    /// A page of the commands that the store took, after so many rows. Of the terms k alone counts.
+    pub fn log(terms: Terms, from: u32) -> Result<Question, OutOfLimits>
+        ensures { let asked : Asked = record { terms = terms; target = Log from } in
+            MatchResult result (λ q. (q ≡ asked) × Fits q) (λ _. is_within asked ≡ false) }
+    {
+        checked(terms, Target::Log { from })
+    }
+
+    /// What is asked beside the target.
     pub fn terms(&self) -> &Terms
         ensures { result.now ≡ self.now.terms }
     {
         &self.terms
     }
 
-    /// The certificates.
+    /// What is asked for.
     pub fn target(&self) -> &Target
         ensures target { result.now ≡ self.now.target }
         ensures fits { Fits self.now }

@@ -4,6 +4,9 @@ ghost use Rattle.std.specs.Prelude.{◌≡◌, ℕ, List};
 ghost use Rattle.ts_question.specs.Question.{Asked, encoding, Fits};
 ghost use Rattle.ts_question.specs.Reply.{Answered, encoding as answer_encoding};
 ghost use Rattle.ts_question.specs.Reply.{Fits as AnswerFits};
+ghost use Rattle.ts_question.specs.Rows.{AnchorLine, CrlLine, CommandLine};
+ghost use Rattle.ts_question.specs.Rows.{AnchorFits, CrlFits, CommandFits};
+ghost use Rattle.ts_question.specs.Rows.{anchor_encoding, crl_encoding, command_encoding};
 
 /// No two questions have one encoding, and no two lists of octets are one question's.
 pub fn one_question()
@@ -19,4 +22,14 @@ pub fn one_answer()
         → answer_encoding a ≡ answer_encoding other → a ≡ other }
     ensures octets { (octets others : List ℕ) (a : Answered) → octets ≡ answer_encoding a
         → others ≡ answer_encoding a → octets ≡ others }
+{}
+
+/// No two rows of a page have one encoding.
+pub fn one_row()
+    ensures anchor { (l other : AnchorLine) → AnchorFits l → AnchorFits other
+        → anchor_encoding l ≡ anchor_encoding other → l ≡ other }
+    ensures crl { (l other : CrlLine) → CrlFits l → CrlFits other
+        → crl_encoding l ≡ crl_encoding other → l ≡ other }
+    ensures command { (l other : CommandLine) → CommandFits l → CommandFits other
+        → command_encoding l ≡ command_encoding other → l ≡ other }
 {}

@@ -1,5 +1,5 @@
-//! What is asked of a node about a chain of certificates, and what it answers: plain values, each
-//! with one encoding.
+//! What is asked of a node about a chain of certificates, or for a page of what its store holds,
+//! and what it answers: plain values, each with one encoding.
 //!
 //! ```text
 //! // OutOfLimits exactly outside the limits
@@ -11,25 +11,29 @@
 //! let octets = answer.octets(alloc)?;
 //! ```
 //!
-//! Numbers are big endian. A question is 01 for a chain or 02 for a search; eight octets of the
-//! moment; an octet of flags (bit 0 explicit policy, 1 inhibit mapping, 2 inhibit anyPolicy, 3
-//! hard, 4 k is present, 5 a purpose is present, 6 use deltas); four octets of k; the purpose after
-//! an octet of its length; an octet of the number of user policies, and each like the purpose; two
-//! octets of the number of permitted subtrees, and each after two octets of its length; the
-//! excluded ones like them; of a chain the 32 octets of the anchor's id; and an octet of the number
-//! of certificates, and each after four octets of its length.
+//! Numbers are big endian. A question is 01 for a chain, 02 for a search, 03 for a page of the
+//! store or 04 for one of its log; eight octets of the moment; an octet of flags (bit 0 explicit
+//! policy, 1 inhibit mapping, 2 inhibit anyPolicy, 3 hard, 4 k is present, 5 a purpose is present,
+//! 6 use deltas); four octets of k; the purpose after an octet of its length; an octet of the
+//! number of user policies, and each like the purpose; two octets of the number of permitted
+//! subtrees, and each after two octets of its length; the excluded ones like them; of a chain the
+//! 32 octets of the anchor's id; and an octet of the number of certificates, and each after four
+//! octets of its length; for a page in their place four octets of the number of rows before it. Of
+//! the terms of a question for a page k alone counts.
 //!
 //! An answer is four octets of k, an octet of the reply's tag, and its fields (`specs/Reply`).
 //!
-//! - [`Question::chain`], [`Question::search`]: `OutOfLimits` exactly where `is_within`
-//!   (`specs/Question`) is false.
+//! - [`Question::chain`], [`Question::search`], [`Question::store`], [`Question::log`]:
+//!   `OutOfLimits` exactly where `is_within` (`specs/Question`) is false.
 //! - [`Answer::new`]: `OutOfLimits` exactly where `is_answer` (`specs/Reply`) is false.
 //! - [`Question::read`], [`Answer::read`]: `found`, `only`: what is read is encoded so, and what is
 //!   encoded so is read.
 //! - [`Question::octets`], [`Question::write`], [`Answer::octets`], [`Answer::write`]: the
 //!   encoding; `fits`: each value has one.
+//! - [`AnchorRow`], [`CrlRow`], [`CommandRow`]: the rows of a page (`specs/Rows`), lent. `read`:
+//!   `found`, `only`, as of a question; `write`: the encoding, of what fits.
 //! - [`laws::one_question`], [`laws::one_answer`]: no two values have one encoding, and no two
-//!   lists of octets are one value's.
+//!   lists of octets are one value's. [`laws::one_row`]: no two rows have one encoding.
 //! - [`parts`]: numbers and octets at the front of others, lent; each gives what its reading
 //!   (`specs/Reading`) gives.
 //!
@@ -55,6 +59,9 @@ mod reason;
 mod reply;
 mod reply_reading;
 mod reply_writing;
+mod row_reading;
+mod row_writing;
+mod rows;
 mod terms;
 mod writing;
 
@@ -66,5 +73,6 @@ pub use reading::{
 };
 pub use reason::Reason;
 pub use reply::{Answer, Reply};
+pub use rows::{AnchorRow, CommandRow, CrlRow};
 pub use terms::{Flags, Terms};
-pub use writing::push_blob32;
+pub use writing::{push_blob16, push_blob32, push_oids};

@@ -1,6 +1,6 @@
 //! The limits of a question.
 
-ghost use Rattle.std.specs.Prelude.{◌≡◌, nat_le, length};
+ghost use Rattle.std.specs.Prelude.{◌≡◌, nat_le, nat_lt, true, length};
 ghost use Rattle.std.specs.List.{list_all};
 ghost use Rattle.ts_question.specs.Question.{is_position, are_subtrees, are_terms};
 ghost use Rattle.ts_question.specs.Question.{are_certificates, is_target, TermsFit, TargetFits};
@@ -36,7 +36,7 @@ fn is_position(k: Option<u32>) -> bool
     }
 }
 
-fn are_subtrees(subtrees: &OctetStrings) -> bool
+pub(crate) fn are_subtrees(subtrees: &OctetStrings) -> bool
     ensures { result ≡ are_subtrees subtrees.now }
 {
     subtrees.len() <= MAX_SUBTREES && are_short(subtrees, MAX_SUBTREE)
@@ -65,6 +65,7 @@ pub(crate) fn is_target(target: &Target) -> bool
     match target {
         Target::Chain { certificates, .. } => are_certificates(MAX_CHAIN, certificates),
         Target::Search { certificates } => are_certificates(MAX_SEARCH, certificates),
+        Target::Store { .. } | Target::Log { .. } => true,
     }
 }
 
@@ -84,12 +85,17 @@ fn is_digest(digest: [u8; 32])
     ensures { length digest ≡ 32 }
 {}
 
-/// The certificates have an encoding, where they are within their limits.
+pub(crate) fn fits_four_octets(number: u32)
+    ensures { nat_lt number 4294967296 ≡ true }
+{}
+
+/// The target has an encoding, where it is within its limits.
 pub(crate) fn target_fits(target: &Target)
     ensures { TargetFits target.now }
 {
     match target {
         Target::Chain { anchor, .. } => is_digest(*anchor),
         Target::Search { .. } => {}
+        Target::Store { from } | Target::Log { from } => fits_four_octets(*from),
     }
 }

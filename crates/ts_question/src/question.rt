@@ -10,7 +10,7 @@ use std::marker::Model;
 #[derive(Clone, Copy, Debug, PartialEq, Eq)]
 pub struct OutOfLimits;
 
-/// The certificates of a question, in DER, which is not looked into.
+/// What is asked for. Certificates are DER, which is not looked into.
 #[derive(Debug, Drop)]
 pub enum Target {
     /// Whether this chain is valid.
@@ -23,6 +23,14 @@ pub enum Target {
     /// A valid chain to the first certificate, the leaf, through others, the pool.
     Search {
         certificates: OctetStrings,
+    },
+    /// A page of what the store holds, after so many rows.
+    Store {
+        from: u32,
+    },
+    /// A page of the commands that the store took, after so many rows.
+    Log {
+        from: u32,
     },
 }
 

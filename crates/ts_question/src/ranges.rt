@@ -1,10 +1,11 @@
 //! The ranges of a reply's fields.
 
-ghost use Rattle.std.specs.Prelude.{◌≡◌, ◌==◌, ◌-◌, ◌<◌, nat_lt, true, length, slice_index};
+ghost use Rattle.std.specs.Prelude.{◌≡◌, ◌==◌, ◌-◌, ◌<◌, length, slice_index, true};
 ghost use Rattle.std.specs.List.{list_any};
 ghost use Rattle.ts_question.specs.Reply.{is_distinct, are_places, are_countable, is_place};
 ghost use Rattle.ts_question.specs.Reply.{is_reply, DetailFits, FieldsFit};
 
+use crate::limits::{are_subtrees, fits_four_octets};
 use crate::lists::Oids;
 use crate::reading::MAX_CHAIN;
 use crate::reason::Reason;
@@ -73,6 +74,7 @@ pub(crate) fn is_reply(k: u32, reply: &Reply) -> bool
             ..
         } => are_places(places.as_slice()) && are_countable(policies),
         Reply::NotYet { prefix } => *prefix < k,
+        Reply::Page { rows, .. } => are_subtrees(rows),
         Reply::NoPath
         | Reply::SearchLimit
         | Reply::Malformed { .. }
@@ -84,10 +86,6 @@ pub(crate) fn is_reply(k: u32, reply: &Reply) -> bool
 /// An id has 32 octets.
 fn is_digest(digest: [u8; 32])
     ensures { length digest ≡ 32 }
-{}
-
-fn fits_four_octets(number: u32)
-    ensures { nat_lt number 4294967296 ≡ true }
 {}
 
 fn detail_fits(reason: &Reason)
@@ -118,6 +116,7 @@ pub(crate) fn fields_fit(reply: &Reply)
         }
         Reply::NotYet { prefix } => fits_four_octets(*prefix),
         Reply::Malformed { place, .. } => fits_four_octets(*place),
+        Reply::Page { total, .. } => fits_four_octets(*total),
         Reply::NoPath | Reply::SearchLimit | Reply::NoAnchor | Reply::Limit => {}
     }
 }

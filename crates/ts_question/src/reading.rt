@@ -161,7 +161,7 @@ fn subtrees_of(
 }
 
 #[tactic(auto, unfolding(crate::specs::QuestionReading::subtrees_at))]
-fn subtrees(alloc: Global, octets: &[u8]) -> Result<(OctetStrings, &[u8]), ReadFault>
+pub(crate) fn subtrees(alloc: Global, octets: &[u8]) -> Result<(OctetStrings, &[u8]), ReadFault>
     ensures { Gives (λ x. (x.0, x.1.now)) result (subtrees_at octets.now) }
 {
     let (count, rest) = number16(octets)?;
@@ -272,11 +272,19 @@ fn target(alloc: Global, kind: u8, octets: &[u8]) -> Result<(Target, &[u8]), Rea
             let (certificates, rest) = certificates(alloc, MAX_SEARCH, octets)?;
             Ok((Target::Search { certificates }, rest))
         }
+        3 => {
+            let (from, rest) = number32(octets)?;
+            Ok((Target::Store { from }, rest))
+        }
+        4 => {
+            let (from, rest) = number32(octets)?;
+            Ok((Target::Log { from }, rest))
+        }
         _ => Err(ReadFault::Form),
     }
 }
 
-/// The terms and the certificates of the question that the octets are.
+/// The terms and the target of the question that the octets are.
 #[tactic(auto, unfolding(crate::specs::QuestionReading::question_at))]
 pub(crate) fn question(alloc: Global, octets: &[u8]) -> Result<(Terms, Target), ReadFault>
     ensures { Gives (λ (x : Terms × Target). record { terms = x.0; target = x.1 }) result

@@ -1,6 +1,6 @@
 //! Replies.
 
-use crate::lists::{Oids, Places};
+use crate::lists::{OctetStrings, Oids, Places};
 use crate::reason::Reason;
 use std::marker::Model;
 
@@ -47,6 +47,16 @@ pub enum Reply {
     NoAnchor,
     /// The policies have more paths than a limit that nodes no longer have; never given.
     Limit,
+    /// A page of rows, of which there are so many in all. Each row is one of [`AnchorRow`],
+    /// [`CrlRow`] and [`CommandRow`], which are not looked into.
+    ///
+    /// [`AnchorRow`]: crate::AnchorRow
+    /// [`CrlRow`]: crate::CrlRow
+    /// [`CommandRow`]: crate::CommandRow
+    Page {
+        total: u32,
+        rows: OctetStrings,
+    },
 }
 
 /// A reply, and the number of commands after which the store was looked at, each field in its

@@ -5,13 +5,14 @@ ghost use Rattle.ts_question.specs.Reading.{Gives, whole, lookup};
 ghost use Rattle.ts_question.specs.Reply.{answered};
 ghost use Rattle.ts_question.specs.ReplyReading.{plain_reasons, accepted_at, detail_at, reason_at};
 ghost use Rattle.ts_question.specs.ReplyReading.{valid_at, invalid_at, found_at, not_yet_at};
-ghost use Rattle.ts_question.specs.ReplyReading.{malformed_at, limit_at, reply_at, answer_at};
+ghost use Rattle.ts_question.specs.ReplyReading.{malformed_at, limit_at, page_at, reply_at};
+ghost use Rattle.ts_question.specs.ReplyReading.{answer_at};
 
 use crate::fault::ReadFault;
 use crate::lists::{Oids, Places};
 use crate::parts::{blob8, number32, octet};
 use crate::ranges::{are_places, is_place};
-use crate::reading::{digest, oid, oids, position};
+use crate::reading::{digest, oid, oids, position, subtrees};
 use crate::reason::Reason;
 use crate::reply::Reply;
 use std::alloc::Global;
@@ -154,6 +155,15 @@ fn limit(octets: &[u8]) -> Result<(Reply, &[u8]), ReadFault>
     Ok((Reply::Limit, rest))
 }
 
+#[tactic(auto, unfolding(crate::specs::ReplyReading::page_at))]
+fn page(alloc: Global, octets: &[u8]) -> Result<(Reply, &[u8]), ReadFault>
+    ensures { Gives (λ x. (x.0, x.1.now)) result (page_at octets.now) }
+{
+    let (total, rest) = number32(octets)?;
+    let (rows, rest) = subtrees(alloc, rest)?;
+    Ok((Reply::Page { total, rows }, rest))
+}
+
 #[tactic(auto, unfolding(crate::specs::ReplyReading::reply_at))]
 fn reply(alloc: Global, k: u32, tag: u8, octets: &[u8]) -> Result<(Reply, &[u8]), ReadFault>
     ensures { Gives (λ x. (x.0, x.1.now)) result (reply_at k tag octets.now) }
@@ -168,6 +178,7 @@ fn reply(alloc: Global, k: u32, tag: u8, octets: &[u8]) -> Result<(Reply, &[u8])
         7 => malformed(octets),
         8 => Ok((Reply::NoAnchor, octets)),
         9 => limit(octets),
+        10 => page(alloc, octets),
         _ => Err(ReadFault::Form),
     }
 }

@@ -8,7 +8,7 @@ ghost use Rattle.ts_question.specs.Reply.{accepted_encoding, tag_of, fields};
 use crate::lists::{Oids, Places};
 use crate::reason::Reason;
 use crate::reply::Reply;
-use crate::writing::{push_oid, push_oids};
+use crate::writing::{push_oid, push_oids, push_subtrees};
 use std::alloc::AllocError;
 
 fn push_accepted(out: &mut Vec<u8>, policies: &Oids) -> Result<(), AllocError>
@@ -55,6 +55,7 @@ pub(crate) fn tag_of(reply: &Reply) -> u8
         Reply::Malformed { .. } => 7,
         Reply::NoAnchor => 8,
         Reply::Limit => 9,
+        Reply::Page { .. } => 10,
     }
 }
 
@@ -92,6 +93,10 @@ pub(crate) fn push_fields(out: &mut Vec<u8>, k: u32, reply: &Reply) -> Result<()
             out.extend_from_slice(&place.to_be_bytes())?;
         }
         Reply::Limit => out.push(1)?,
+        Reply::Page { total, rows } => {
+            out.extend_from_slice(&total.to_be_bytes())?;
+            push_subtrees(out, rows)?;
+        }
         Reply::NoPath | Reply::SearchLimit | Reply::NoAnchor => {}
     }
     Ok(())

@@ -1,6 +1,10 @@
 //! What is asked beside the certificates.
 
+ghost use Rattle.std.specs.Prelude.{◌≡◌};
+ghost use Rattle.ts_question.specs.Question.{plain_terms};
+
 use crate::lists::{OctetStrings, Oids};
+use std::alloc::Global;
 use ts_der::Oid;
 
 /// What a question sets, as the inputs of path validation (RFC 5280 6.1.1).
@@ -43,4 +47,27 @@ pub struct Terms {
     pub permitted_subtrees: OctetStrings,
     /// The subtrees in which no name may lie (6.1.1 (i)).
     pub excluded_subtrees: OctetStrings,
+}
+
+impl Terms {
+    /// The terms of a question that asks for nothing beside its target, after the first k commands.
+    pub fn plain(alloc: Global, k: Option<u32>) -> Terms
+        ensures { result ≡ plain_terms k }
+    {
+        Terms {
+            moment: 0,
+            flags: Flags {
+                explicit_policy: false,
+                inhibit_policy_mapping: false,
+                inhibit_any_policy: false,
+                hard: false,
+                use_deltas: false,
+            },
+            k,
+            purpose: None,
+            user_policies: Oids::new(Vec::new(alloc)),
+            permitted_subtrees: OctetStrings::empty(alloc),
+            excluded_subtrees: OctetStrings::empty(alloc),
+        }
+    }
 }

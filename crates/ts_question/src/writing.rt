@@ -27,7 +27,7 @@ pub(crate) fn push_oid(out: &mut Vec<u8>, oid: &Oid) -> Result<(), AllocError>
 }
 
 /// Writes object identifiers, one after another.
-pub(crate) fn push_oids(out: &mut Vec<u8>, oids: &[Oid]) -> Result<(), AllocError>
+pub fn push_oids(out: &mut Vec<u8>, oids: &[Oid]) -> Result<(), AllocError>
     ensures { OnOk result (out.new.items ≡ out.old.items ++ flat_map blob8 oids.now) }
 {
     for oid in oids {
@@ -46,7 +46,7 @@ fn push_policies(out: &mut Vec<u8>, policies: &Oids) -> Result<(), AllocError>
 }
 
 /// Writes octets after two octets of their length.
-fn push_blob16(out: &mut Vec<u8>, octets: &[u8]) -> Result<(), AllocError>
+pub fn push_blob16(out: &mut Vec<u8>, octets: &[u8]) -> Result<(), AllocError>
     requires { length octets.now < 2 ^ 16 }
     ensures { OnOk result (out.new.items ≡ out.old.items ++ blob16 octets.now) }
 {
@@ -66,7 +66,7 @@ fn push_subtrees_of(out: &mut Vec<u8>, subtrees: &[Vec<u8>]) -> Result<(), Alloc
     Ok(())
 }
 
-fn push_subtrees(out: &mut Vec<u8>, subtrees: &OctetStrings) -> Result<(), AllocError>
+pub(crate) fn push_subtrees(out: &mut Vec<u8>, subtrees: &OctetStrings) -> Result<(), AllocError>
     requires { are_subtrees subtrees.now ≡ true }
     ensures { OnOk result (out.new.items ≡ out.old.items ++ subtrees_encoding subtrees.now) }
 {
@@ -190,10 +190,12 @@ pub(crate) fn kind_of(target: &Target) -> u8
     match target {
         Target::Chain { .. } => 1,
         Target::Search { .. } => 2,
+        Target::Store { .. } => 3,
+        Target::Log { .. } => 4,
     }
 }
 
-/// Writes the certificates of a question.
+/// Writes the target of a question.
 pub(crate) fn push_target(out: &mut Vec<u8>, target: &Target) -> Result<(), AllocError>
     requires { is_target target.now ≡ true }
     ensures { OnOk result (out.new.items ≡ out.old.items ++ target_encoding target.now) }
@@ -207,6 +209,9 @@ pub(crate) fn push_target(out: &mut Vec<u8>, target: &Target) -> Result<(), Allo
             push_certificates(out, certificates)?;
         }
         Target::Search { certificates } => push_certificates(out, certificates)?,
+        Target::Store { from } | Target::Log { from } => {
+            out.extend_from_slice(&from.to_be_bytes())?;
+        }
     }
     Ok(())
 }

@@ -7,7 +7,7 @@ ghost use Rattle.ts_report.specs.Fields.{policies_in, reason_in, section_in};
 ghost use Rattle.ts_report.specs.Text.{oid_text};
 
 use crate::printed::{dotted, explanation};
-use crate::section::section;
+use crate::sections::section;
 use std::alloc::{AllocError, Global};
 use ts_cert::Cert;
 use ts_json::{VerdictFields, object_text};

@@ -14,7 +14,7 @@
 //!   is valid, the place, the reason and its section, the policies and whether revocation was looked
 //!   at; besides the names of the certificate and of the anchor, and the second line of the text.
 //! - [`reason_line`]: a line of printable characters on a certificate of a chain and a reason, for
-//!   who has both from elsewhere.
+//!   who has both from elsewhere. [`section`]: the RFC and its section that a reason is of.
 //!
 //! # Not promised
 //!
@@ -24,8 +24,9 @@
 
 mod fields;
 mod printed;
-mod section;
+mod sections;
 mod words;
 
 pub use fields::json;
 pub use printed::{reason_line, text};
+pub use sections::section;

@@ -36,7 +36,7 @@ pub(crate) fn is_signed<S: SignatureCheck>(crl: &Crl<'_>, q: &Question<'_>, chec
     check.good(
         crl.signature_algorithm().whole,
         &q.issuer.key,
-        crl.tbs(),
+        &crl.signed(),
         crl.signature(),
     )
 }

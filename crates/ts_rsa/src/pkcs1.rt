@@ -9,7 +9,7 @@ ghost use Rattle.ts_rsa.specs.Tests.{pkcs1_accepts};
 use crate::key::{KeyBounds, OCTETS, is_key};
 use crate::opened::write_opened;
 use arrayvec::ArrayVec;
-use ts_digest::{Hash, append, hash_of_message};
+use ts_digest::{Hash, Message, append};
 
 /// How many octets a DigestInfo has at most.
 const INFO_OCTETS: usize = 83;
@@ -42,21 +42,21 @@ fn prefix(hash: Hash) -> [u8; 19]
 
 /// The DER encoding of the DigestInfo of a message.
 #[tactic(auto, unfolding(crate::specs::Pkcs1::digest_info))]
-fn info_of(hash: Hash, message: &[u8]) -> ArrayVec<u8, INFO_OCTETS>
-    ensures { result.items ≡ digest_info hash message.now }
+fn info_of(hash: Hash, message: &Message<'_>) -> ArrayVec<u8, INFO_OCTETS>
+    ensures { result.items ≡ digest_info hash message.now.octets.now }
 {
     let mut info = ArrayVec::new();
     append(&mut info, &prefix(hash));
-    append(&mut info, hash_of_message(hash, message).as_slice());
+    append(&mut info, message.hash_by(hash).as_slice());
     info
 }
 
 /// The encoded message of `len` octets; `None` if these are too few.
-fn encode(hash: Hash, message: &[u8], len: usize) -> Option<ArrayVec<u8, OCTETS>>
+fn encode(hash: Hash, message: &Message<'_>, len: usize) -> Option<ArrayVec<u8, OCTETS>>
     requires { len ≤ OCTETS }
     ensures found { IfSome result
-        (λ octets. octets.items ≡ encoded_around (digest_info hash message.now) len) }
-    ensures none { IsNone result ↔ (len < length (digest_info hash message.now) + 11) }
+        (λ octets. octets.items ≡ encoded_around (digest_info hash message.now.octets.now) len) }
+    ensures none { IsNone result ↔ (len < length (digest_info hash message.now.octets.now) + 11) }
 {
     let info = info_of(hash, message);
     if len < info.len() + 11 {
@@ -79,12 +79,12 @@ fn is_valid(
     modulus: &[u8],
     exponent: u64,
     hash: Hash,
-    message: &[u8],
+    message: &Message<'_>,
     signature: &[u8],
 ) -> bool
     ensures { IsTrue result ↔ (IsKey bounds modulus.now exponent
         × IsPkcs1Signature (os2ip modulus.now) exponent (length modulus.now) hash
-        message.now signature.now) }
+        message.now.octets.now signature.now) }
 {
     if !is_key(bounds, modulus, exponent) {
         return false;
@@ -110,14 +110,14 @@ pub fn is_pkcs1_signature(
     modulus: &[u8],
     exponent: u64,
     hash: Hash,
-    message: &[u8],
+    message: &Message<'_>,
     signature: &[u8],
 ) -> bool
     ensures answer { result
-        ≡ pkcs1_accepts bounds modulus.now exponent hash message.now signature.now }
+        ≡ pkcs1_accepts bounds modulus.now exponent hash message.now.octets.now signature.now }
     ensures exactly { IsTrue result ↔ (IsKey bounds modulus.now exponent
         × IsPkcs1Signature (os2ip modulus.now) exponent (length modulus.now) hash
-        message.now signature.now) }
+        message.now.octets.now signature.now) }
 {
     is_valid(bounds, modulus, exponent, hash, message, signature)
 }

@@ -10,7 +10,7 @@ ghost use Rattle.ts_rsa.specs.Tests.{pss_accepts};
 use crate::key::{KeyBounds, OCTETS, bits_of, is_key};
 use crate::mgf1::unmask;
 use crate::opened::write_opened;
-use ts_digest::{Hash, hash_of_message, hash_of_parts, size_of_hash};
+use ts_digest::{Hash, Message, hash_of_parts, size_of_hash};
 
 /// Whether all octets are 0.
 fn are_zero(octets: &[u8]) -> bool
@@ -65,12 +65,12 @@ fn write_data_block(block: &mut [u8], em: &[u8], bits: usize, hash: Hash)
 
 /// Whether a data block is zeros, 1 and the salt, and H is the hash of the message and the salt
 /// (9.1.2, steps 10 to 14).
-fn is_opened(block: &[u8], em: &[u8], hash: Hash, message: &[u8]) -> bool
+fn is_opened(block: &[u8], em: &[u8], hash: Hash, message: &Message<'_>) -> bool
     requires long_enough { 2 * hash_size hash + 2 ≤ length em.now }
     requires whole { length block.now ≡ length em.now - hash_size hash - 1 }
     ensures { IsTrue result ↔ ((block.now
         ≡ replicate (zeros_in hash em.now) 0 ++ 1 ∷ drop (zeros_in hash em.now + 1) block.now)
-        × (hash_in hash em.now ≡ hash_of hash (replicate 8 0 ++ hash_of hash message.now
+        × (hash_in hash em.now ≡ hash_of hash (replicate 8 0 ++ hash_of hash message.now.octets.now
         ++ drop (zeros_in hash em.now + 1) block.now))) }
 {
     let place = em.len() - 2 * size_of_hash(hash) - 2;
@@ -81,17 +81,17 @@ fn is_opened(block: &[u8], em: &[u8], hash: Hash, message: &[u8]) -> bool
         return false;
     }
     let (_, salt) = block.split_at(place + 1);
-    let inner = hash_of_message(hash, message);
+    let inner = message.hash_by(hash);
     let outer = hash_of_parts(hash, &[0; 8], inner.as_slice(), salt);
     are_same(hash_part(em, hash), outer.as_slice())
 }
 
 /// Whether octets encode the message in so many bits (9.1.2).
-fn is_pss_encoding(em: &[u8], bits: usize, hash: Hash, message: &[u8]) -> bool
+fn is_pss_encoding(em: &[u8], bits: usize, hash: Hash, message: &Message<'_>) -> bool
     requires limit { length em.now ≤ 1024 }
     requires bits_within { bits ≤ 8 * length em.now }
     requires bits_near { 8 * length em.now ≤ bits + 8 }
-    ensures { IsTrue result ↔ IsPssEncoding hash bits message.now em.now }
+    ensures { IsTrue result ↔ IsPssEncoding hash bits message.now.octets.now em.now }
 {
     let size = size_of_hash(hash);
     if em.len() < 2 * size + 2 {
@@ -115,12 +115,12 @@ fn is_valid(
     modulus: &[u8],
     exponent: u64,
     hash: Hash,
-    message: &[u8],
+    message: &Message<'_>,
     signature: &[u8],
 ) -> bool
     ensures { IsTrue result ↔ (IsKey bounds modulus.now exponent
         × IsPssSignature (os2ip modulus.now) exponent (length modulus.now)
-        (bit_length modulus.now) hash message.now signature.now) }
+        (bit_length modulus.now) hash message.now.octets.now signature.now) }
 {
     if !is_key(bounds, modulus, exponent) {
         return false;
@@ -149,14 +149,14 @@ pub fn is_pss_signature(
     modulus: &[u8],
     exponent: u64,
     hash: Hash,
-    message: &[u8],
+    message: &Message<'_>,
     signature: &[u8],
 ) -> bool
     ensures answer { result
-        ≡ pss_accepts bounds modulus.now exponent hash message.now signature.now }
+        ≡ pss_accepts bounds modulus.now exponent hash message.now.octets.now signature.now }
     ensures exactly { IsTrue result ↔ (IsKey bounds modulus.now exponent
         × IsPssSignature (os2ip modulus.now) exponent (length modulus.now)
-        (bit_length modulus.now) hash message.now signature.now) }
+        (bit_length modulus.now) hash message.now.octets.now signature.now) }
 {
     is_valid(bounds, modulus, exponent, hash, message, signature)
 }

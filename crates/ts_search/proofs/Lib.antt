@@ -6,3 +6,4 @@ pub mod Trying
 pub mod OneList
 pub mod OneAnswer
 pub mod Passing
+pub mod DeadFronts

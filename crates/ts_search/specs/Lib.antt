@@ -1,4 +1,5 @@
 pub mod Candidates
+pub mod Dead
 pub mod Levels
 pub mod Search
 pub mod Trial

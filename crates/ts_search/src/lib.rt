@@ -25,10 +25,13 @@
 //!
 //! Only tested: that a search with ample memory answers. Neither proved nor tested: time. An anchor
 //! that has not the name of a candidate's first issuer is passed over before a signature is
-//! computed; a chain of each other candidate is judged anew, its signatures included.
+//! computed. What fails at the front of a candidate, by a condition that looks at that front alone
+//! (the signature, the validity, revocation, the issuer's name), is judged once for each anchor,
+//! however many candidates begin so.
 #![tactic(auto)]
 
 mod answer;
+mod fronts;
 mod issuers;
 pub mod laws;
 mod levels;

@@ -6,9 +6,10 @@ ghost use Rattle.ts_search.specs.Search.{IsAnswer};
 ghost use Rattle.ts_search.specs.View.{search_among, search_in};
 
 use crate::answer::Answer;
+use crate::fronts::no_fronts;
 use crate::issuers::all_issuers;
 use crate::levels::{leaf_alone, longer};
-use crate::trial::first_valid;
+use crate::trial::Trial;
 use std::alloc::{AllocError, Global};
 use ts_cert::Cert;
 use ts_path::{Anchor, Inputs};
@@ -54,24 +55,25 @@ fn search_all<'a, S: SignatureCheck>(
     ensures { IfOk result (IsAnswer
         (search_among certificates.now anchors.now inputs.now crls.now (S.accepts check.now))) }
 {
+    let trial = Trial {
+        alloc,
+        certificates,
+        anchors,
+        inputs,
+        crls,
+        check,
+    };
+    let mut fronts = no_fronts(alloc, anchors.len())?;
     let rows = all_issuers(alloc, certificates)?;
     let mut chains = leaf_alone(alloc)?;
     let mut left = MAX_CANDIDATES;
     for _above in 0..MAX_LENGTH {
         if left < chains.len() {
             let tried = &chains[..left];
-            let found = first_valid(alloc, certificates, anchors, inputs, crls, check, tried)?;
+            let found = trial.first_valid(tried, &mut fronts)?;
             return Ok(found.unwrap_or(Answer::SearchLimit));
         }
-        if let Some(found) = first_valid(
-            alloc,
-            certificates,
-            anchors,
-            inputs,
-            crls,
-            check,
-            &chains,
-        )? {
+        if let Some(found) = trial.first_valid(&chains, &mut fronts)? {
             return Ok(found);
         }
         left -= chains.len();

@@ -4,6 +4,7 @@ use Rattle.std.proofs.lemmas.Bool.{leb-false, leb-true}
 use Rattle.std.specs.Prelude.{nat_le}
 use Rattle.ts_disk.specs.Disk.{State}
 use Rattle.ts_synod.specs.declared.message.Fact.{Fact}
+use Rattle.ts_synod.specs.declared.message.Message.{Message}
 use Rattle.ts_synod.specs.Config.{Config}
 use Rattle.ts_synod.specs.Force.{SameForce, log_of}
 use Rattle.ts_synod.specs.Laws.{node_with}
@@ -22,11 +23,10 @@ use Rattle.ts_node.specs.declared.input.Output.{Output}
 use Rattle.ts_node.specs.declared.input.NodeFault.{NodeFault}
 use Rattle.ts_node.specs.declared.input.Reply.{Reply}
 use Rattle.ts_node.specs.declared.input.Reply.TheVariants as replies
-use Rattle.ts_node.specs.Inputs.{IsReply}
-use Rattle.ts_node.specs.Node.{config, facts, volatile}
+use Rattle.ts_node.specs.Inputs.{IsInput, IsReply}
+use Rattle.ts_node.specs.Node.{Rewrites, config, facts, is_broken, volatile}
 use Rattle.ts_serve.specs.Replies.{HasFrame, IsWithin}
-use Rattle.ts_node.specs.Call.{IsCall}
-use Rattle.ts_store.specs.Octets.{octets_of}
+use Rattle.ts_serve.specs.Turn.{Calls}
 
 -- of the world's replies: a prefix that is not yet k is below it
 abbrev InRange : world.Reply Outcome Asked (List Command) → Type 0
@@ -90,30 +90,41 @@ module _ {D M B : Type 0} (state : D → State) (store : Store Command Outcome (
   itself : (fs : List (Fact Command)) → SameForce fs fs
   itself fs = record { used = refl; promised = λ p. refl; taken = λ p. refl; learned = λ p. refl }
 
-  reply_framed : (old new : Node D Command M) (input : Input Command Asked) (output : Output Command Outcome Answered) → IsCall state octets_of store basis is_answer old input (Ok output) new → IsWithin input → old.kept.broken ≡ false → HasFrame output.reply
-  reply_framed old new (inputs.Deliver m) output call within whole =
-      framed (is_answer (basis old.machine)) output.reply world.Done (call.step whole (facts old) (m ∷ []) (world.Deliver 0) (itself (facts old)) refl).reply tt
-  reply_framed old new (inputs.Submit c) output call within whole =
-      framed (is_answer (basis old.machine)) output.reply _ (call.step whole (facts old) [] (world.Submit c) (itself (facts old)) refl).reply
+  -- the reply says that of the world's step, whatever was sent before
+  abbrev Says : Node D Command M → Input Command Asked → Reply Outcome Answered → Type 0
+  Says old input reply = (sent : List (Message Command)) (event : world.Input Command Asked) → IsInput sent input event
+      → IsReply (is_answer (basis old.machine)) reply (world.step store (config old) (node_with (facts old) (volatile old)) sent event).reply
+
+  reply_framed : (old : Node D Command M) (input : Input Command Asked) (reply : Reply Outcome Answered) → Says old input reply → (input ≡ inputs.Compact → HasFrame reply) → IsWithin input → HasFrame reply
+  reply_framed old (inputs.Deliver m) reply said compacts within =
+      framed (is_answer (basis old.machine)) reply world.Done (said (m ∷ []) (world.Deliver 0) refl) tt
+  reply_framed old (inputs.Submit c) reply said compacts within =
+      framed (is_answer (basis old.machine)) reply _ (said [] (world.Submit c) refl)
       (submit_in_range store (config old) (node_with (facts old) (volatile old)) c (settling store (prefix (log_of (facts old))) (store.id_of c)))
-  reply_framed old new (inputs.Ask k q) output call within whole =
-      framed (is_answer (basis old.machine)) output.reply _ (call.step whole (facts old) [] (world.Question k q) (itself (facts old)) (refl, refl)).reply
+  reply_framed old (inputs.Ask k q) reply said compacts within =
+      framed (is_answer (basis old.machine)) reply _ (said [] (world.Question k q) (refl, refl))
       (question_in_range store (prefix (log_of (facts old))) k q within)
-  reply_framed old new (inputs.Outcome id) output call within whole =
-      framed (is_answer (basis old.machine)) output.reply _ (call.step whole (facts old) [] (world.Outcome id) (itself (facts old)) refl).reply
+  reply_framed old (inputs.Outcome id) reply said compacts within =
+      framed (is_answer (basis old.machine)) reply _ (said [] (world.Outcome id) refl)
       (outcome_in_range store id (settling store (prefix (log_of (facts old))) id))
-  reply_framed old new inputs.CatchUp output call within whole =
-      framed (is_answer (basis old.machine)) output.reply world.Done (call.step whole (facts old) [] world.CatchUp (itself (facts old)) tt).reply tt
-  reply_framed old new inputs.Status output call within whole =
-      framed (is_answer (basis old.machine)) output.reply _ (call.step whole (facts old) [] world.Status (itself (facts old)) tt).reply tt
-  reply_framed old new inputs.Compact output call within whole =
-      let rewrites = (call.compacts whole refl).0 in subst HasFrame (sym rewrites.reply) tt
+  reply_framed old inputs.CatchUp reply said compacts within =
+      framed (is_answer (basis old.machine)) reply world.Done (said [] world.CatchUp tt) tt
+  reply_framed old inputs.Status reply said compacts within =
+      framed (is_answer (basis old.machine)) reply _ (said [] world.Status tt) tt
+  reply_framed old inputs.Compact reply said compacts within = compacts refl
+
+  rewritten : (old new : Node D Command M) (output : Output Command Outcome Answered) → Rewrites old output new → HasFrame output.reply
+  rewritten old new output rewrites = subst HasFrame (sym rewrites.reply) tt
 
   -- a broken node answers no reply
-  has_frame : (old new : Node D Command M) (input : Input Command Asked) (output : Output Command Outcome Answered) → IsCall state octets_of store basis is_answer old input (Ok output) new → IsWithin input → HasFrame output.reply
-  has_frame old new input output call within =
-      bool_cases old.kept.broken (λ broken. (let h = call.broken broken in absurd (cc (h.0)))) (reply_framed old new input output call within)
+  has_frame : (takes_own : Bool) (old new : Node D Command M) (input : Input Command Asked) (output : Output Command Outcome Answered) → Calls state store basis is_answer takes_own old input (Ok output) new → IsWithin input → HasFrame output.reply
+  has_frame false old new input output call within =
+      bool_cases (is_broken old) (λ broken. (let h = call.broken broken in absurd (cc (h.0))))
+      (λ whole. reply_framed old input output.reply (λ sent event is. (call.step whole (facts old) sent event (itself (facts old)) is).reply) (λ is. rewritten old new output (call.compacts whole is).0) within)
+  has_frame true old new input output call within =
+      bool_cases (is_broken old) (λ broken. (let h = call.broken broken in absurd (cc (h.0))))
+      (λ whole. reply_framed old input output.reply (λ sent event is. (call.turned whole (facts old) sent event (itself (facts old)) is).handles.reply) (λ is. rewritten old new output (call.compacts whole is).0) within)
 
-  pub all_framed : (old new : Node D Command M) (input : Input Command Asked) (result : Result (Output Command Outcome Answered) NodeFault) → IsCall state octets_of store basis is_answer old input result new → IsWithin input → IfOk result (λ output. HasFrame output.reply)
-  all_framed old new input (Ok output) call within = has_frame old new input output call within
-  all_framed old new input (Err fault) call within = tt
+  pub all_framed : (takes_own : Bool) (old new : Node D Command M) (input : Input Command Asked) (result : Result (Output Command Outcome Answered) NodeFault) → Calls state store basis is_answer takes_own old input result new → IsWithin input → IfOk result (λ output. HasFrame output.reply)
+  all_framed takes_own old new input (Ok output) call within = has_frame takes_own old new input output call within
+  all_framed takes_own old new input (Err fault) call within = tt

@@ -1,6 +1,6 @@
 -- A server: a node, and an outbox of its messages. What it does with one request.
-use Rattle.std.specs.Prelude.{◌≡◌, ◌+◌, ◌||◌, List, [], ◌∷◌, ◌++◌, map, take, length}
-use Rattle.std.specs.Prelude.{Result}
+use Rattle.std.specs.Prelude.{◌≡◌, ◌||◌, List, [], ◌∷◌, ◌++◌, map, take, length}
+use Rattle.std.specs.Prelude.{Bool, true, false, Result}
 use Rattle.ts_disk.specs.Disk.{State}
 use Rattle.ts_synod.specs.Store.{Store}
 use Rattle.ts_store.specs.declared.command.Command.{Command}
@@ -11,7 +11,9 @@ use Rattle.ts_node.specs.declared.input.Input.{Input}
 use Rattle.ts_node.specs.declared.input.Input.TheVariants as inputs
 use Rattle.ts_node.specs.declared.input.Output.{Output}
 use Rattle.ts_node.specs.declared.input.NodeFault.{NodeFault}
+use Rattle.ts_node.specs.declared.node.Node.{Node}
 use Rattle.ts_node.specs.Call.{IsCall}
+use Rattle.ts_node.specs.Turn.{IsTurn}
 use Rattle.ts_store.specs.Octets.{octets_of}
 use Rattle.ts_wire.specs.declared.frame.Frame.{Frame}
 use Rattle.ts_wire.specs.declared.frame.Frame.TheVariants as frames
@@ -22,15 +24,25 @@ use Rattle.ts_serve.specs.Replies.{answer_to, is_failure, messages_of}
 module _ {D M B : Type 0} (state : D → State)
     (store : Store Command Outcome (List Command) Asked (List Command)) (basis : M → B)
     (is_answer : B → List Command → Asked → Answered → Type 0) where
-  -- The node takes the input. Its reply is the answer, and its messages go after those in the
-  -- outbox, of which the first 256 stay. Whether a device failed is remembered.
+  -- the node takes the input; or, where it is to take its own messages too, those that follow from
+  -- it, in one turn
+  abbrev pub Calls : Bool → Node D Command M → Input Command Asked
+      → Result (Output Command Outcome Answered) NodeFault → Node D Command M → Type 0
+  Calls false old input result new =
+      IsCall state octets_of store basis is_answer old input result new
+  Calls true old input result new =
+      IsTurn state octets_of store basis is_answer old input result new
+
+  -- The node takes the input. Its reply is the answer, and the messages that it gives go after
+  -- those in the outbox, of which the first 256 stay. Whether the node broke is remembered.
   pub record Handled (old : Server D M) (input : Input Command Asked) (replies : List Frame)
       (new : Server D M) : Type 0 where
     pub result : Result (Output Command Outcome Answered) NodeFault
-    pub call : IsCall state octets_of store basis is_answer old.node input result new.node
+    pub call : Calls old.takes_own old.node input result new.node
     pub said : replies ≡ answer_to result ∷ []
     pub outbox : new.outbox ≡ take 256 (old.outbox ++ messages_of result)
     pub failed : new.failed ≡ (old.failed || is_failure result)
+    pub takes_own : new.takes_own ≡ old.takes_own
 
   -- the outbox's messages are given, and their count; the outbox is empty
   pub record Given (old : Server D M) (replies : List Frame) (new : Server D M) : Type 0 where
@@ -38,6 +50,7 @@ module _ {D M B : Type 0} (state : D → State)
     pub outbox : new.outbox ≡ []
     pub node : new.node ≡ old.node
     pub failed : new.failed ≡ old.failed
+    pub takes_own : new.takes_own ≡ old.takes_own
 
   -- which node of which group it is, as its record has it, is answered; nothing changes
   pub record Identified (old : Server D M) (replies : List Frame) (new : Server D M) : Type 0 where

@@ -1,6 +1,7 @@
 //! A node that is served.
 
-ghost use Rattle.std.specs.Prelude.{◌≡◌, ◌∷◌, ◌++◌, [], false, map, OnOk, OnErr, MatchResult};
+ghost use Rattle.std.specs.Prelude.{◌≡◌, ◌∷◌, ◌++◌, [], false, true, map, OnOk, OnErr};
+ghost use Rattle.std.specs.Prelude.{MatchResult};
 ghost use Rattle.std.specs.Io.KnownBytes.{Appends};
 ghost use Rattle.ts_question.specs.Question.{Asked};
 ghost use Rattle.ts_node.specs.Machine.{store_of};
@@ -10,7 +11,7 @@ ghost use Rattle.ts_store.specs.Octets.{octets_of};
 ghost use Rattle.ts_wire.specs.Frames.{Fits};
 ghost use Rattle.ts_wire.specs.declared.frame.Frame.TheVariants.{Take};
 ghost use Rattle.ts_serve.specs.Replies.{IsWithin};
-ghost use Rattle.ts_serve.specs.Turn.{Given, Handled, Identified, Turn};
+ghost use Rattle.ts_serve.specs.Turn.{Calls, Given, Handled, Identified, Turn};
 ghost use Rattle.ts_serve.specs.Steps.{Answers, Refuses, Says};
 
 use crate::fault::ServeFault;
@@ -20,7 +21,7 @@ use crate::sending::{refuse, send, send_all};
 use std::alloc::Global;
 use std::io::Write;
 use ts_disk::Disk;
-use ts_node::{Identity, Input, Machine, Node};
+use ts_node::{Identity, Input, Machine, Node, NodeFault, Output};
 use ts_question::{Answer, Question};
 use ts_store::{Command, Outcome};
 use ts_wire::{Feed, Frame, FrameFault};
@@ -31,8 +32,10 @@ pub struct Server<D: Disk, M> {
     alloc: Global,
     node: Node<D, Command, M>,
     outbox: Outbox,
-    /// Whether the node's disks failed.
+    /// Whether the node broke.
     failed: bool,
+    /// Whether the node takes its messages to itself, each behind the input that made it.
+    takes_own: bool,
 }
 
 /// A question, as an input of a node: over as many commands as it names.
@@ -43,6 +46,27 @@ fn ask(question: Question) -> Input<Command, Question>
     let k = question.terms().k;
     let _ = question.target();
     Input::Ask { k, question }
+}
+
+/// Hands an input to a node, which takes its own messages too where it is to.
+fn call<D, M>(
+    node: &mut Node<D, Command, M>,
+    takes_own: bool,
+    input: &Input<Command, Question>,
+) -> Result<Output<Command, Outcome, Answer>, NodeFault>
+where
+    D: Disk,
+    M: Machine<Command, Outcome = Outcome, Question = Question, Answer = Answer>,
+    requires sound { IsSound D.state octets_of M.commands node.old }
+    requires fits { InputFits octets_of input.now }
+    ensures calls { Calls D.state (store_of Asked M.client_id M.outcome) M.basis M.is_answer
+        takes_own node.old input.now result node.new }
+    ensures sound { IsSound D.state octets_of M.commands node.new }
+{
+    if takes_own {
+        return node.turn(input);
+    }
+    node.handle(input)
 }
 
 impl<D: Disk, M: Machine<Command, Outcome = Outcome, Question = Question, Answer = Answer>> Server<
@@ -59,7 +83,7 @@ impl<D: Disk, M: Machine<Command, Outcome = Outcome, Question = Question, Answer
         node: Node<D, Command, M>,
     ) -> Result<Server<D, M>, Node<D, Command, M>>
         ensures { MatchResult result (λ server. (server.node ≡ node) × (server.outbox ≡ [])
-            × (server.failed ≡ false))
+            × (server.failed ≡ false) × (server.takes_own ≡ false))
             (λ refused. refused ≡ node) }
     {
         match Outbox::new(alloc) {
@@ -68,6 +92,7 @@ impl<D: Disk, M: Machine<Command, Outcome = Outcome, Question = Question, Answer
                 node,
                 outbox,
                 failed: false,
+                takes_own: false,
             }),
             Err(_) => Err(node),
         }
@@ -82,12 +107,21 @@ impl<D: Disk, M: Machine<Command, Outcome = Outcome, Question = Question, Answer
             node,
             outbox: _outbox,
             failed: _failed,
+            takes_own: _takes_own,
         } = self;
         node
     }
 
-    /// Whether a device of the node failed in a turn. The node is broken then, and answers nothing
-    /// more until it is opened again.
+    /// From now on the node takes its messages to itself, each behind the input that made it, and
+    /// keeps the facts of all of them at once. They no longer wait to be taken.
+    pub fn take_own(&mut self)
+        ensures { self.new ≡ record self.old { takes_own = true } }
+    {
+        self.takes_own = true;
+    }
+
+    /// Whether the node broke in a turn, since a device failed or memory was refused when its roles
+    /// were ahead of its record. It answers nothing more until it is opened again.
     pub fn has_failed(&self) -> bool
         ensures { result ≡ self.now.failed }
     {
@@ -133,7 +167,7 @@ impl<D: Disk, M: Machine<Command, Outcome = Outcome, Question = Question, Answer
         ensures sound { IsSound D.state octets_of M.commands self.new.node }
         ensures alloc { self.new.alloc ≡ self.old.alloc }
     {
-        let called = self.node.handle(input);
+        let called = call(&mut self.node, self.takes_own, input);
         self.failed = failed_then(self.failed, &called);
         let (frame, messages) = answer_of(self.alloc, called);
         self.outbox.put(messages);

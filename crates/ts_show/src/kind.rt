@@ -86,8 +86,10 @@ fn are_question(alloc: Global, octets: &[u8]) -> Result<bool, AllocError>
     ensures yes { IfOk result (λ are. are ≡ true → AreQuestion octets.now) }
     ensures no { IfOk result (λ are. are ≡ false → AreQuestion octets.now → ⊥) }
 {
-    let question = Question::read(alloc, octets)?;
-    Ok(question.is_some())
+    match Question::read(alloc, octets)? {
+        Some(_) => Ok(true),
+        None => Ok(false),
+    }
 }
 
 /// What octets hold: the first of a record, a certificate, a list, a command and a question that

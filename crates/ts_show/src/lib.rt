@@ -14,13 +14,14 @@
 //! - [`Kind::word`]: the word for a kind.
 //! - [`Line`]: a line of printable characters alone, whatever is written to it (`printable`): octets
 //!   as they are shown, octets in hexadecimal digits, numbers in decimal (their clauses).
-//! - [`write_name`], [`write_oid`]: a distinguished name and an object identifier in such a line.
+//! - [`write_name`], [`write_oid`], [`write_moment`], [`write_scope`]: a distinguished name, an
+//!   object identifier, a moment and what a CRL covers in such a line.
 //! - [`laws::one_kind`]: octets hold one kind of thing.
 //!
 //! What the other lines say of a certificate, a list, a command, a question and a record no clause
 //! says: tests show it. Serial numbers and the numbers of lists are hexadecimal digits. Of
-//! policyMappings, policyConstraints, authorityKeyIdentifier and issuingDistributionPoint the
-//! number of octets alone is shown, and of a distribution point nothing but its names.
+//! policyMappings, policyConstraints and authorityKeyIdentifier the number of octets alone is
+//! shown, and of a distribution point nothing but its names.
 //!
 //! # Not promised
 //!
@@ -42,6 +43,7 @@ mod list;
 mod name;
 mod question;
 mod record;
+mod scope;
 mod shown;
 mod time;
 mod value;
@@ -49,4 +51,6 @@ mod value;
 pub use kind::{Kind, kind_of};
 pub use line::Line;
 pub use name::{write_name, write_oid};
+pub use scope::write_scope;
 pub use shown::show;
+pub use time::write_moment;

@@ -152,7 +152,11 @@ fn write_form(line: &mut Line, general: General<'_>) -> Result<(), AllocError> {
 }
 
 /// Writes a general name (RFC 5280 4.2.1.6); of a form that is not looked into, its octets.
-fn write_general(alloc: Global, line: &mut Line, general: General<'_>) -> Result<(), AllocError> {
+pub(crate) fn write_general(
+    alloc: Global,
+    line: &mut Line,
+    general: General<'_>,
+) -> Result<(), AllocError> {
     write_form(line, general)?;
     match general {
         General::Rfc822Name(text)

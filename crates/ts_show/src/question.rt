@@ -60,6 +60,15 @@ fn certificate_lines(lines: &mut Lines, certificates: &OctetStrings) -> Result<(
     Ok(())
 }
 
+/// The lines of a question for a page, after so many rows.
+fn page_lines(lines: &mut Lines, kind: &[u8], terms: &Terms, from: u32) -> Result<(), AllocError> {
+    lines.entry(0, "kind", kind)?;
+    if let Some(k) = terms.k {
+        lines.number(0, "k", u64::from(k))?;
+    }
+    lines.number(0, "after rows", u64::from(from))
+}
+
 /// The lines of a question: what is asked, and the certificates.
 pub(crate) fn question_lines(lines: &mut Lines, question: &Question) -> Result<(), AllocError> {
     match question.target() {
@@ -77,5 +86,7 @@ pub(crate) fn question_lines(lines: &mut Lines, question: &Question) -> Result<(
             terms_lines(lines, question.terms())?;
             certificate_lines(lines, certificates)
         }
+        Target::Store { from } => page_lines(lines, b"store", question.terms(), *from),
+        Target::Log { from } => page_lines(lines, b"log", question.terms(), *from),
     }
 }

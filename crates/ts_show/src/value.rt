@@ -2,6 +2,7 @@
 
 use crate::lines::Lines;
 use crate::name::{general_line, oid_line};
+use crate::scope::scope_line;
 use std::alloc::AllocError;
 use ts_ext::{
     BasicConstraints, CertificatePolicies, DistributionPoint, DistributionPoints, Ext,
@@ -113,9 +114,8 @@ fn points_lines(lines: &mut Lines, points: DistributionPoints<'_>) -> Result<(),
     Ok(())
 }
 
-/// The lines of a value of these octets: of policyMappings, policyConstraints,
-/// authorityKeyIdentifier and issuingDistributionPoint how many octets there are, and so of an
-/// extension that is not read.
+/// The lines of a value of these octets: of policyMappings, policyConstraints and
+/// authorityKeyIdentifier how many octets there are, and so of an extension that is not read.
 pub(crate) fn value_lines(
     lines: &mut Lines,
     value: Ext<'_>,
@@ -138,6 +138,7 @@ pub(crate) fn value_lines(
         ),
         Ext::CertificatePolicies(policies) => policy_lines(lines, policies),
         Ext::ExtendedKeyUsage(purposes) => purpose_lines(lines, purposes),
+        Ext::IssuingDistributionPoint(point) => scope_line(lines, point),
         Ext::InhibitAnyPolicy(count) => lines.number(1, "inhibit any policy", u64::from(count.0)),
         _ => lines.number(1, "octets", octets.len() as u64),
     }

@@ -10,6 +10,7 @@ use std::rt::Files;
 use ts_access::{Key, Role};
 use ts_cli::{ServeWords, peer_of};
 use ts_loop::{Access, Group, PeerAddress};
+use ts_meter::Meter;
 
 /// Where a record's header has the number of its node, and behind it how many nodes there are.
 const NODE: usize = 8;
@@ -91,33 +92,49 @@ fn own_key<R: Files + Eprint>(
     Ok(Some(key))
 }
 
-/// Who may ask the node that the record names, and what it shows its peers, as the words say.
+/// A copy of a text that may not be there.
+fn copy_of(alloc: Global, text: &Option<String>) -> Result<Option<String>, Fault> {
+    match text {
+        Some(text) => Ok(Some(String::from_str(alloc, text.as_str())?)),
+        None => Ok(None),
+    }
+}
+
+/// Who may ask the node that the record names, and what it shows its peers, as the words say; and
+/// what counts the work of its disks.
 ///
 /// # Errors
 ///
 /// `Field` where the node's own key is not one of a peer with its number; those of the files.
-pub(crate) fn access_of<R: Files + Eprint>(
+pub(crate) fn access_of<'m, R: Files + Eprint>(
     rt: &R,
     alloc: Global,
     words: &ServeWords,
-) -> Result<Access, Fault> {
+    meter: &'m Meter,
+) -> Result<Access<'m>, Fault> {
     let member = member_of(rt, words.file.as_str())?;
     Ok(Access {
         node: member.node,
         keyring: keyring_of(rt, alloc, &words.keys)?,
         own: own_key(rt, alloc, words, member.node)?,
         open: words.open,
+        http: copy_of(alloc, &words.http)?,
+        meter: Some(meter),
     })
 }
 
 /// Says on standard error what is served, and what is not protected, unless that is not wanted.
-pub(crate) fn say_start(rt: &impl Eprint, words: &ServeWords, group: &Group, access: &Access) {
+pub(crate) fn say_start(rt: &impl Eprint, words: &ServeWords, group: &Group, access: &Access<'_>) {
     if words.quiet {
         return;
     }
     let (file, listen) = (words.file.as_str(), words.listen.as_str());
     let peers = group.peers.len();
     let _ = eprintln!(rt; "trustd: serves {file} at {listen}, {peers} peers");
+    if let Some(http) = &words.http {
+        let http = http.as_str();
+        let _ = eprintln!(rt; "trustd: answers HTTP at {http}, to whoever reaches it");
+    }
     if access.keyring.is_none() {
         let _ = eprintln!(rt; "trustd: no --keys: whoever reaches {listen} may change the store");
     }

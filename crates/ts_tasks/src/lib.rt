@@ -18,6 +18,9 @@
 //! - [`format_files`], [`migrate_files`], [`open_disks`], [`RecordLock`]: they end; what files give
 //!   and take, no contract can say. A record is locked while it is made or served, so that another
 //!   process is answered `Busy`.
+//! - [`write_row`], [`row_text`]: a row of a page, as a line and as a JSON object; tests say of which
+//!   words.
+//! - [`step_line`]: a step of a plan, as a line; tests say of which words.
 //! - [`verify_files`]: it hands the certificates, CRLs and inputs that files and words give to
 //!   `ts_verify`, whose clauses say what the verdict is.
 #![tactic(auto)]
@@ -26,16 +29,21 @@ mod clock;
 mod ended;
 mod fault;
 mod files;
+mod folders;
 mod grouping;
 mod keyed;
 mod keys;
 mod kinds;
+mod listing;
 mod locking;
 mod making;
 mod material;
 mod programs;
 mod requests;
+mod rows;
 mod running;
+mod steps;
+mod syncing;
 mod upkeep;
 mod verifying;
 mod vouching;
@@ -47,6 +55,8 @@ pub use files::{format_files, migrate_files, open_disks, read_file};
 pub use kinds::other_kind;
 pub use locking::RecordLock;
 pub use requests::{Said, ask, submit};
+pub use rows::{row_text, write_row};
 pub use running::run;
+pub use steps::step_line;
 pub use upkeep::{Upkeep, tend};
 pub use verifying::verify_files;

@@ -17,7 +17,7 @@ use ts_show::show;
 const RANDOM: &str = "/dev/urandom";
 
 /// Sixteen octets that nobody else draws.
-fn draw_id<R: Files>(rt: &R) -> Result<[u8; 16], Fault> {
+pub(crate) fn draw_id<R: Files>(rt: &R) -> Result<[u8; 16], Fault> {
     let mut id = [0; 16];
     let Ok(mut file) = fs::open(rt, RANDOM) else {
         return Err(Fault::File);

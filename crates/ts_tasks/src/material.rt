@@ -57,7 +57,11 @@ pub fn crls_of<R: Files + Eprint>(
 }
 
 /// The certificates, or the CRLs, of a file. Of one that has none standard error says what it holds.
-fn values_in<R: Files + Eprint>(
+///
+/// # Errors
+///
+/// Those of [`octets_of`].
+pub(crate) fn values_in<R: Files + Eprint>(
     rt: &R,
     alloc: Global,
     path: &str,
@@ -139,6 +143,18 @@ pub fn certificate_of<R: Files + Eprint>(
         Err(fault) => return Err(refuse(rt, path, "certificate", fault)),
     }
     Ok(octets)
+}
+
+/// Whether octets are a certificate by each rule; standard error says which one is broken.
+pub(crate) fn is_certificate(rt: &impl Eprint, path: &str, octets: &[u8]) -> bool {
+    match Cert::read(octets) {
+        Ok(_) => true,
+        Err(fault) => {
+            let (rule, at) = (fault.kind, fault.at);
+            let _ = eprintln!(rt; "trustd: {path}: no certificate: {rule} at {at}");
+            false
+        }
+    }
 }
 
 /// Whether octets are a CRL; standard error says why not.

@@ -17,6 +17,7 @@ use ts_check::ChosenCheck;
 use ts_cli::ServeWords;
 use ts_disk::Disk;
 use ts_loop::{Access, Group, Limits, LoopFault, serve_all};
+use ts_meter::{Meter, Metered};
 use ts_node::Node;
 use ts_serve::Server;
 use ts_sig::TableCheck;
@@ -95,6 +96,14 @@ fn limits_of(words: &ServeWords) -> Limits {
     }
 }
 
+/// The address of HTTP.
+fn http_of(words: &ServeWords) -> &str {
+    match &words.http {
+        Some(address) => address.as_str(),
+        None => "",
+    }
+}
+
 /// Why a loop ended, as the program's fault; standard error says what the system did not give.
 fn fault_of_loop(rt: &impl Eprint, words: &ServeWords, fault: LoopFault) -> Fault {
     match fault {
@@ -107,6 +116,18 @@ fn fault_of_loop(rt: &impl Eprint, words: &ServeWords, fault: LoopFault) -> Faul
             let address = words.listen.as_str();
             let _ = eprintln!(rt;
                 "trustd: {address}: other machines reach it: give --keys FILE, or --open"
+            );
+            Fault::Unprotected
+        }
+        LoopFault::ListenHttp => {
+            let address = http_of(words);
+            let _ = eprintln!(rt; "trustd: {address}: can't be listened at; is it in use?");
+            Fault::Read
+        }
+        LoopFault::UnprotectedHttp => {
+            let address = http_of(words);
+            let _ = eprintln!(rt;
+                "trustd: {address}: other machines reach it, and HTTP has no keys: give --open"
             );
             Fault::Unprotected
         }
@@ -132,7 +153,7 @@ fn serve_node<
     check: ChosenCheck,
     words: &ServeWords,
     group: &Group,
-    access: &mut Access,
+    access: &mut Access<'_>,
 ) -> Result<(), Fault> {
     let (a, b) = disks;
     let node = match Node::open(alloc, a, b, Answers::new(alloc, check)) {
@@ -142,6 +163,9 @@ fn serve_node<
     let Ok(mut server) = Server::new(alloc, node) else {
         return Err(Fault::Memory);
     };
+    if group.carries {
+        server.take_own();
+    }
     match serve_all(
         rt,
         alloc,
@@ -177,13 +201,15 @@ pub fn serve_record<
     let alloc = rt.alloc();
     let file = words.file.as_str();
     let _lock = RecordLock::of_record(rt, alloc, file)?;
-    let disks = open_disks(rt, alloc, file)?;
+    let meter = Meter::new();
+    let (a, b) = open_disks(rt, alloc, file)?;
+    let disks = (Metered::new(a, &meter), Metered::new(b, &meter));
     let check = check_of(rt, alloc, words)?;
     if words.stand_in {
         let _ = eprintln!(rt; "signatures are the examples' stand-in: anybody can forge them");
     }
     let group = group_of(rt, alloc, words)?;
-    let mut access = access_of(rt, alloc, words)?;
+    let mut access = access_of(rt, alloc, words, &meter)?;
     say_start(rt, words, &group, &access);
     serve_node(rt, alloc, disks, check, words, &group, &mut access)
 }

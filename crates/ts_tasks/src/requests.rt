@@ -109,7 +109,11 @@ fn ask_line(alloc: Global, answer: &Answer) -> Result<String, Fault> {
 }
 
 /// Asks a peer a question, and gives the answer.
-fn asked<P: Peer>(alloc: Global, peer: &mut P, question: Question) -> Result<Answer, Fault>
+pub(crate) fn asked<P: Peer>(
+    alloc: Global,
+    peer: &mut P,
+    question: Question,
+) -> Result<Answer, Fault>
     requires { P.is_ready peer.old }
     ensures { P.is_ready peer.new }
 {

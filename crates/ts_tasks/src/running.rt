@@ -7,9 +7,11 @@ ghost use Rattle.ts_tasks.specs.declared.ended.Ended.TheVariants.{Well};
 use crate::ended::Ended;
 use crate::fault::Fault;
 use crate::keys::print_key;
+use crate::listing::{Rows, print_diff, print_rows};
 use crate::making::{make_command, make_question, print_id, show_file};
 use crate::programs::{format_record, migrate_record, serve_record};
 use crate::requests::{ask_file, carry_messages, submit_file};
+use crate::syncing::sync_store;
 use crate::upkeep::{Upkeep, tend_server};
 use std::fs::File;
 use std::io::Print;
@@ -42,7 +44,9 @@ pub fn run<
         + Clock
         + RandomSource
         + Print
-        + Eprint,
+        + Eprint
+        + Clone
+        + Drop,
 >(rt: &R, task: &Task) -> Result<Ended, Fault>
     requires { IsInRange task.now }
 {
@@ -54,6 +58,15 @@ pub fn run<
             check,
             explain,
         } => ask_file(rt, reach, file.as_str(), *check, *explain),
+        Task::Store { reach, k, json } => print_rows(rt, reach, Rows::Store, *k, 0, *json),
+        Task::Log {
+            reach,
+            from,
+            k,
+            json,
+        } => print_rows(rt, reach, Rows::Log, *k, from.saturating_sub(1), *json),
+        Task::Diff { reach, old, new } => print_diff(rt, reach, *old, *new),
+        Task::Sync(words) => sync_store(rt, words),
         other => well(run_other(rt, other)),
     }
 }
@@ -72,6 +85,7 @@ fn run_other<
 {
     match task {
         Task::Lab | Task::Verify(_) | Task::Submit { .. } | Task::Ask { .. } => Ok(()),
+        Task::Store { .. } | Task::Log { .. } | Task::Diff { .. } | Task::Sync(_) => Ok(()),
         Task::Format {
             file,
             id,

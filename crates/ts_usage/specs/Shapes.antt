@@ -108,10 +108,11 @@ with_limits own = with_arguments own
 unfoldable pub with_group : Shape → Shape
 with_group own = with_arguments own (options (codes "peer") ∷ flag (codes "quiet") ∷ [])
 
--- whose requests are taken, and what the node shows its peers
+-- whose requests are taken, what the node shows its peers, and where HTTP is spoken
 unfoldable pub with_access : Shape → Shape
 with_access own = with_arguments own
-    (option (codes "keys") ∷ option (codes "key") ∷ flag (codes "open") ∷ [])
+    (option (codes "keys") ∷ option (codes "key") ∷ option (codes "http")
+    ∷ flag (codes "open") ∷ [])
 
 unfoldable pub serve : Shape
 serve = with_limits (with_access (with_group (leaf (codes "serve") (word (codes "file")
@@ -172,10 +173,40 @@ with_upkeep app = with_tasks app
     (reaching (codes "status") ∷ reaching (codes "identify") ∷ reaching (codes "catchup")
     ∷ reaching (codes "compact") ∷ keygen ∷ [])
 
+-- after how many commands a store is looked at, and whether JSON is printed
+unfoldable pub with_listing : Shape → Shape
+with_listing own = with_arguments own (option (codes "k") ∷ flag (codes "json") ∷ [])
+
+unfoldable pub store : Shape
+store = with_listing (reaching (codes "store"))
+
+unfoldable pub log : Shape
+log = with_listing (with_argument (reaching (codes "log")) (option (codes "from")))
+
+-- an address, and two numbers of commands
+unfoldable pub diff : Shape
+diff = with_key (leaf (codes "diff")
+    (word (codes "address") ∷ word (codes "old") ∷ word (codes "new") ∷ []))
+
+-- the tasks that print what a store holds, after others
+unfoldable pub with_listings : App → App
+with_listings app = with_tasks app (store ∷ log ∷ diff ∷ [])
+
+-- the files of what a store is to hold, and of those who may have signed it
+unfoldable pub with_material : Shape → Shape
+with_material own = with_arguments own
+    (options (codes "anchors") ∷ options (codes "crls") ∷ options (codes "issuer")
+    ∷ flag (codes "unchecked") ∷ [])
+
+-- an address, what is to be held, whether it is only said, and how long to wait
+unfoldable pub sync : Shape
+sync = with_arguments (with_material (reaching (codes "sync")))
+    (flag (codes "dry-run") ∷ option (codes "wait") ∷ [])
+
 unfoldable pub program : App
-program = with_upkeep (with_tasks node_tasks
+program = among (with_listings (with_upkeep (with_tasks node_tasks
     (verify ∷ named (codes "command") ∷ named (codes "question") ∷ reading (codes "id")
-    ∷ reading (codes "show") ∷ []))
+    ∷ reading (codes "show") ∷ [])))) sync
 
 -- ---- `trustd command`
 

@@ -22,8 +22,10 @@
 
 mod arguments;
 mod command_shape;
+mod listing_shape;
 mod program_shape;
 mod question_shape;
+mod sync_shape;
 mod verdict_shape;
 mod verify_shape;
 

@@ -8,6 +8,8 @@ ghost use Rattle.ts_usage.specs.Shapes.{IsApp, IsLocal, IsShape};
 use crate::arguments::{
     among, choice, flag, leaf, needed, option, options, reading, versioned, with, word, words,
 };
+use crate::listing_shape::with_listings;
+use crate::sync_shape::sync;
 use crate::verdict_shape::with_verdict;
 use crate::verify_shape::verify;
 use clap::Command;
@@ -82,7 +84,7 @@ fn with_group<'a>(
     with(all, flag(alloc, "quiet", help))
 }
 
-/// A command with whose requests are taken, and what the node shows its peers.
+/// A command with whose requests are taken, what the node shows its peers, and where HTTP is spoken.
 fn with_access<'a>(
     alloc: Global,
     own: Result<Command<'a>, AllocError>,
@@ -95,7 +97,9 @@ fn with_access<'a>(
     let all = with(own, option(alloc, "keys", "FILE", help));
     let help = "The key of this node, which it shows its peers";
     let all = with(all, option(alloc, "key", "FILE", help));
-    let help = "Without --keys: listen also where other machines reach the address";
+    let help = "HOST:PORT to answer HTTP at, to whoever reaches it";
+    let all = with(all, option(alloc, "http", "ADDR", help));
+    let help = "Without --keys, and over HTTP: listen also where other machines reach the address";
     with(all, flag(alloc, "open", help))
 }
 
@@ -119,7 +123,7 @@ fn serve<'a>(alloc: Global) -> Result<Command<'a>, AllocError>
 }
 
 /// A command with the key that a node is shown.
-fn with_key<'a>(
+pub(crate) fn with_key<'a>(
     alloc: Global,
     own: Result<Command<'a>, AllocError>,
 ) -> Result<Command<'a>, AllocError>
@@ -158,7 +162,11 @@ fn submit<'a>(alloc: Global) -> Result<Command<'a>, AllocError>
 }
 
 /// A command with an address.
-fn reaching<'a>(alloc: Global, name: &'a str, about: &'a str) -> Result<Command<'a>, AllocError>
+pub(crate) fn reaching<'a>(
+    alloc: Global,
+    name: &'a str,
+    about: &'a str,
+) -> Result<Command<'a>, AllocError>
     ensures shape { IfOk result (IsShape (shapes.reaching name.entry.now)) }
     ensures local { IfOk result IsLocal }
 {
@@ -249,5 +257,6 @@ pub fn program<'a>(alloc: Global) -> Result<Command<'a>, AllocError>
         program,
         reading(alloc, "show", "Prints what a file holds", "FILE", what),
     );
-    with_upkeep(alloc, program)
+    let program = with_listings(alloc, with_upkeep(alloc, program));
+    among(program, sync(alloc))
 }

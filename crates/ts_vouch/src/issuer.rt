@@ -78,7 +78,7 @@ pub(crate) fn has_signed<S: SignatureCheck>(crl: &Crl<'_>, cert: &Cert<'_>, chec
     check.good(
         crl.signature_algorithm().whole,
         &key,
-        crl.tbs(),
+        &crl.signed(),
         crl.signature(),
     )
 }

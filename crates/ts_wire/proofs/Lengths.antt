@@ -11,7 +11,7 @@ use Rattle.ts_store.specs.Commands.{blob8, purposes_encoding, fields, id_of, enc
 use Rattle.ts_store.specs.declared.command.Command.{Command}
 use Rattle.ts_store.specs.declared.command.Command.TheVariants.{AddAnchor, WithdrawAnchor, LoadCrl, DropCrl, SetPurposes, Noop}
 use Rattle.ts_question.specs.declared.question.Target.{Target}
-use Rattle.ts_question.specs.declared.question.Target.TheVariants.{Chain, Search}
+use Rattle.ts_question.specs.declared.question.Target.TheVariants.{Chain, Search, Store, Log}
 use Rattle.ts_question.specs.declared.terms.Terms.{Terms}
 use Rattle.ts_question.specs.Parts.{blob16, blob32, optional}
 use Rattle.ts_question.specs.Question.{Asked, are_subtrees, are_terms, are_certificates, is_target, policies_encoding, subtrees_encoding, certificates_encoding, terms_encoding, target_encoding, TermsFit, TargetFits}
@@ -88,6 +88,8 @@ terms_short t fit good =
 target_short : (t : Target) → TargetFits t → is_target t ≡ true → length (target_encoding t) ≤ 2163100
 target_short (Chain anchor xs) fit good = omega (arith, fit, certificates_short 16 xs (omega arith) good, length-append anchor (certificates_encoding xs))
 target_short (Search xs) fit good = omega (arith, certificates_short 33 xs (omega arith) good)
+target_short (Store from) fit good = omega arith
+target_short (Log from) fit good = omega arith
 
 pub question_short : (q : Asked) → QuestionFits q → length (question_octets q) < 2 ^ 32
 question_short q fit =

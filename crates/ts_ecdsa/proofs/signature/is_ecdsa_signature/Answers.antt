@@ -16,10 +16,10 @@ returns-in-P256-clause-test c =
     let oct : AreOctets a.signature.now = λ i. omega (arith, c.type_inv.signature i) in
     rw c.in-P256.is
     (same_test c.is_signature_on.result
-    (is_ecdsa_signature_of curve_p256 a.hash a.public_key.now a.signed.now a.signature.now)
-    (IsEcdsaSignature curve_p256 a.hash a.public_key.now a.signed.now a.signature.now)
+    (is_ecdsa_signature_of curve_p256 a.hash a.public_key.now a.signed.now.octets.now a.signature.now)
+    (IsEcdsaSignature curve_p256 a.hash a.public_key.now a.signed.now.octets.now a.signature.now)
     c.is_signature_on.ensures
-    (signature_test curve_p256 a.hash a.public_key.now a.signed.now a.signature.now oct))
+    (signature_test curve_p256 a.hash a.public_key.now a.signed.now.octets.now a.signature.now oct))
 
 pub returns-in-P384-clause-exactly : goal.returns-in-P384-clause-exactly
 returns-in-P384-clause-exactly c = rw c.in-P384.is c.is_signature_on-in-P384.ensures
@@ -30,7 +30,7 @@ returns-in-P384-clause-test c =
     let oct : AreOctets a.signature.now = λ i. omega (arith, c.type_inv.signature i) in
     rw c.in-P384.is
     (same_test c.is_signature_on-in-P384.result
-    (is_ecdsa_signature_of curve_p384 a.hash a.public_key.now a.signed.now a.signature.now)
-    (IsEcdsaSignature curve_p384 a.hash a.public_key.now a.signed.now a.signature.now)
+    (is_ecdsa_signature_of curve_p384 a.hash a.public_key.now a.signed.now.octets.now a.signature.now)
+    (IsEcdsaSignature curve_p384 a.hash a.public_key.now a.signed.now.octets.now a.signature.now)
     c.is_signature_on-in-P384.ensures
-    (signature_test curve_p384 a.hash a.public_key.now a.signed.now a.signature.now oct))
+    (signature_test curve_p384 a.hash a.public_key.now a.signed.now.octets.now a.signature.now oct))

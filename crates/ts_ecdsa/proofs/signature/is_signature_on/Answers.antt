@@ -9,7 +9,7 @@ returns-in-Err g c =
     let q = g.C.DomainParameters.curve in
     let oct : AreOctets c.args.signature.now = λ i. omega (arith, c.type_inv.signature i) in (
       λ h. absurd (false≢true h),
-      λ i. absurd (no_signature q c.args.hash c.args.public_key.now c.args.signed.now
+      λ i. absurd (no_signature q c.args.hash c.args.public_key.now c.args.signed.now.octets.now
           c.args.signature.now c.in-Err._fault oct c.in-Err.ensures i),
     )
 
@@ -20,7 +20,7 @@ returns g c =
     let r = c.in-Ok.r.octets.now in
     let s = c.in-Ok.s.octets.now in
     let key = c.in-Some.ensures.found in
-    let by = signature_by_parts q c.args.hash c.args.public_key.now c.args.signed.now
+    let by = signature_by_parts q c.args.hash c.args.public_key.now c.args.signed.now.octets.now
     c.args.signature.now r s c.in-Some.q c.hashed.result oct key.0 key.1 c.hashed.ensures
     c.in-Ok.ensures in (
       λ h. by.0 (c.is_integer_signature.ensures.0 h),

@@ -1,6 +1,7 @@
-use Rattle.std.proofs.Common.{◌∙◌, ap}
+use Rattle.std.proofs.Common.{◌∙◌, ap, sym}
+use Rattle.sha2.specs.Sha256.{sha256}
 use Rattle.ts_crl.specs.ListView.{crl_in}
-use Rattle.ts_crl.specs.Table.{crl_fault}
+use Rattle.ts_crl.specs.Table.{crl_fault, crl_of}
 use Rattle.ts_crl.specs.declared.owned.OwnedCrlFault.TheVariants.{Memory}
 use Rattle.ts_store.specs.declared.command.Command.TheVariants.{LoadCrl}
 use Rattle.ts_history.proofs.Applied.{kept_is, loaded}
@@ -14,4 +15,6 @@ returns-in_ok-change-in-Ok-clause-same c =
 pub returns-in_ok-change-in-Ok-clause-done : goal.returns-in_ok-change-in-Ok-clause-done
 returns-in_ok-change-in-Ok-clause-done c = λ new e.
     let kept = kept_is c.as_slice-octets.result.now c.in-Ok.crl Memory (crl_fault c.as_slice-octets.result.now) c.in-Ok.ensures.kept c.in-Ok.ensures.refused in
-    loaded c.args.id c.in-Ok.crl c.args.crl.now (crl_in c.view.result) c.in_ok-change-in-Ok.change c.args.tables.now new (kept ∙ c.as_slice-octets.ensures.octets) c.view.ensures.exact c.in_ok-change-in-Ok.ensures e
+    let octets = kept ∙ c.as_slice-octets.ensures.octets in
+    let id = c.digest.ensures ∙ ap sha256 c.as_slice-octets.ensures.octets in
+    loaded c.args.id c.args.crl.now _ (crl_in c.view.result) c.in_ok-change-in-Ok.change c.args.tables.now new (λ i. record { id = id i; crl = octets i }) (ap crl_of (sym octets) ∙ c.view.ensures.exact) c.in_ok-change-in-Ok.ensures e

@@ -1,4 +1,4 @@
-use Rattle.std.proofs.Common.{◌≡◌, ◌≤◌, ◌<◌, ◌+◌, ◌++◌, ◌∷◌, ◌∙◌, [], length, ap, sym, arith}
+use Rattle.std.proofs.Common.{◌<◌, ◌++◌, ◌∷◌, ◌∙◌, [], length, ap, sym, arith}
 use Rattle.std.specs.Option.{option_copied}
 use Rattle.ts_synod.specs.Log.{prefix}
 use Rattle.ts_log.specs.Log.{learned_of}

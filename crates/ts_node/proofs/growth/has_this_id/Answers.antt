@@ -1,4 +1,4 @@
-use Rattle.std.proofs.Common.{◌≡◌, ◌∙◌, Bool, true, false, List, ℕ, ◌≢◌, sym, ap, subst, refl}
+use Rattle.std.proofs.Common.{◌∙◌, ap}
 use Rattle.ts_synod.specs.Store.{same_id}
 use Rattle.ts_node.proofs.Settlings.{by_equality}
 use Rattle.ts_node.proofs.growth.has_this_id.Goals as goal

@@ -6,7 +6,7 @@ use Rattle.ts_rsa.proofs.pkcs1.encode.Goals as goal
 pub returns-clause-found : goal.returns-clause-found
 returns-clause-found c =
     encoded-joined c.loop-filled.octets.items c.push-3.new.self.items c.append.new.octets.items
-    (digest_info c.args.hash c.args.message.now) c.loop-filled.filled c.args.len
+    (digest_info c.args.hash c.args.message.now.octets.now) c.loop-filled.filled c.args.len
     c.loop-filled.invariant
     (omega (arith, ap length c.info_of-info.ensures))
     c.push-3.ensures.items

@@ -5,4 +5,4 @@ pub returns-clause-answer : goal.returns-clause-answer
 returns-clause-answer c =
     let a = c.args in
     same_answer _ _ c.is_valid.ensures
-    (pkcs1-accepts a.bounds a.modulus.now a.exponent a.hash a.message.now a.signature.now)
+    (pkcs1-accepts a.bounds a.modulus.now a.exponent a.hash a.message.now.octets.now a.signature.now)

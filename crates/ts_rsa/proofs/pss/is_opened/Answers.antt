@@ -33,7 +33,7 @@ pub returns : goal.returns
 returns c =
     let hash = c.args.hash in
     let em = c.args.em.now in
-    let message = c.args.message.now in
+    let message = c.args.message.now.octets.now in
     let xs = c.args.block.now in
     let place = length em - 2 * c.size_of_hash.result - 2 in
     let zeros = zeros_in hash em in
@@ -45,7 +45,7 @@ returns c =
     let salt : c.split_at-2.result.1.now ≡ drop (zeros + 1) xs =
     c.split_at-2.ensures.back ∙ ap (λ z. drop (z + 1) xs) spot in
     let inner : c.as_slice.result.now ≡ hash_of hash message =
-    c.as_slice.ensures.value ∙ c.hash_of_message-inner.ensures.items in
+    c.as_slice.ensures.value ∙ c.hash_by-inner.ensures.items in
     let outer : c.as_slice-2.result.now
     ≡ hash_of hash (replicate 8 0 ++ hash_of hash message ++ drop (zeros + 1) xs) =
     c.as_slice-2.ensures.value ∙ c.hash_of_parts-outer.ensures.items

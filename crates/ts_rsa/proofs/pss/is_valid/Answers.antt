@@ -40,11 +40,11 @@ returns-then-bits-modulus c =
           whole = c.if-signature-modulus.false;
           representative = c.write_opened.ensures.below.0 c.if-not-write_opened.false;
           fits = fits;
-          encoding = moved a.hash _ _ a.message.now _ _ bits em (c.is_pss_encoding.ensures.0 t);
+          encoding = moved a.hash _ _ a.message.now.octets.now _ _ bits em (c.is_pss_encoding.ensures.0 t);
         },
       )),
       (λ p. c.is_pss_encoding.ensures.1
-          (moved a.hash _ _ a.message.now _ _ (sym bits) (sym em) p.1.encoding)),
+          (moved a.hash _ _ a.message.now.octets.now _ _ (sym bits) (sym em) p.1.encoding)),
     )
 
 pub returns-then-first-eq0 : goal.returns-then-first-eq0
@@ -78,12 +78,12 @@ returns-then-first-eq0 c =
           whole = c.if-signature-modulus.false;
           representative = c.write_opened.ensures.below.0 c.if-not-write_opened.false;
           fits = rw (← size) ((first-zero x w positive below).0 (sym first ∙ c.if-first-eq0.true));
-          encoding = moved a.hash _ _ a.message.now _ _ bits em
+          encoding = moved a.hash _ _ a.message.now.octets.now _ _ bits em
               (c.is_pss_encoding-then-first-eq0.ensures.0 t);
         },
       )),
       (λ p. c.is_pss_encoding-then-first-eq0.ensures.1
-          (moved a.hash _ _ a.message.now _ _ (sym bits) (sym em) p.1.encoding)),
+          (moved a.hash _ _ a.message.now.octets.now _ _ (sym bits) (sym em) p.1.encoding)),
     )
 
 pub returns-else-first-eq0 : goal.returns-else-first-eq0

@@ -9,4 +9,5 @@ returns c =
     let question = c.among-program-3.ensures _ _ command c.leaf-2.ensures.shape in
     let id = c.among-program-4.ensures _ _ question c.reading.ensures.shape in
     let show = c.among-program-5.ensures _ _ id c.reading-2.ensures.shape in
-    c.with_upkeep.ensures _ show
+    let listed = c.with_listings-program.ensures _ (c.with_upkeep.ensures _ show) in
+    c.among.ensures _ _ listed c.sync.ensures.shape

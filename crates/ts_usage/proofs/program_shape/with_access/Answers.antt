@@ -6,4 +6,5 @@ unfolding with_access
 returns-clause-shape c shape given =
     let keys = c.with-all.ensures.shape _ _ c.option.ensures.rule given in
     let key = c.with-all-2.ensures.shape _ _ c.option-2.ensures.rule keys in
-    c.with.ensures.shape _ _ c.flag.ensures.rule key
+    let http = c.with-all-3.ensures.shape _ _ c.option-3.ensures.rule key in
+    c.with.ensures.shape _ _ c.flag.ensures.rule http

@@ -7,4 +7,5 @@ returns-clause-reached g c =
     let accepted = reached_quiet g.S.Service.turn _ _ _ c.accept.ensures in
     let taken = reached_then g.S.Service.turn _ _ _ _ _ _ accepted c.pump_all-self.ensures.reached in
     let carried = reached_then g.S.Service.turn _ _ _ _ _ _ taken c.carry.ensures.reached in
-    then_quiet g.S.Service.turn _ _ _ _ _ carried c.sweep-self.ensures
+    let asked = reached_then g.S.Service.turn _ _ _ _ _ _ carried c.serve_web.ensures.reached in
+    then_quiet g.S.Service.turn _ _ _ _ _ asked c.sweep-self.ensures

@@ -5,6 +5,7 @@ use Rattle.ts_node.specs.Growing.{IsPart}
 use Rattle.ts_record.specs.Kept.{member}
 use Rattle.ts_node.specs.Node.{IsWhole, ToEither, fault_as, member_as}
 use Rattle.ts_node.specs.Roles.{StandFor, facts_in}
+use Rattle.ts_node.proofs.Breaks.{both_not, first_not}
 use Rattle.ts_node.proofs.Images.{cause, log_extends, part_extends, to_either}
 use Rattle.ts_node.proofs.node.Node.commit.Goals as goal
 
@@ -13,20 +14,20 @@ returns-in-Ok-clause-moments g c = λ ca cb a b.
     let kept = c.args.self.now.kept in
     let more = facts_in c.args.plan.change in
     let run = subst (λ fs. ToBeforeOrAfter g.C.Codec.octets (member kept) kept.swapped kept.facts fs ca cb) c.facts.ensures (c.append.ensures.moments c.requires.whole ca cb a b) in
-    subst (λ m. ToEither g.C.Codec.octets m kept.facts more ca cb) (c.requires.sound c.requires.whole).whose (to_either g.C.Codec.octets (member kept) kept.swapped kept.facts more ca cb run)
+    subst (λ m. ToEither g.C.Codec.octets m kept.facts more ca cb) (c.requires.sound (both_not _ _ c.requires.whole c.requires.still)).whose (to_either g.C.Codec.octets (member kept) kept.swapped kept.facts more ca cb run)
 
 pub returns-in-Err-clause-moments : goal.returns-in-Err-clause-moments
 returns-in-Err-clause-moments g c = λ ca cb a b.
     let kept = c.args.self.now.kept in
     let more = facts_in c.args.plan.change in
     let run = subst (λ fs. ToBeforeOrAfter g.C.Codec.octets (member kept) kept.swapped kept.facts fs ca cb) c.facts.ensures (c.append.ensures.moments c.requires.whole ca cb a b) in
-    subst (λ m. ToEither g.C.Codec.octets m kept.facts more ca cb) (c.requires.sound c.requires.whole).whose (to_either g.C.Codec.octets (member kept) kept.swapped kept.facts more ca cb run)
+    subst (λ m. ToEither g.C.Codec.octets m kept.facts more ca cb) (c.requires.sound (both_not _ _ c.requires.whole c.requires.still)).whose (to_either g.C.Codec.octets (member kept) kept.swapped kept.facts more ca cb run)
 
 pub returns-in-Ok-clause-sound : goal.returns-in-Ok-clause-sound
 returns-in-Ok-clause-sound g c = λ whole.
     let old = c.args.self.now in
     let more = facts_in c.args.plan.change in
-    let w = c.requires.sound c.requires.whole in
+    let w = c.requires.sound (both_not _ _ c.requires.whole c.requires.still) in
     let e = c.in-Ok.ensures.kept ∙ ap (λ xs. old.kept.facts ++ xs) c.facts.ensures in
     let commands = g.M.Machine.commands old.machine in
     record {
@@ -42,10 +43,10 @@ returns-in-Err-clause-sound g c = λ whole.
     let e = c.append.ensures in
     let same : c.append.new.self ≡ old.kept = elim (cause c.append.result c.in-Err.fault c.in-Err.is e.fault) [
       | inl m ↦ e.memory (c.in-Err.is ∙ ap Err m)
-      | inr (inl d) ↦ absurd (let f = (e.failed (c.in-Err.is ∙ ap Err d)).0 in true≢false (sym f ∙ whole))
+      | inr (inl d) ↦ absurd (let f = (e.failed (c.in-Err.is ∙ ap Err d)).0 in true≢false (sym f ∙ first_not _ _ whole))
       | inr (inr b) ↦ absurd (let f = (e.broken (c.in-Err.is ∙ ap Err b)).0 in true≢false (sym f ∙ c.requires.whole))
     ] in
-    subst (λ k. IsWhole g.D.Disk.state g.C.Codec.octets g.M.Machine.commands (record old { kept = k })) (sym same) (c.requires.sound c.requires.whole)
+    subst (λ k. IsWhole g.D.Disk.state g.C.Codec.octets g.M.Machine.commands (record old { kept = k })) (sym same) (c.requires.sound (both_not _ _ c.requires.whole c.requires.still))
 
 pub returns-in-Err-clause-fault : goal.returns-in-Err-clause-fault
 returns-in-Err-clause-fault g c =

@@ -1,8 +1,9 @@
-use Rattle.std.proofs.Common.{◌∙◌, ap, sym, subst}
+use Rattle.std.proofs.Common.{◌∙◌, ap, refl, sym, subst}
 use Rattle.ts_record.specs.Facts.{OpensTo}
 use Rattle.ts_record.specs.Kept.{member}
 use Rattle.ts_record.specs.Opening.{NothingNew}
 use Rattle.ts_node.specs.Node.{member_as}
+use Rattle.ts_node.proofs.Breaks.{both_not}
 use Rattle.ts_node.proofs.Images.{from_either}
 use Rattle.ts_node.proofs.node.Node.open.Goals as goal
 
@@ -22,3 +23,6 @@ returns-in-Err-open-clause-moments g c =
     let state = g.D.Disk.state in
     subst (λ x. NothingNew (state c.args.a) (state c.args.b) (state x) (state c.close-a.result.1)) (sym c.close-a.ensures.a)
     (subst (λ y. NothingNew (state c.args.a) (state c.args.b) (state c.in-Ok.kept.a) (state y)) (sym c.close-a.ensures.b) c.in-Ok.ensures.moments)
+
+pub returns-in-Ok-open-clause-whole : goal.returns-in-Ok-open-clause-whole
+returns-in-Ok-open-clause-whole g c = both_not _ _ c.in-Ok.ensures.whole refl

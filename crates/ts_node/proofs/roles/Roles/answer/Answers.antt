@@ -1,4 +1,4 @@
-use Rattle.std.proofs.Common.{◌≡◌, ◌∙◌, ◌≤◌, length, sym, subst, take, arith}
+use Rattle.std.proofs.Common.{◌∙◌, ◌≤◌, length, sym, subst, take, arith}
 use Rattle.ts_synod.specs.Log.{prefix}
 use Rattle.ts_log.specs.Log.{learned_of}
 use Rattle.ts_node.proofs.Questions.{IsAt, answered}

@@ -1,4 +1,4 @@
-use Rattle.std.proofs.Common.{◌≡◌, ◌≤◌, drop}
+use Rattle.std.proofs.Common.{◌≡◌, drop}
 use Rattle.ts_synod.specs.Log.{prefix}
 use Rattle.ts_log.specs.Steps.{learned_after}
 use Rattle.ts_node.specs.Growing.{has_id}

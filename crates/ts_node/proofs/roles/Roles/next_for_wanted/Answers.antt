@@ -1,4 +1,4 @@
-use Rattle.std.proofs.Common.{◌≡◌, ◌∙◌, ◌<◌, ◌+◌, true, false, is_some, length, drop, ap, sym, arith}
+use Rattle.std.proofs.Common.{◌≡◌, ◌∙◌, true, false, is_some, drop, ap, sym, arith}
 use Rattle.ts_synod.specs.Store.{settling}
 use Rattle.ts_synod.specs.Log.{prefix}
 use Rattle.ts_synod.specs.Node.{position_for_wanted}

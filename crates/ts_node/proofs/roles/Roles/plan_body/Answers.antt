@@ -1,4 +1,4 @@
-use Rattle.std.proofs.Common.{ap, sym, subst}
+use Rattle.std.proofs.Common.{sym, subst}
 use Rattle.ts_synod.specs.Node.{on_body}
 use Rattle.ts_node.specs.Machine.{store_of}
 use Rattle.ts_node.specs.Roles.{Makes, config_of, volatile_of}

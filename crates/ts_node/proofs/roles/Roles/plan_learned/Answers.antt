@@ -1,10 +1,10 @@
-use Rattle.std.proofs.Common.{◌≡◌, ◌∙◌, ◌<◌, ◌++◌, length, ap, sym, subst, arith}
+use Rattle.std.proofs.Common.{◌∙◌, ◌++◌, length, ap, sym, subst}
 use Rattle.ts_synod.specs.Force.{log_of, used_round}
 use Rattle.ts_synod.specs.Log.{prefix}
 use Rattle.ts_synod.specs.Proposer.{on_growth}
 use Rattle.ts_synod.specs.Node.{Volatile, position_for_wanted}
 use Rattle.ts_proposer.specs.Proposer as proposers
-use Rattle.ts_log.specs.Steps.{learned_after, received_after}
+use Rattle.ts_log.specs.Steps.{received_after}
 use Rattle.ts_node.specs.Machine.{store_of}
 use Rattle.ts_node.specs.Roles.{AllUsed, Makes, config_of, volatile_of}
 use Rattle.ts_node.proofs.Grown.{effect_grown, has_grown_is}

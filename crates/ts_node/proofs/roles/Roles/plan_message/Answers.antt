@@ -1,6 +1,6 @@
 use Rattle.std.proofs.Common.{◌≡◌, ◌==◌, ◌&&◌, Bool, false, if◌then◌else◌, sym, subst}
 use Rattle.ts_synod.specs.Config.{is_node}
-use Rattle.ts_synod.specs.Node.{Effect, no_effect, on_body}
+use Rattle.ts_synod.specs.Node.{no_effect, on_body}
 use Rattle.ts_node.specs.Machine.{store_of}
 use Rattle.ts_node.specs.Roles.{Makes, config_of, volatile_of}
 use Rattle.ts_node.proofs.Deliveries.{misses_high, misses_low, misses_me, reaches}

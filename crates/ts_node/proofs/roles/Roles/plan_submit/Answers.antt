@@ -1,12 +1,11 @@
-use Rattle.std.proofs.Common.{◌≡◌, ◌∙◌, ◌+◌, ◌*◌, suc, Some, refl, sym, ap, subst}
+use Rattle.std.proofs.Common.{◌≡◌, ◌∙◌, ◌+◌, ◌*◌, suc, refl, sym, ap, subst}
 use Rattle.std.specs.List.{slice_get}
-use Rattle.ts_synod.specs.Force.{used_round}
 use Rattle.ts_synod.specs.Log.{next_position, prefix}
 use Rattle.ts_synod.specs.Node.{Step, Volatile}
 use Rattle.ts_synod.specs.Proposer.{begin_round, greatest_round, propose}
 use Rattle.ts_synod.specs.Store.{settling}
 use Rattle.ts_proposer.specs.Proposer as proposers
-use Rattle.ts_log.specs.Log.{learned_of, received_of}
+use Rattle.ts_log.specs.Log.{received_of}
 use Rattle.ts_node.specs.declared.input.Reply.TheVariants as replies
 use Rattle.ts_node.specs.declared.plan.Move.TheVariants.{Propose}
 use Rattle.ts_node.specs.declared.plan.Plan.{Plan}

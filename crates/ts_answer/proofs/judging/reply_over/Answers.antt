@@ -1,0 +1,17 @@
+use Rattle.std.proofs.Common.{sym, ap, subst}
+use Rattle.ts_question.specs.declared.question.Target.{Target}
+use Rattle.ts_store.specs.Store.{store_after}
+use Rattle.ts_answer.specs.Parts.{certificates_of}
+use Rattle.ts_answer.specs.View.{IsJudged}
+use Rattle.ts_answer.proofs.Judged.{judged}
+use Rattle.ts_answer.proofs.judging.reply_over.Goals as goal
+
+pub returns-in-Chain : goal.returns-in-Chain
+returns-in-Chain g c = λ commands same.
+    judged (g.S.SignatureCheck.accepts c.args.check.now) commands c.args.question.now c.terms-terms.result.now c.target-target.result.now c.in-Chain.certificates c.target_reply.result c.terms-terms.ensures c.target-target.ensures.target (ap certificates_of (sym c.in-Chain.is))
+    (subst (λ (t : Target). IsJudged t) (sym c.in-Chain.is) tt) (c.target_reply.ensures (store_after commands).tables same)
+
+pub returns-in-Search : goal.returns-in-Search
+returns-in-Search g c = λ commands same.
+    judged (g.S.SignatureCheck.accepts c.args.check.now) commands c.args.question.now c.terms-terms.result.now c.target-target.result.now c.in-Search.certificates c.target_reply-in-Search.result c.terms-terms.ensures c.target-target.ensures.target (ap certificates_of (sym c.in-Search.is))
+    (subst (λ (t : Target). IsJudged t) (sym c.in-Search.is) tt) (c.target_reply-in-Search.ensures (store_after commands).tables same)

@@ -1,0 +1,121 @@
+//! Which rows of a store or of its log are asked for, and which command.
+
+ghost use Rattle.std.specs.Prelude.{◌≡◌, ℕ, List, IfOk, IfErr, OnOk, MatchOption, map};
+ghost use Rattle.ts_form.specs.Pairs.{pair_in};
+ghost use Rattle.ts_form.specs.Rows.{Adds, IsRefused, IsRefusedIn, IsRefusedInAll, NameId, Sets};
+ghost use Rattle.ts_form.specs.Rows.{SetsAll, field_named, no_rows};
+ghost use Rattle.ts_form.specs.declared.field.Field.TheVariants as fields;
+
+use crate::fault::FormFault;
+use crate::field::Field;
+use crate::pair::Pair;
+use crate::values::{number_of, position_of, short_id_of};
+
+/// Which rows are asked for, as far as it is given.
+#[derive(Clone, Copy, Debug, PartialEq, Eq)]
+pub struct RowsWanted {
+    /// After how many commands.
+    pub k: Option<u32>,
+    /// How many rows stand before them.
+    pub from: Option<u32>,
+}
+
+/// The field of a page that has this name.
+fn named(name: &str) -> Option<Field>
+    ensures { result ≡ field_named name.now }
+{
+    match name {
+        "k" => Some(Field::K),
+        "from" => Some(Field::From),
+        _ => None,
+    }
+}
+
+impl RowsWanted {
+    /// Gives the position.
+    fn set_k(&mut self, text: &str) -> Result<(), FormFault>
+        ensures adds { OnOk result (Adds fields.K text.now self.old self.new) }
+        ensures refused { IfErr result (IsRefusedIn fields.K text.now self.old) }
+    {
+        if self.k.is_some() {
+            return Err(FormFault::Twice(Field::K));
+        }
+        let Some(k) = position_of(text) else {
+            return Err(FormFault::Value(Field::K));
+        };
+        self.k = Some(k);
+        Ok(())
+    }
+
+    /// Gives the number of rows before them.
+    fn set_from(&mut self, text: &str) -> Result<(), FormFault>
+        ensures adds { OnOk result (Adds fields.From text.now self.old self.new) }
+        ensures refused { IfErr result (IsRefusedIn fields.From text.now self.old) }
+    {
+        if self.from.is_some() {
+            return Err(FormFault::Twice(Field::From));
+        }
+        let Some(from) = number_of(text) else {
+            return Err(FormFault::Value(Field::From));
+        };
+        self.from = Some(from);
+        Ok(())
+    }
+
+    /// Adds what a pair says.
+    fn add(&mut self, name: &str, value: &str) -> Result<(), FormFault>
+        ensures sets { OnOk result (Sets (name.now, value.now) self.old self.new) }
+        ensures refused { IfErr result (IsRefused (name.now, value.now) self.old) }
+    {
+        match named(name) {
+            Some(_) if value.is_empty() => Ok(()),
+            Some(Field::K) => self.set_k(value),
+            Some(Field::From) => self.set_from(value),
+            _ => Err(FormFault::Name),
+        }
+    }
+
+    /// Adds what pairs say, one after another.
+    fn add_all(&mut self, pairs: &[Pair]) -> Result<(), FormFault>
+        ensures sets { OnOk result (SetsAll (map pair_in pairs.now) self.old self.new) }
+        ensures refused { IfErr result (IsRefusedInAll (map pair_in pairs.now) self.old) }
+    {
+        for pair in pairs {
+            self.add(pair.name.as_str(), pair.value.as_str())?;
+        }
+        Ok(())
+    }
+
+    /// Which rows pairs ask for: `k`, a position, and `from`, a number below 2^32, each at most
+    /// once. An empty text says nothing.
+    ///
+    /// # Errors
+    ///
+    /// `Name`, `Value` or `Twice`, exactly where a pair is refused: that of the first.
+    pub fn of(pairs: &[Pair]) -> Result<RowsWanted, FormFault>
+        ensures found { IfOk result (SetsAll (map pair_in pairs.now) no_rows) }
+        ensures refused { IfErr result (IsRefusedInAll (map pair_in pairs.now) no_rows) }
+    {
+        let mut wanted = RowsWanted {
+            k: None,
+            from: None,
+        };
+        wanted.add_all(pairs)?;
+        Ok(wanted)
+    }
+}
+
+/// The id of a command that pairs name: one pair, `id` and 32 lower-case hexadecimal digits. `None`
+/// exactly where they are none.
+pub fn command_id_of(pairs: &[Pair]) -> Option<[u8; 16]>
+    ensures { MatchOption result ((id : List ℕ) → ¬ (NameId (map pair_in pairs.now) id))
+        (NameId (map pair_in pairs.now)) }
+{
+    let [pair] = pairs else {
+        return None;
+    };
+    if pair.name.as_str() != "id" {
+        return None;
+    }
+    short_id_of(pair.value.as_str())
+}

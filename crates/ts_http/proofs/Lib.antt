@@ -1,0 +1,7 @@
+mod Events
+mod Responses
+mod Same
+mod Streams
+mod Standing
+mod ReadSteps
+mod Fairness

@@ -1,0 +1,6 @@
+pub mod Times
+pub mod Request
+pub mod Looking
+pub mod Writing
+pub mod Moves
+pub mod Account

@@ -1,0 +1,94 @@
+-- The commands that a store took, as rows.
+use Rattle.std.specs.Prelude.{ℕ, List, [], ◌∷◌, ◌++◌, map, length}
+use Rattle.sha2.specs.Sha256.{sha256}
+use Rattle.ts_store.specs.Commands.{id_of, purposes_encoding}
+use Rattle.ts_store.specs.declared.command.Command.{Command}
+use Rattle.ts_store.specs.declared.command.Command.TheVariants.{AddAnchor, WithdrawAnchor, LoadCrl}
+use Rattle.ts_store.specs.declared.command.Command.TheVariants.{DropCrl, SetPurposes, Noop}
+use Rattle.ts_store.specs.declared.outcome.Outcome.{Outcome}
+use Rattle.ts_store.specs.declared.outcome.Outcome.TheVariants.{Applied, Repeated, Refused}
+use Rattle.ts_store.specs.declared.outcome.Refusal.{Refusal}
+use Rattle.ts_store.specs.declared.outcome.Refusal.TheVariants.{AnchorThere, NoAnchor, Malformed}
+use Rattle.ts_store.specs.declared.outcome.Refusal.TheVariants.{OlderCrl, CriticalCrlExtension}
+use Rattle.ts_store.specs.declared.outcome.Refusal.TheVariants.{StoreFull, DeltaCrl, NoCrl}
+use Rattle.ts_store.specs.declared.outcome.Refusal.TheVariants.{RelativeName, Indirect}
+use Rattle.ts_history.specs.Outcome.{outcome_after}
+use Rattle.ts_question.specs.Rows.{CommandLine, command_encoding}
+use Rattle.ts_listing.specs.Listing.{cut, narrow}
+
+-- the octet of a command's kind
+abbrev pub kind_of : Command → ℕ
+kind_of (AddAnchor id certificate) = 1
+kind_of (WithdrawAnchor id anchor) = 2
+kind_of (LoadCrl id crl) = 3
+kind_of (DropCrl id crl) = 4
+kind_of (SetPurposes id anchor purposes) = 5
+kind_of (Noop id) = 6
+
+-- how many octets its certificate or its CRL has
+abbrev pub size_of : Command → ℕ
+size_of (AddAnchor id certificate) = narrow (length certificate)
+size_of (LoadCrl id crl) = narrow (length crl)
+size_of other = 0
+
+-- the id of the anchor or of the CRL that it is about: the SHA-256 of what it loads
+abbrev pub about_of : Command → List ℕ
+about_of (AddAnchor id certificate) = sha256 certificate
+about_of (WithdrawAnchor id anchor) = anchor
+about_of (LoadCrl id crl) = sha256 crl
+about_of (DropCrl id crl) = crl
+about_of (SetPurposes id anchor purposes) = anchor
+about_of (Noop id) = []
+
+-- the purposes that it sets, as it writes them
+abbrev pub purposes_of : Command → List ℕ
+purposes_of (SetPurposes id anchor purposes) = purposes_encoding purposes
+purposes_of other = []
+
+abbrev pub refusal_code : Refusal → ℕ
+refusal_code AnchorThere = 1
+refusal_code NoAnchor = 2
+refusal_code Malformed = 3
+refusal_code OlderCrl = 4
+refusal_code CriticalCrlExtension = 5
+refusal_code StoreFull = 6
+refusal_code DeltaCrl = 7
+refusal_code NoCrl = 8
+refusal_code RelativeName = 9
+refusal_code Indirect = 10
+
+-- 0 applied, 1 repeated, 2 refused
+abbrev pub outcome_code : Outcome → ℕ
+outcome_code Applied = 0
+outcome_code (Repeated position) = 1
+outcome_code (Refused refusal) = 2
+
+-- the position of the first command of its id, or why it was refused
+abbrev pub detail_of : Outcome → ℕ
+detail_of Applied = 0
+detail_of (Repeated position) = position
+detail_of (Refused refusal) = refusal_code refusal
+
+-- a command, and what it came to
+abbrev pub command_row : Command → Outcome → CommandLine
+command_row c o = record {
+  id = id_of c;
+  kind = kind_of c;
+  size = size_of c;
+  about = about_of c;
+  purposes = cut (purposes_of c);
+  outcome = outcome_code o;
+  detail = detail_of o;
+}
+
+-- each command with what it came to after those before it
+unfoldable pub log_from : List Command → List Command → List CommandLine
+log_from before [] = []
+log_from before (c ∷ cs) = command_row c (outcome_after before c) ∷ log_from (before ++ c ∷ []) cs
+
+-- of all commands
+abbrev pub log_of : List Command → List CommandLine
+log_of commands = log_from [] commands
+
+abbrev pub log_rows : List Command → List (List ℕ)
+log_rows commands = map command_encoding (log_of commands)

@@ -1,0 +1,352 @@
+//! The connections of HTTP. They have slots of their own; what they ask of the node the loop asks
+//! for them, as it asks for itself.
+
+ghost use Rattle.ts_links.specs.Calls.{HasReached};
+
+use crate::accepting::Accepts;
+use crate::access::Access;
+use crate::carrier::Carrier;
+use crate::counts::{Counts, Why};
+use crate::door::PIECE;
+use crate::fault::LoopFault;
+use crate::limits::Limits;
+use crate::pumping::Round;
+use crate::watch::Watch;
+use crate::web_door::{Left, WebDoor, pump_web};
+use mio::event::Event;
+use mio::net::{TcpListener, TcpStream};
+use mio::{Interest, Registry, Token};
+use std::alloc::Global;
+use std::io::ErrorKind;
+use std::net::{Net, ToSocketAddrs};
+use std::rt::Clock;
+use ts_links::{Connections, Service};
+use ts_site::{Board, Face, Scene};
+
+/// The token of the listener. The doors follow.
+pub(crate) const WEB: usize = 1_000_000;
+
+/// The most connections that one round accepts.
+const ACCEPTS: u32 = 64;
+
+/// How many milliseconds pass until an accept that failed is tried again.
+const RETRY: u64 = 100;
+
+/// How many milliseconds pass until late connections are looked for again.
+const SWEEP: u64 = 100;
+
+/// How many milliseconds pass until what is counted is shown anew.
+const SHOW: u64 = 100;
+
+/// The listener, its connections, and what they are shown.
+#[derive(Drop)]
+pub(crate) struct Web {
+    alloc: Global,
+    listener: TcpListener,
+    doors: Vec<Option<WebDoor>>,
+    accepts: Accepts,
+    event: bool,
+    swept: u64,
+    /// When what is counted was shown last.
+    shown: Option<u64>,
+    /// Whether commands are taken: the node has keys, and is reached over loopback.
+    commands: bool,
+    pub board: Board,
+    pub counts: Counts,
+    /// A connection could do more.
+    pub more: bool,
+}
+
+/// The listener at an address, at which this machine alone listens unless any is allowed.
+/// Whether it is such an address.
+fn listener_at<R: Net>(
+    rt: &R,
+    address: &str,
+    open: bool,
+) -> Result<(TcpListener, bool), LoopFault> {
+    let Ok(found) = address.to_socket_addrs(rt) else {
+        return Err(LoopFault::ListenHttp);
+    };
+    for place in found {
+        let is_loopback = place.ip().is_loopback();
+        if !open && !is_loopback {
+            return Err(LoopFault::UnprotectedHttp);
+        }
+        if let Ok(listener) = TcpListener::bind(rt, place) {
+            return Ok((listener, is_loopback));
+        }
+    }
+    Err(LoopFault::ListenHttp)
+}
+
+/// The slot of the connection that has been idle longest.
+fn idlest(doors: &[Option<WebDoor>]) -> Option<usize> {
+    let mut found = None;
+    let mut earliest = u64::MAX;
+    for (slot, place) in doors.iter().enumerate() {
+        let Some(door) = place else {
+            continue;
+        };
+        if let Some(since) = door.face.idle_since() {
+            if since < earliest {
+                earliest = since;
+                found = Some(slot);
+            }
+        }
+    }
+    found
+}
+
+/// The first slot without a connection.
+fn first_free(doors: &[Option<WebDoor>]) -> Option<usize> {
+    doors.iter().position(|place| place.is_none())
+}
+
+impl Web {
+    /// The listener at an address alone, with so many slots.
+    pub fn new<R: Net>(
+        rt: &R,
+        alloc: Global,
+        registry: &Registry,
+        address: &str,
+        slots: usize,
+        access: &Access<'_>,
+    ) -> Result<Web, LoopFault> {
+        let (mut listener, is_loopback) = listener_at(rt, address, access.open)?;
+        if registry
+            .register(&mut listener, Token(WEB), Interest::READABLE)
+            .is_err()
+        {
+            return Err(LoopFault::Poll);
+        }
+        let mut doors: Vec<Option<WebDoor>> = Vec::new(alloc);
+        for _slot in 0..slots {
+            if doors.push(None).is_err() {
+                return Err(LoopFault::Memory);
+            }
+        }
+        Ok(Web {
+            alloc,
+            listener,
+            doors,
+            accepts: Accepts::AtEvent,
+            event: false,
+            swept: 0,
+            shown: None,
+            commands: is_loopback && access.is_locked(),
+            board: Board::new(alloc, access.node),
+            counts: Counts::new(),
+            more: false,
+        })
+    }
+
+    /// An event of the listener, or of a door.
+    pub fn mark(&mut self, place: usize, event: &Event) {
+        if place == 0 {
+            self.event = true;
+        } else if let Some(Some(door)) = self.doors.get_mut(place - 1) {
+            door.mark(event);
+        }
+    }
+
+    /// Whether there is something to do at once.
+    pub fn goes_on(&self) -> bool {
+        self.more || self.accepts == Accepts::Now
+    }
+
+    /// Whether a connection has something to do, or the listener has an event.
+    pub fn has_work(&self, now: u64) -> bool {
+        self.accepts.is_due(self.event, now)
+            || self
+                .doors
+                .iter()
+                .any(|place| matches!(place, Some(WebDoor { hot: true, .. })))
+    }
+
+    /// Whether what is counted was not shown for a tenth of a second. It is shown now.
+    pub fn is_stale(&mut self, now: u64) -> bool {
+        if let Some(shown) = self.shown {
+            if now.saturating_sub(shown) < SHOW {
+                return false;
+            }
+        }
+        self.shown = Some(now);
+        true
+    }
+
+    /// Closes the connection of a slot.
+    fn close(&mut self, slot: usize, why: Why) {
+        if slot < self.doors.len() {
+            self.doors[slot] = None;
+            self.counts.closed(why);
+        }
+    }
+
+    /// A slot for a new connection: a free one, or that of the connection that has been idle
+    /// longest, which makes room.
+    fn find_slot(&mut self) -> Option<usize> {
+        if let Some(slot) = first_free(&self.doors) {
+            return Some(slot);
+        }
+        let slot = idlest(&self.doors)?;
+        self.close(slot, Why::MadeRoom);
+        Some(slot)
+    }
+
+    /// Lets a connection in, if there is a slot for it. Else it is closed.
+    fn let_in(&mut self, registry: &Registry, mut stream: TcpStream, now: u64) {
+        let Some(slot) = self.find_slot() else {
+            self.counts.refused = self.counts.refused.saturating_add(1);
+            return;
+        };
+        let token = Token(WEB.saturating_add(1).saturating_add(slot));
+        let both = Interest::READABLE | Interest::WRITABLE;
+        if slot >= self.doors.len() || registry.register(&mut stream, token, both).is_err() {
+            self.counts.refused = self.counts.refused.saturating_add(1);
+            return;
+        }
+        let _nodelay = stream.set_nodelay(true);
+        self.counts.opened();
+        self.doors[slot] = Some(WebDoor::new(stream, Face::new(self.alloc, now)));
+    }
+
+    /// Accepts connections, until none waits or one can't be accepted. When to accept next.
+    fn accept_some(&mut self, registry: &Registry, now: u64) -> Accepts {
+        for _accept in 0..ACCEPTS {
+            match self.listener.accept() {
+                Ok((stream, _)) => self.let_in(registry, stream, now),
+                Err(error) if error.kind() == ErrorKind::WouldBlock => return Accepts::AtEvent,
+                Err(_) => {
+                    let failed = self.counts.failed_accepts;
+                    self.counts.failed_accepts = failed.saturating_add(1);
+                    return Accepts::At(now.saturating_add(RETRY));
+                }
+            }
+        }
+        Accepts::Now
+    }
+
+    /// Accepts connections, if it is time.
+    fn accept(&mut self, registry: &Registry, now: u64) {
+        if self.accepts.is_due(self.event, now) {
+            self.event = false;
+            self.accepts = self.accept_some(registry, now);
+        }
+    }
+
+    /// What is known of a slot after a round: whether it could do more.
+    fn settle(&mut self, slot: usize, left: Left) -> bool {
+        match left {
+            Left::More => true,
+            Left::Held => false,
+            Left::Waits => {
+                if let Some(Some(door)) = self.doors.get_mut(slot) {
+                    door.hot = false;
+                }
+                false
+            }
+            Left::Ended => {
+                self.close(slot, Why::Ended);
+                false
+            }
+            Left::Failed => {
+                self.close(slot, Why::Failed);
+                false
+            }
+        }
+    }
+
+    /// One round of a slot. Whether it could do more.
+    fn pump_slot<S: Service, R: Clock>(
+        &mut self,
+        round: &Round<'_, R>,
+        table: &mut Connections,
+        service: &mut S,
+        carrier: &mut Carrier,
+        watch: &mut Watch,
+        slot: usize,
+        buffer: &mut [u8; PIECE],
+    ) -> bool
+        requires { S.is_ready service.old }
+        ensures reached { HasReached S.turn service.old table.old service.new table.new }
+        ensures ready { S.is_ready service.new }
+    {
+        let Some(Some(door)) = self.doors.get_mut(slot) else {
+            return false;
+        };
+        if !door.hot {
+            return false;
+        }
+        let scene = Scene {
+            now: self.board.now,
+            node: self.board.node,
+            commands: self.commands,
+            keys: round.keys,
+        };
+        let board = &mut self.board;
+        let left = pump_web(
+            round, &scene, table, service, carrier, watch, self.alloc, door, board, buffer,
+        );
+        self.settle(slot, left)
+    }
+
+    /// One round of all slots. Whether one could do more.
+    fn pump_all<S: Service, R: Clock>(
+        &mut self,
+        round: &Round<'_, R>,
+        table: &mut Connections,
+        service: &mut S,
+        carrier: &mut Carrier,
+        watch: &mut Watch,
+        buffer: &mut [u8; PIECE],
+    ) -> bool
+        requires { S.is_ready service.old }
+        ensures reached { HasReached S.turn service.old table.old service.new table.new }
+        ensures ready { S.is_ready service.new }
+    {
+        let mut more = false;
+        for slot in 0..self.doors.len() {
+            if self.pump_slot(round, table, service, carrier, watch, slot, buffer) {
+                more = true;
+            }
+        }
+        more
+    }
+
+    /// Closes the connections that are late, if a tenth of a second has gone since that was done.
+    fn sweep(&mut self, limits: &Limits, now: u64) {
+        if now.saturating_sub(self.swept) < SWEEP {
+            return;
+        }
+        self.swept = now;
+        for slot in 0..self.doors.len() {
+            let Some(Some(door)) = self.doors.get(slot) else {
+                continue;
+            };
+            if door.face.is_late(limits.idle_ms, limits.request_ms, now) {
+                self.close(slot, Why::Late);
+            }
+        }
+    }
+
+    /// One round: connections are accepted, asked for, answered, and closed where they are late.
+    pub fn round<S: Service, R: Clock>(
+        &mut self,
+        round: &Round<'_, R>,
+        registry: &Registry,
+        table: &mut Connections,
+        service: &mut S,
+        carrier: &mut Carrier,
+        watch: &mut Watch,
+        limits: &Limits,
+        buffer: &mut [u8; PIECE],
+    )
+        requires { S.is_ready service.old }
+        ensures reached { HasReached S.turn service.old table.old service.new table.new }
+        ensures ready { S.is_ready service.new }
+    {
+        self.accept(registry, round.now);
+        self.more = self.pump_all(round, table, service, carrier, watch, buffer);
+        self.sweep(limits, round.now);
+    }
+}

@@ -1,0 +1,275 @@
+//! The socket of a connection of HTTP, and what is known of it.
+
+ghost use Rattle.std.specs.Prelude.{◌≤◌, IfSome};
+ghost use Rattle.ts_links.specs.Calls.{HasReached};
+
+use crate::asking::ask;
+use crate::carrier::Carrier;
+use crate::door::{PIECE, write_some};
+use crate::frames::first_of;
+use crate::pumping::Round;
+use crate::watch::{Watch, moment};
+use mio::event::Event;
+use mio::net::TcpStream;
+use std::alloc::Global;
+use std::io::{ErrorKind, Read};
+use std::net::Shutdown;
+use std::rt::Clock;
+use ts_links::{Connections, Service};
+use ts_site::{Board, Face, Scene};
+use ts_wire::Frame;
+
+/// The most requests of one connection that are answered before the others have their turn.
+const TURNS: u32 = 8;
+
+/// The socket of a connection of HTTP. An event comes at a change alone, so that what may be done
+/// is kept here until the socket refuses it.
+#[derive(Drop)]
+pub(crate) struct WebDoor {
+    pub stream: TcpStream,
+    pub face: Face,
+    readable: bool,
+    writable: bool,
+    /// No more comes.
+    ended: bool,
+    /// Nothing more is written.
+    shut: bool,
+    /// It is to be looked at in this round.
+    pub hot: bool,
+}
+
+/// What became of a connection in a round.
+#[derive(Clone, Copy, Debug, PartialEq, Eq)]
+pub(crate) enum Left {
+    /// It waits for its socket.
+    Waits,
+    /// It could do more.
+    More,
+    /// Its command has to wait for another that is under way.
+    Held,
+    /// Its client has closed it, and all was answered.
+    Ended,
+    /// It failed.
+    Failed,
+}
+
+impl WebDoor {
+    /// The door of a new connection.
+    pub fn new(stream: TcpStream, face: Face) -> WebDoor {
+        WebDoor {
+            stream,
+            face,
+            readable: true,
+            writable: true,
+            ended: false,
+            shut: false,
+            hot: true,
+        }
+    }
+
+    /// An event of its socket.
+    pub fn mark(&mut self, event: &Event) {
+        self.hot = true;
+        if event.is_readable() || event.is_read_closed() || event.is_error() {
+            self.readable = true;
+        }
+        if event.is_writable() || event.is_write_closed() || event.is_error() {
+            self.writable = true;
+        }
+    }
+
+    /// Reads once. How many octets came, and `None` where the connection failed.
+    fn read_some(&mut self, buffer: &mut [u8; PIECE]) -> Option<usize>
+        ensures { IfSome result (λ count. count ≤ 16384) }
+    {
+        match self.stream.read(buffer) {
+            Ok(0) => {
+                self.ended = true;
+                Some(0)
+            }
+            Ok(count) => Some(count),
+            Err(error) if error.kind() == ErrorKind::WouldBlock => {
+                self.readable = false;
+                Some(0)
+            }
+            Err(error) if error.kind() == ErrorKind::Interrupted => Some(0),
+            Err(_) => None,
+        }
+    }
+
+    /// Reads once, if there is room. `false` where the connection failed.
+    fn read(&mut self, buffer: &mut [u8; PIECE], now: u64) -> bool {
+        if !self.readable || self.ended || !self.face.reads() {
+            return true;
+        }
+        let Some(count) = self.read_some(buffer) else {
+            return false;
+        };
+        self.face.push(&buffer[..count], now).is_ok()
+    }
+
+    /// Writes once, if something waits. `false` where the connection failed.
+    fn write(&mut self, now: u64) -> bool {
+        if !self.writable || self.face.octets().is_empty() {
+            return true;
+        }
+        match write_some(&mut self.stream, &mut self.writable, self.face.octets()) {
+            Some(count) => {
+                self.face.leave(count, now);
+                true
+            }
+            None => false,
+        }
+    }
+
+    /// Ends what is written, once all has left of a connection that has ended. The system would
+    /// else take the last response away where the client has sent more.
+    fn shut_if_done(&mut self) {
+        if self.shut || !self.face.is_ended() || !self.face.octets().is_empty() {
+            return;
+        }
+        self.shut = true;
+        let _shut = self.stream.shutdown(Shutdown::Write);
+    }
+
+    /// What is left to do after so many turns.
+    fn left(&self, turns: u32) -> Left {
+        let waits = !self.face.octets().is_empty();
+        let reads = self.readable && !self.ended && self.face.reads();
+        if self.face.goes_on() || turns == TURNS || reads || (waits && self.writable) {
+            return Left::More;
+        }
+        if self.face.asks().is_some() {
+            return Left::Held;
+        }
+        if self.ended && !waits {
+            return Left::Ended;
+        }
+        Left::Waits
+    }
+}
+
+/// What became of a turn of a connection.
+#[derive(Clone, Copy, Debug, PartialEq, Eq)]
+enum Turned {
+    /// The node was asked.
+    Asked,
+    /// There is nothing to ask it, or it can't be asked now.
+    Nothing,
+    /// The connection can't go on.
+    Failed,
+}
+
+/// Asks the node, and gives its answer.
+fn ask_node<S: Service, R: Clock>(
+    round: &Round<'_, R>,
+    table: &mut Connections,
+    service: &mut S,
+    watch: &mut Watch,
+    alloc: Global,
+    request: &[u8],
+) -> Option<Frame>
+    requires { S.is_ready service.old }
+    ensures reached { HasReached S.turn service.old table.old service.new table.new }
+    ensures ready { S.is_ready service.new }
+{
+    let begun = moment(round.rt);
+    let answer = ask(table, service, alloc, request, round.now)?;
+    watch.took(round.rt, begun);
+    first_of(alloc, &answer)
+}
+
+/// Asks the node what the next request of a connection asks of it.
+fn turn<S: Service, R: Clock>(
+    round: &Round<'_, R>,
+    table: &mut Connections,
+    service: &mut S,
+    carrier: &mut Carrier,
+    watch: &mut Watch,
+    alloc: Global,
+    face: &mut Face,
+    board: &mut Board,
+) -> Turned
+    requires { S.is_ready service.old }
+    ensures reached { HasReached S.turn service.old table.old service.new table.new }
+    ensures ready { S.is_ready service.new }
+{
+    let Some(request) = face.asks() else {
+        return Turned::Nothing;
+    };
+    if carrier.gate.holds_back(request, round.now) {
+        return Turned::Nothing;
+    }
+    carrier.see_http(request, round.now);
+    let Some(frame) = ask_node(round, table, service, watch, alloc, request) else {
+        return Turned::Failed;
+    };
+    match face.give(&frame, board, round.now) {
+        Ok(()) => Turned::Asked,
+        Err(_) => Turned::Failed,
+    }
+}
+
+/// Answers requests of a connection. How often the node was asked, and `None` where the connection
+/// can't go on.
+fn take_turns<S: Service, R: Clock>(
+    round: &Round<'_, R>,
+    scene: &Scene<'_>,
+    table: &mut Connections,
+    service: &mut S,
+    carrier: &mut Carrier,
+    watch: &mut Watch,
+    alloc: Global,
+    face: &mut Face,
+    board: &mut Board,
+) -> Option<u32>
+    requires { S.is_ready service.old }
+    ensures reached { HasReached S.turn service.old table.old service.new table.new }
+    ensures ready { S.is_ready service.new }
+{
+    for turns in 0..TURNS {
+        if face.take(scene, board, round.now).is_err() {
+            return None;
+        }
+        match turn(round, table, service, carrier, watch, alloc, face, board) {
+            Turned::Asked => {}
+            Turned::Nothing => return Some(turns),
+            Turned::Failed => return None,
+        }
+    }
+    Some(TURNS)
+}
+
+/// One read, some turns and one write of a connection.
+pub(crate) fn pump_web<S: Service, R: Clock>(
+    round: &Round<'_, R>,
+    scene: &Scene<'_>,
+    table: &mut Connections,
+    service: &mut S,
+    carrier: &mut Carrier,
+    watch: &mut Watch,
+    alloc: Global,
+    door: &mut WebDoor,
+    board: &mut Board,
+    buffer: &mut [u8; PIECE],
+) -> Left
+    requires { S.is_ready service.old }
+    ensures reached { HasReached S.turn service.old table.old service.new table.new }
+    ensures ready { S.is_ready service.new }
+{
+    if !door.read(buffer, round.now) {
+        return Left::Failed;
+    }
+    let face = &mut door.face;
+    let turns = take_turns(
+        round, scene, table, service, carrier, watch, alloc, face, board,
+    );
+    let Some(turns) = turns else {
+        return Left::Failed;
+    };
+    if !door.write(round.now) {
+        return Left::Failed;
+    }
+    door.shut_if_done();
+    door.left(turns)
+}

@@ -1,0 +1,146 @@
+//! The rows of a page are read.
+
+ghost use Rattle.std.specs.Prelude.{◌≡◌};
+ghost use Rattle.ts_question.specs.Reading.{Gives, whole, octets_at};
+ghost use Rattle.ts_question.specs.RowReading.{tag_at, moment_at, anchor_at, crl_at, command_at};
+ghost use Rattle.ts_question.specs.RowView.{anchor_line, crl_line, command_line};
+
+use crate::fault::ReadFault;
+use crate::parts::{blob16, number32, number64, octet};
+use crate::reading::digest;
+use crate::rows::{AnchorRow, CommandRow, CrlRow};
+
+/// The octet that a row of a kind begins with.
+#[tactic(auto, unfolding(crate::specs::RowReading::tag_at))]
+fn tag(kind: u8, octets: &[u8]) -> Result<(u8, &[u8]), ReadFault>
+    ensures { Gives (λ x. (x.0, x.1.now)) result (tag_at kind octets.now) }
+{
+    let (found, rest) = octet(octets)?;
+    if found != kind {
+        return Err(ReadFault::Form);
+    }
+    Ok((found, rest))
+}
+
+#[tactic(auto, unfolding(crate::specs::RowReading::moment_at))]
+fn moment(octets: &[u8]) -> Result<(i64, &[u8]), ReadFault>
+    ensures { Gives (λ x. (x.0, x.1.now)) result (moment_at octets.now) }
+{
+    let (number, rest) = number64(octets)?;
+    Ok((number.cast_signed(), rest))
+}
+
+/// The 16 octets of a command's id.
+fn command_id(octets: &[u8]) -> Result<([u8; 16], &[u8]), ReadFault>
+    ensures { Gives (λ x. (x.0, x.1.now)) result (octets_at 16 octets.now) }
+{
+    if octets.len() < 16 {
+        return Err(ReadFault::Form);
+    }
+    let (front, rest) = octets.split_at(16);
+    match <[u8; 16]>::try_from(front) {
+        Ok(id) => Ok((id, rest)),
+        Err(_) => Err(ReadFault::Form),
+    }
+}
+
+#[tactic(auto, unfolding(crate::specs::RowReading::anchor_at))]
+fn anchor(octets: &[u8]) -> Result<(AnchorRow<'_>, &[u8]), ReadFault>
+    ensures { Gives (λ x. (anchor_line x.0, x.1.now)) result (anchor_at octets.now) }
+{
+    let (_, rest) = tag(1, octets)?;
+    let (id, rest) = digest(rest)?;
+    let (subject, rest) = blob16(rest)?;
+    let (purposes, rest) = blob16(rest)?;
+    let row = AnchorRow {
+        id,
+        subject,
+        purposes,
+    };
+    Ok((row, rest))
+}
+
+#[tactic(auto, unfolding(crate::specs::RowReading::crl_at))]
+fn crl(octets: &[u8]) -> Result<(CrlRow<'_>, &[u8]), ReadFault>
+    ensures { Gives (λ x. (crl_line x.0, x.1.now)) result (crl_at octets.now) }
+{
+    let (_, rest) = tag(2, octets)?;
+    let (id, rest) = digest(rest)?;
+    let (issuer, rest) = blob16(rest)?;
+    let (number, rest) = blob16(rest)?;
+    let (base, rest) = blob16(rest)?;
+    let (scope, rest) = blob16(rest)?;
+    let (this_update, rest) = moment(rest)?;
+    let (next_update, rest) = moment(rest)?;
+    let (entries, rest) = number32(rest)?;
+    let (size, rest) = number32(rest)?;
+    let row = CrlRow {
+        id,
+        issuer,
+        number,
+        base,
+        scope,
+        this_update,
+        next_update,
+        entries,
+        size,
+    };
+    Ok((row, rest))
+}
+
+#[tactic(auto, unfolding(crate::specs::RowReading::command_at))]
+fn command(octets: &[u8]) -> Result<(CommandRow<'_>, &[u8]), ReadFault>
+    ensures { Gives (λ x. (command_line x.0, x.1.now)) result (command_at octets.now) }
+{
+    let (_, rest) = tag(3, octets)?;
+    let (id, rest) = command_id(rest)?;
+    let (kind, rest) = octet(rest)?;
+    let (size, rest) = number32(rest)?;
+    let (about, rest) = blob16(rest)?;
+    let (purposes, rest) = blob16(rest)?;
+    let (outcome, rest) = octet(rest)?;
+    let (detail, rest) = number32(rest)?;
+    let row = CommandRow {
+        id,
+        kind,
+        size,
+        about,
+        purposes,
+        outcome,
+        detail,
+    };
+    Ok((row, rest))
+}
+
+/// The row of an anchor that the octets are.
+pub(crate) fn whole_anchor(octets: &[u8]) -> Result<AnchorRow<'_>, ReadFault>
+    ensures { Gives anchor_line result (whole (anchor_at octets.now)) }
+{
+    let (row, rest) = anchor(octets)?;
+    if !rest.is_empty() {
+        return Err(ReadFault::Form);
+    }
+    Ok(row)
+}
+
+/// The row of a CRL that the octets are.
+pub(crate) fn whole_crl(octets: &[u8]) -> Result<CrlRow<'_>, ReadFault>
+    ensures { Gives crl_line result (whole (crl_at octets.now)) }
+{
+    let (row, rest) = crl(octets)?;
+    if !rest.is_empty() {
+        return Err(ReadFault::Form);
+    }
+    Ok(row)
+}
+
+/// The row of a command that the octets are.
+pub(crate) fn whole_command(octets: &[u8]) -> Result<CommandRow<'_>, ReadFault>
+    ensures { Gives command_line result (whole (command_at octets.now)) }
+{
+    let (row, rest) = command(octets)?;
+    if !rest.is_empty() {
+        return Err(ReadFault::Form);
+    }
+    Ok(row)
+}

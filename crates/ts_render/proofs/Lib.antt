@@ -1,0 +1,2 @@
+mod Settings
+mod Chains

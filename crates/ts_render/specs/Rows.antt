@@ -1,0 +1,90 @@
+-- The fields of rows, by what the rows say.
+use Rattle.std.specs.Prelude.{◌≡◌, ℕ, List, [], ◌∷◌, ◌++◌, Option, Some, None, map, option_map}
+use Rattle.std.specs.Prelude.{replicate, string_bytes}
+use Rattle.hex.specs.Hex.{encode_lower}
+use Rattle.ts_store.specs.Commands.{purposes_encoding}
+use Rattle.ts_question.specs.Rows.{AnchorLine, AnchorFits, anchor_encoding}
+use Rattle.ts_question.specs.Rows.{CrlLine, CrlFits, crl_encoding}
+use Rattle.ts_question.specs.Rows.{CommandLine, CommandFits, command_encoding}
+use Rattle.ts_render.specs.Outcomes.{kind_word, outcome_of, outcome_words}
+use Rattle.ts_render.specs.Texts.{IsPrintable, IsTold, TellsMoment, hex_or_none, written}
+use Rattle.ts_render.specs.declared.rows.PurposeFields.{PurposeFields}
+use Rattle.ts_render.specs.declared.rows.PurposeFields.TheVariants.{Any, These, Unknown}
+use Rattle.ts_render.specs.declared.rows.AnchorFields.{AnchorFields}
+use Rattle.ts_render.specs.declared.rows.CrlFields.{CrlFields}
+use Rattle.ts_render.specs.declared.rows.CommandFields.{CommandFields}
+use Rattle.ts_render.specs.declared.rows.RowFields.{RowFields}
+use Rattle.ts_render.specs.declared.rows.RowFields.TheVariants.{Anchor, Crl, Command}
+
+-- ---- trust anchors
+
+-- the fields of purposes, as a command has them: none for any, or object identifiers
+abbrev pub AreTold : Option (List (List ℕ)) → PurposeFields → Type 0
+AreTold None Any = Unit {0}
+AreTold (Some oids) (These texts) = map string_bytes texts.items ≡ map written oids
+AreTold purposes fields = ⊥
+
+-- the octets of a command that sets these purposes
+abbrev pub setting : List ℕ → List ℕ
+setting octets = replicate 16 0 ++ (5 ∷ (replicate 32 0 ++ octets))
+
+-- the same, of octets; a row that was cut does not say them
+abbrev pub ArePurposes : List ℕ → PurposeFields → Type 0
+ArePurposes octets Unknown = Unit {0}
+ArePurposes octets fields = (purposes : Option (List (List ℕ)))
+    × (octets ≡ purposes_encoding purposes) × AreTold purposes fields
+
+-- the purposes that a command sets, if it does
+abbrev pub AreSet : List ℕ → Option PurposeFields → Type 0
+AreSet [] fields = fields ≡ None
+AreSet (octet ∷ octets) None = ⊥
+AreSet (octet ∷ octets) (Some fields) = ArePurposes (octet ∷ octets) fields
+
+pub record IsAnchorRow (line : AnchorLine) (fields : AnchorFields) : Type 0 where
+  pub id_is : string_bytes fields.id ≡ encode_lower line.id
+  pub subject : IsPrintable (string_bytes fields.subject)
+  pub purposes : ArePurposes line.purposes fields.purposes
+
+-- ---- CRLs
+
+pub record IsCrlRow (line : CrlLine) (fields : CrlFields) : Type 0 where
+  pub id_is : string_bytes fields.id ≡ encode_lower line.id
+  pub issuer : IsPrintable (string_bytes fields.issuer)
+  pub number_is : option_map string_bytes fields.number ≡ hex_or_none line.number
+  pub base_is : option_map string_bytes fields.base ≡ hex_or_none line.base
+  pub scope : IsTold line.scope (option_map string_bytes fields.scope)
+  pub this_is : TellsMoment line.this_update (option_map string_bytes fields.this_update)
+  pub next_is : TellsMoment line.next_update (option_map string_bytes fields.next_update)
+  pub seconds_are : fields.next_seconds ≡ line.next_update
+  pub entries_are : fields.entries ≡ line.entries
+  pub octets_are : fields.octets ≡ line.size
+
+-- ---- commands
+
+-- what an outcome and its detail say that became of a command
+abbrev pub words_of : ℕ → ℕ → Option (List ℕ)
+words_of outcome detail = option_map outcome_words (outcome_of outcome detail)
+
+pub record IsCommandRow (line : CommandLine) (fields : CommandFields) : Type 0 where
+  pub id_is : string_bytes fields.id ≡ encode_lower line.id
+  pub kind_is : option_map (λ word. word.now) fields.kind ≡ kind_word line.kind
+  pub outcome_is : option_map string_bytes fields.outcome ≡ words_of line.outcome line.detail
+  pub about_is : option_map string_bytes fields.about ≡ hex_or_none line.about
+  pub purposes : AreSet line.purposes fields.purposes
+  pub octets_are : fields.octets ≡ line.size
+
+-- ---- rows
+
+abbrev pub IsRow : List ℕ → RowFields → Type 0
+IsRow octets (Anchor fields) = (line : AnchorLine) × AnchorFits line
+    × (octets ≡ anchor_encoding line) × IsAnchorRow line fields
+IsRow octets (Crl fields) = (line : CrlLine) × CrlFits line
+    × (octets ≡ crl_encoding line) × IsCrlRow line fields
+IsRow octets (Command fields) = (line : CommandLine) × CommandFits line
+    × (octets ≡ command_encoding line) × IsCommandRow line fields
+
+-- octets are no row of any kind
+pub record IsNoRow (octets : List ℕ) : Type 0 where
+  pub no_anchor : (line : AnchorLine) → AnchorFits line → ¬ (octets ≡ anchor_encoding line)
+  pub no_crl : (line : CrlLine) → CrlFits line → ¬ (octets ≡ crl_encoding line)
+  pub no_command : (line : CommandLine) → CommandFits line → ¬ (octets ≡ command_encoding line)

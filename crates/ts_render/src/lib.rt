@@ -1,0 +1,42 @@
+//! What a node answers, for who reads it in a browser or in a program: fields, of which `ts_json`
+//! makes JSON.
+//!
+//! ```text
+//! let fields = answer_fields(alloc, &question, &answer, &id)?;
+//! let json = ts_json::answer_text(alloc, &fields)?;
+//! let row = row_fields(alloc, &octets)?;                  // Some(Crl(..)), of a page's row
+//! let members = row_members(alloc, place, row)?;          // of a JSON object
+//! ```
+//!
+//! - [`answer_fields`]: `AreFields` (`specs/Fields`): each field says what the question, the answer
+//!   and the id say; of the explanation that it is printable.
+//! - [`is_final`]: whether a reply to a question that names k is for ever: all but `NotYet`.
+//!   [`valid_in`]: whether a reply says that a chain is valid, or that it isn't.
+//! - [`row_fields`]: `IsRow`, `IsNoRow` (`specs/Rows`): the fields of the row that octets are, or
+//!   that they are none. [`row_members`]: the fields as members of an object (`specs/RowMembers`).
+//! - [`chain_fields`]: the certificates of a question, of which the one is marked that a reply names
+//!   (`specs/Chain`).
+//! - [`outcome_text`], [`moment_text`]: what became of a command; a moment.
+//!
+//! Out of memory is the only error.
+//!
+//! # Not promised
+//!
+//! What the explanation says, as in `ts_explain`, and names, but that they are printable.
+#![tactic(auto)]
+
+mod chain;
+mod fields;
+mod members;
+mod outcome;
+mod replies;
+mod rows;
+mod text;
+
+pub use chain::{CertificateFields, chain_fields};
+pub use fields::answer_fields;
+pub use members::row_members;
+pub use outcome::outcome_text;
+pub use replies::{is_final, valid_in};
+pub use rows::{AnchorFields, CommandFields, CrlFields, PurposeFields, RowFields, row_fields};
+pub use text::moment_text;

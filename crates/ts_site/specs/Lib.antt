@@ -1,0 +1,5 @@
+pub mod Routes
+pub mod Request
+pub mod Response
+pub mod Asking
+pub mod Commanding

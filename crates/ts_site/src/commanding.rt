@@ -1,0 +1,135 @@
+//! Commands over HTTP: one is submitted, or asked for.
+
+ghost use Rattle.std.specs.Prelude.{IfOk, map, option_map};
+ghost use Rattle.ts_http.specs.Request.{field_in};
+ghost use Rattle.ts_site.specs.Commanding.{BeginsCommand, IsFirst, IsRefusal};
+ghost use Rattle.ts_site.specs.Request.{bearer_in};
+
+use crate::frames::{outcome_frame, submit_frame};
+use crate::next::{Next, Waits, ask};
+use crate::refusing::{error, node_failed};
+use crate::request::{Bearer, bearer_in, query_of};
+use crate::response::Response;
+use crate::scene::Scene;
+use std::alloc::{AllocError, Global};
+use ts_access::{Key, may};
+use ts_form::{command_id_of, form_pairs};
+use ts_hmac::is_same_tag;
+use ts_http::Request;
+use ts_json::{Member, Plain};
+use ts_render::outcome_text;
+use ts_store::{Command, Outcome};
+use ts_wire::Frame;
+
+/// The first key that has the secret.
+fn key_with<'a>(keys: &'a [Key], secret: &[u8; 32]) -> Option<&'a Key>
+    ensures { IsFirst keys.now secret.now (option_map (λ key. key.now) result) }
+{
+    for key in keys {
+        if is_same_tag(&key.secret, secret) {
+            return Some(key);
+        }
+    }
+    None
+}
+
+/// The front of a frame that submits a command, of which a role needs the kind alone.
+const SUBMIT: [u8; 6] = [0, 0, 0, 2, 2, 0x10];
+
+/// Why a request may not submit a command, if it may not: 401 where it shows no key of the node's,
+/// 403 where the key may not.
+fn refusal_of(scene: &Scene<'_>, bearer: Bearer) -> Option<(u16, &'static str)>
+    ensures { IsRefusal scene.entry.now.commands scene.entry.now.node
+        scene.entry.now.keys.now bearer (option_map (λ said. said.0) result) }
+{
+    if !scene.commands {
+        return Some((
+            403,
+            "commands are taken over loopback, where the node has keys",
+        ));
+    }
+    let Bearer::Secret(secret) = bearer else {
+        return Some((
+            401,
+            "a command wants Authorization: Bearer and the secret of a key",
+        ));
+    };
+    match key_with(scene.keys, &secret) {
+        Some(key) if may(key.role, scene.node, &SUBMIT) => None,
+        Some(_) => Some((403, "this key's role may not change the store")),
+        None => Some((401, "the node has no key with this secret")),
+    }
+}
+
+/// Begins a request that submits a command. Its body is looked at once its key may submit it.
+pub(crate) fn begin_command(
+    alloc: Global,
+    request: &Request,
+    scene: &Scene<'_>,
+) -> Result<Next, AllocError>
+    ensures { IfOk result (BeginsCommand scene.entry.now.commands scene.entry.now.node
+        scene.entry.now.keys.now (bearer_in (map field_in request.now.fields.items))
+        request.now.body.items) }
+{
+    if let Some((status, words)) = refusal_of(scene, bearer_in(&request.fields)) {
+        return Ok(Next::Tell(error(alloc, status, words)?));
+    }
+    let Some(command) = Command::read(alloc, &request.body)? else {
+        return Ok(Next::Tell(error(alloc, 400, "the body is not one whole command")?));
+    };
+    let id = command.id();
+    let frame = submit_frame(alloc, command)?;
+    Ok(ask(Waits::Command(id), frame))
+}
+
+/// Begins a request for what became of a command.
+pub(crate) fn begin_outcome(alloc: Global, request: &Request) -> Result<Next, AllocError> {
+    let pairs = form_pairs(alloc, query_of(&request.target))?;
+    let Some(id) = command_id_of(&pairs) else {
+        let words = "id is not the 32 lower-case hexadecimal digits of a command's id";
+        return Ok(Next::Tell(error(alloc, 400, words)?));
+    };
+    let frame = outcome_frame(alloc, &id)?;
+    Ok(ask(Waits::Command(id), frame))
+}
+
+/// What is known of a command.
+fn known(
+    alloc: Global,
+    status: u16,
+    id: &[u8; 16],
+    position: Option<u32>,
+    outcome: Option<Outcome>,
+) -> Result<Response, AllocError> {
+    let outcome = match outcome {
+        Some(outcome) => Some(outcome_text(alloc, outcome)?),
+        None => None,
+    };
+    let mut members = Vec::new(alloc);
+    members.push(Member {
+        name: "id",
+        value: Plain::Text(Some(hex::encode(alloc, id)?)),
+    })?;
+    members.push(Member {
+        name: "position",
+        value: Plain::Number(position.map(u64::from)),
+    })?;
+    members.push(Member {
+        name: "outcome",
+        value: Plain::Text(outcome),
+    })?;
+    Response::object(alloc, status, &members)
+}
+
+/// Goes on once the node has answered.
+pub(crate) fn end_command(alloc: Global, id: &[u8; 16], frame: &Frame) -> Result<Next, AllocError> {
+    let response = match frame {
+        Frame::Started { position, .. } => known(alloc, 202, id, Some(*position), None)?,
+        Frame::Settled { position, outcome } => {
+            known(alloc, 200, id, Some(*position), Some(*outcome))?
+        }
+        Frame::Unknown => known(alloc, 404, id, None, None)?,
+        _ => node_failed(alloc)?,
+    };
+    Ok(Next::Tell(response))
+}

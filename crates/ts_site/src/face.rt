@@ -1,0 +1,230 @@
+//! One connection of HTTP before a node, as a value.
+
+ghost use Rattle.std.specs.Prelude.{◌≡◌, ◌≤◌, length};
+
+use crate::board::Board;
+use crate::heading::{headers_of, phrase_of};
+use crate::next::{Next, Pending};
+use crate::request::route_in;
+use crate::response::Response;
+use crate::route::Route;
+use crate::scene::Scene;
+use crate::site::{begin, go_on};
+use std::alloc::{AllocError, Global};
+use ts_http::{Connection, HttpFault, MAX_HELD, Progress};
+use ts_wire::Frame;
+
+/// What the node is asked for the request that waits.
+#[derive(Drop)]
+pub(crate) struct Asking {
+    pub pending: Pending,
+    /// The octets of the frame.
+    pub frame: Vec<u8>,
+}
+
+/// One connection of HTTP before a node: octets that came go in, frames for the node come out, and
+/// the node's answers become responses.
+#[derive(Drop)]
+pub struct Face {
+    pub(crate) alloc: Global,
+    pub(crate) connection: Connection,
+    /// What the node is asked for the request that waits.
+    pub(crate) asking: Option<Asking>,
+    /// Requests wait until what waits to leave is less.
+    pub(crate) paused: bool,
+}
+
+/// Why a request is not taken, in words.
+fn words_of(status: u16) -> &'static str {
+    match status {
+        413 => "a body has at most 8388608 octets",
+        414 => "the path is too long",
+        431 => "the header fields are too long",
+        501 => "a transfer coding that isn't taken here",
+        _ => "this is no request of HTTP/1.1",
+    }
+}
+
+impl Face {
+    /// A connection of which nothing has come, at this moment in milliseconds.
+    pub fn new(alloc: Global, now: u64) -> Face {
+        Face {
+            alloc,
+            connection: Connection::new(alloc, now),
+            asking: None,
+            paused: false,
+        }
+    }
+
+    /// Octets came. Of a connection that has ended they are dropped.
+    ///
+    /// # Errors
+    ///
+    /// Memory that is refused.
+    pub fn push(&mut self, piece: &[u8], now: u64) -> Result<(), AllocError> {
+        self.connection.push(piece, now)
+    }
+
+    /// Whether more is to be read from the client.
+    pub fn reads(&self) -> bool {
+        self.connection.reads() && self.connection.octets().len() < MAX_HELD
+    }
+
+    /// Whether requests that have come can be taken now, which had to wait.
+    pub fn goes_on(&self) -> bool {
+        self.paused && self.connection.octets().len() < MAX_HELD
+    }
+
+    /// Whether nothing more is answered.
+    pub fn is_ended(&self) -> bool {
+        self.connection.is_ended()
+    }
+
+    /// The octets of the frame that the node is to be asked by.
+    pub fn asks(&self) -> Option<&[u8]> {
+        match &self.asking {
+            Some(asking) => Some(asking.frame.as_slice()),
+            None => None,
+        }
+    }
+
+    /// What waits to leave.
+    pub fn octets(&self) -> &[u8]
+        ensures { result.now ≡ self.now.connection.out }
+    {
+        self.connection.octets()
+    }
+
+    /// So many of the octets that wait have left.
+    pub fn leave(&mut self, count: usize, now: u64)
+        requires { count ≤ length self.old.connection.out }
+    {
+        self.connection.leave(count, now);
+    }
+
+    /// Whether the connection is late, by the times of `ts_http`.
+    pub fn is_late(&self, idle_ms: u64, request_ms: u64, now: u64) -> bool {
+        self.connection.is_late(idle_ms, request_ms, now)
+    }
+
+    /// Since when nothing is asked.
+    pub fn idle_since(&self) -> Option<u64> {
+        self.connection.idle_since()
+    }
+
+    /// Writes a response.
+    fn respond(
+        &mut self,
+        response: &Response,
+        route: Route,
+        board: &mut Board,
+        now: u64,
+    ) -> Result<(), HttpFault> {
+        let headers = headers_of(self.alloc, response)?;
+        let (status, phrase) = (response.status, phrase_of(response.status));
+        self.connection
+            .respond(status, phrase, headers, &response.body, now)?;
+        board.answered(route, status);
+        Ok(())
+    }
+
+    /// Writes the response to what is no request that is taken.
+    fn refuse(&mut self, status: u16, board: &mut Board, now: u64) -> Result<(), HttpFault> {
+        let response = Response::line(self.alloc, status, words_of(status))?;
+        self.respond(&response, Route::None, board, now)
+    }
+
+    /// The route of the request that waits.
+    fn route(&self) -> Route {
+        match self.connection.request() {
+            Some(request) => route_in(&request.target),
+            None => Route::None,
+        }
+    }
+
+    /// Writes a response, or asks the node.
+    fn follow(&mut self, next: Next, board: &mut Board, now: u64) -> Result<(), HttpFault> {
+        match next {
+            Next::Tell(response) => {
+                let route = self.route();
+                self.respond(&response, route, board, now)
+            }
+            Next::Ask(pending, frame) => {
+                self.asking = Some(Asking { pending, frame });
+                Ok(())
+            }
+        }
+    }
+
+    /// Takes the request that waits. Whether there was one.
+    fn take_request(
+        &mut self,
+        scene: &Scene<'_>,
+        board: &mut Board,
+        now: u64,
+    ) -> Result<bool, HttpFault> {
+        let Some(request) = self.connection.request() else {
+            return Ok(false);
+        };
+        let next = begin(self.alloc, request, scene)?;
+        self.follow(next, board, now)?;
+        Ok(true)
+    }
+
+    /// The next step, while the node is not asked. Whether there may be another.
+    fn step(&mut self, scene: &Scene<'_>, board: &mut Board, now: u64) -> Result<bool, HttpFault> {
+        match self.connection.read(now)? {
+            Progress::Goes => Ok(true),
+            Progress::Waits => Ok(false),
+            Progress::Stops => match self.connection.wrong() {
+                Some(status) => {
+                    self.refuse(status, board, now)?;
+                    Ok(false)
+                }
+                None => self.take_request(scene, board, now),
+            },
+        }
+    }
+
+    /// Goes on until the node has to be asked, or nothing can be done before something comes, or
+    /// leaves.
+    ///
+    /// # Errors
+    ///
+    /// Memory that is refused. The connection can't go on then.
+    pub fn take(
+        &mut self,
+        scene: &Scene<'_>,
+        board: &mut Board,
+        now: u64,
+    ) -> Result<(), HttpFault> {
+        self.paused = false;
+        for _step in 0..u32::MAX {
+            if self.asking.is_some() {
+                return Ok(());
+            }
+            if self.connection.octets().len() >= MAX_HELD {
+                self.paused = true;
+                return Ok(());
+            }
+            if !self.step(scene, board, now)? {
+                return Ok(());
+            }
+        }
+        Ok(())
+    }
+
+    /// The node has answered by this frame: the response to the request waits to leave, or the node
+    /// is asked more.
+    ///
+    /// # Errors
+    ///
+    /// Memory that is refused; `Write` where nothing was asked. The connection can't go on then.
+    pub fn give(&mut self, frame: &Frame, board: &mut Board, now: u64) -> Result<(), HttpFault> {
+        let Some(asking) = self.asking.take() else {
+            return Err(HttpFault::Write);
+        };
+        let next = go_on(self.alloc, asking.pending, frame, board)?;
+        self.follow(next, board, now)
+    }
+}

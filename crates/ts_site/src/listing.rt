@@ -1,0 +1,123 @@
+//! What the store holds and the commands that it took, for programs.
+
+use crate::frames::question_frame;
+use crate::next::{Next, RowsAsked, Waits, ask};
+use crate::refusing::{error, fault_error, node_failed};
+use crate::request::query_of;
+use crate::response::{Content, Response};
+use crate::verifying::kept;
+use std::alloc::{AllocError, Global};
+use ts_form::{RowsWanted, form_pairs};
+use ts_http::Request;
+use ts_json::{Member, Plain, page_text};
+use ts_question::{Answer, Question, Reply, Terms};
+use ts_render::{row_fields, row_members};
+use ts_wire::Frame;
+
+/// The question for rows.
+pub(crate) fn rows_question(
+    alloc: Global,
+    log: bool,
+    k: Option<u32>,
+    from: u32,
+) -> Result<Question, AllocError> {
+    let terms = Terms::plain(alloc, k);
+    let question = if log {
+        Question::log(terms, from)
+    } else {
+        Question::store(terms, from)
+    };
+    match question {
+        Ok(question) => Ok(question),
+        // A position that was read is within the limits.
+        Err(_) => Err(AllocError),
+    }
+}
+
+/// Begins a request to `/v1/store` or `/v1/log`.
+pub(crate) fn begin_rows(alloc: Global, request: &Request, log: bool) -> Result<Next, AllocError> {
+    let pairs = form_pairs(alloc, query_of(&request.target))?;
+    let wanted = match RowsWanted::of(&pairs) {
+        Ok(wanted) => wanted,
+        Err(fault) => return Ok(Next::Tell(fault_error(alloc, fault)?)),
+    };
+    let asked = RowsAsked {
+        log,
+        from: wanted.from.unwrap_or(0),
+        is_pinned: wanted.k.is_some(),
+    };
+    let question = rows_question(alloc, log, wanted.k, asked.from)?;
+    let frame = question_frame(alloc, &question)?;
+    Ok(ask(Waits::Rows(asked), frame))
+}
+
+/// The members above the rows.
+fn head_members(
+    alloc: Global,
+    answer: &Answer,
+    from: u32,
+    total: u32,
+) -> Result<Vec<Member>, AllocError> {
+    let mut members = Vec::new(alloc);
+    for (name, number) in [("k", answer.k()), ("from", from), ("total", total)] {
+        members.push(Member {
+            name,
+            value: Plain::Number(Some(u64::from(number))),
+        })?;
+    }
+    Ok(members)
+}
+
+/// The members of each row. `None` where some octets are no row.
+fn all_members(
+    alloc: Global,
+    from: u32,
+    rows: &[Vec<u8>],
+) -> Result<Option<Vec<Vec<Member>>>, AllocError> {
+    let mut all = Vec::new(alloc);
+    for (place, octets) in rows.iter().enumerate() {
+        let Some(row) = row_fields(alloc, octets)? else {
+            return Ok(None);
+        };
+        let place = u64::from(from) + place as u64 + 1;
+        all.push(row_members(alloc, place, row)?)?;
+    }
+    Ok(Some(all))
+}
+
+/// The response with the rows of an answer.
+fn page(
+    alloc: Global,
+    asked: RowsAsked,
+    answer: &Answer,
+    total: u32,
+    rows: &[Vec<u8>],
+) -> Result<Response, AllocError> {
+    let Some(all) = all_members(alloc, asked.from, rows)? else {
+        return node_failed(alloc);
+    };
+    let members = head_members(alloc, answer, asked.from, total)?;
+    let text = page_text(alloc, &members, &all)?;
+    let mut response = Response::json(alloc, 200, text.as_str())?;
+    response.keeps = kept(asked.is_pinned, answer.reply());
+    Ok(response)
+}
+
+/// That the node knows fewer commands than it was asked about.
+fn not_yet(alloc: Global, prefix: u32) -> Result<Response, AllocError> {
+    let words = format!(in alloc; "the node knows {prefix} commands")?;
+    error(alloc, 404, words.as_str())
+}
+
+/// Goes on once the node has answered.
+pub(crate) fn end_rows(alloc: Global, asked: RowsAsked, frame: &Frame) -> Result<Next, AllocError> {
+    let Frame::Answer { answer } = frame else {
+        return Ok(Next::Tell(node_failed(alloc)?));
+    };
+    let response = match answer.reply() {
+        Reply::Page { total, rows } => page(alloc, asked, answer, *total, rows.as_slice())?,
+        Reply::NotYet { prefix } => not_yet(alloc, *prefix)?,
+        _ => node_failed(alloc)?,
+    };
+    Ok(Next::Tell(response))
+}

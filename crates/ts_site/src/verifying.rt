@@ -1,0 +1,82 @@
+//! Verdicts over HTTP, for programs.
+
+use crate::asking::{Asked, NoQuestion, question_in};
+use crate::board::Board;
+use crate::frames::question_frame;
+use crate::next::{Next, Waits, ask};
+use crate::refusing::{no_question, node_failed};
+use crate::response::{Content, Keeps, Response};
+use crate::route::Route;
+use std::alloc::{AllocError, Global};
+use ts_http::Request;
+use ts_json::answer_text;
+use ts_question::{Answer, Reply};
+use ts_render::{answer_fields, is_final, valid_in};
+use ts_wire::Frame;
+
+/// Asks a question.
+fn ask_question(alloc: Global, asked: Asked, route: Route) -> Result<Next, AllocError> {
+    let frame = question_frame(alloc, &asked.question)?;
+    Ok(ask(Waits::Verdict(asked, route), frame))
+}
+
+/// Begins a request to `/v1/verify` or `/v1/check`.
+pub(crate) fn begin_verdict(
+    alloc: Global,
+    request: &Request,
+    route: Route,
+    now: i64,
+) -> Result<Next, AllocError> {
+    match question_in(alloc, request, now)? {
+        Ok(asked) => ask_question(alloc, asked, route),
+        Err(why) => Ok(Next::Tell(no_question(alloc, why)?)),
+    }
+}
+
+/// The status of an answer.
+fn status_of(route: Route, reply: &Reply) -> u16 {
+    if route == Route::Check && valid_in(reply) != Some(true) {
+        return 403;
+    }
+    200
+}
+
+/// For how long an answer may be kept.
+pub(crate) fn kept(is_pinned: bool, reply: &Reply) -> Keeps {
+    if is_pinned && is_final(reply) {
+        return Keeps::Always;
+    }
+    Keeps::Never
+}
+
+/// The answer to a question.
+fn verdict(
+    alloc: Global,
+    asked: &Asked,
+    route: Route,
+    answer: &Answer,
+) -> Result<Response, AllocError> {
+    let fields = answer_fields(alloc, &asked.question, answer, &asked.id)?;
+    let text = answer_text(alloc, &fields)?;
+    let status = status_of(route, answer.reply());
+    let mut response = Response::json(alloc, status, text.as_str())?;
+    response.keeps = kept(asked.is_pinned, answer.reply());
+    Ok(response)
+}
+
+/// Goes on once the node has answered.
+pub(crate) fn end_verdict(
+    alloc: Global,
+    asked: &Asked,
+    route: Route,
+    frame: &Frame,
+    board: &mut Board,
+) -> Result<Next, AllocError> {
+    match frame {
+        Frame::Answer { answer } => {
+            board.judged(answer.reply());
+            Ok(Next::Tell(verdict(alloc, asked, route, answer)?))
+        }
+        _ => Ok(Next::Tell(node_failed(alloc)?)),
+    }
+}

@@ -1,0 +1,161 @@
+//! The steps by which a store comes to hold what files hold.
+
+use crate::fault::Fault;
+use std::alloc::{AllocError, Global};
+use ts_question::{AnchorRow, CrlRow};
+use ts_show::Line;
+use ts_store::{Command, TooLong, digest};
+use ts_sync::{Holding, Kind, Step, plan_named};
+
+/// A certificate or a CRL that a file holds.
+#[derive(Debug, Drop)]
+pub(crate) struct Value {
+    /// Its SHA-256, by which a store knows it.
+    pub id: [u8; 32],
+    /// The file.
+    pub file: String,
+    /// Its octets.
+    pub octets: Vec<u8>,
+}
+
+impl Value {
+    /// A value of a file.
+    pub(crate) fn new(file: String, octets: Vec<u8>) -> Value {
+        Value {
+            id: digest(&octets),
+            file,
+            octets,
+        }
+    }
+}
+
+/// What files hold.
+#[derive(Debug, Drop)]
+pub(crate) struct Wanted {
+    /// The trust anchors; none to leave those of a store as they are.
+    pub anchors: Vec<Value>,
+    /// The CRLs; none to leave those of a store as they are.
+    pub crls: Vec<Value>,
+}
+
+/// What a store holds, by its rows.
+///
+/// # Errors
+///
+/// `Field` where octets are no row of a store; `Memory`.
+pub(crate) fn held_in(alloc: Global, rows: &[Vec<u8>]) -> Result<Holding, Fault> {
+    let mut held = Holding {
+        anchors: Vec::new(alloc),
+        crls: Vec::new(alloc),
+    };
+    for octets in rows {
+        let octets = octets.as_slice();
+        if let Some(row) = AnchorRow::read(octets)? {
+            held.anchors.push(row.id)?;
+            continue;
+        }
+        match CrlRow::read(octets)? {
+            Some(row) => held.crls.push(row.id)?,
+            None => return Err(Fault::Field),
+        }
+    }
+    Ok(held)
+}
+
+/// The ids of values.
+fn ids_of(alloc: Global, values: &[Value]) -> Result<Vec<[u8; 32]>, AllocError> {
+    let mut ids = Vec::new(alloc);
+    for value in values {
+        ids.push(value.id)?;
+    }
+    Ok(ids)
+}
+
+/// The steps after which a store that holds this holds what files hold.
+pub(crate) fn steps_from(
+    alloc: Global,
+    held: &Holding,
+    wanted: &Wanted,
+) -> Result<Vec<Step>, AllocError> {
+    let anchors = ids_of(alloc, &wanted.anchors)?;
+    let crls = ids_of(alloc, &wanted.crls)?;
+    plan_named(alloc, held, &anchors, &crls)
+}
+
+/// The value of this id.
+fn value_in<'a>(values: &'a [Value], id: &[u8; 32]) -> Option<&'a Value> {
+    for value in values {
+        if value.id == *id {
+            return Some(value);
+        }
+    }
+    None
+}
+
+/// The value that a step brings, if it brings one.
+pub(crate) fn value_of<'a>(wanted: &'a Wanted, step: &Step) -> Option<&'a Value> {
+    match step.kind {
+        Kind::Add => value_in(&wanted.anchors, &step.id),
+        Kind::Load => value_in(&wanted.crls, &step.id),
+        Kind::Drop | Kind::Withdraw => None,
+    }
+}
+
+/// The octets that a step brings.
+fn octets_of(alloc: Global, value: Option<&Value>) -> Result<Vec<u8>, AllocError> {
+    match value {
+        Some(value) => Ok(Vec::from_slice(alloc, &value.octets)?),
+        None => Ok(Vec::new(alloc)),
+    }
+}
+
+/// The command of this id that does a step, which brings this value.
+///
+/// # Errors
+///
+/// `TooLong` where the value is longer than a command holds; `Memory`.
+pub(crate) fn command_of(
+    alloc: Global,
+    id: [u8; 16],
+    step: &Step,
+    value: Option<&Value>,
+) -> Result<Command, Fault> {
+    let made: Result<Command, TooLong> = match step.kind {
+        Kind::Add => Command::add_anchor(id, octets_of(alloc, value)?),
+        Kind::Load => Command::load_crl(id, octets_of(alloc, value)?),
+        Kind::Drop => Ok(Command::DropCrl { id, crl: step.id }),
+        Kind::Withdraw => Ok(Command::WithdrawAnchor {
+            id,
+            anchor: step.id,
+        }),
+    };
+    match made {
+        Ok(command) => Ok(command),
+        Err(_) => Err(Fault::TooLong),
+    }
+}
+
+/// The word for what a step does, as `trustd command` has it.
+fn word_of(kind: Kind) -> &'static str {
+    match kind {
+        Kind::Add => "add",
+        Kind::Load => "load",
+        Kind::Drop => "drop",
+        Kind::Withdraw => "withdraw",
+    }
+}
+
+/// The line of a step: what it does, the id that it is about and, where it brings one, its file.
+///
+/// # Errors
+///
+/// Out of memory.
+pub fn step_line(alloc: Global, step: &Step, file: Option<&str>) -> Result<Line, AllocError> {
+    let mut line = Line::of(alloc, word_of(step.kind).as_bytes())?;
+    line.text(b" ")?;
+    line.hex(&step.id)?;
+    if let Some(file) = file {
+        line.word(file.as_bytes())?;
+    }
+    Ok(line)
+}

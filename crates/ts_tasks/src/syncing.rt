@@ -1,0 +1,221 @@
+//! A store is made to hold what files hold.
+
+use crate::ended::{Ended, ending_of};
+use crate::fault::Fault;
+use crate::folders::files_of;
+use crate::keyed::Reached;
+use crate::listing::{all_rows, say_too_few};
+use crate::making::{draw_id, put};
+use crate::material::{is_certificate, values_in};
+use crate::requests::{server_at, told};
+use crate::steps::{Value, Wanted, command_of, held_in, step_line, steps_from, value_of};
+use crate::vouching::vouch_for_each;
+use crate::waiting::submit_and_wait;
+use std::alloc::{AllocError, Global};
+use std::io::Print;
+use std::net::Net;
+use std::random::RandomSource;
+use std::rt::{Clock, Files};
+use std::time::Duration;
+use ts_cli::SyncWords;
+use ts_lab::text::outcome_text;
+use ts_show::{Kind, Line};
+use ts_store::Outcome;
+use ts_sync::Step;
+use ts_wire::Frame;
+
+/// What the files that paths name hold of a kind.
+fn values_of<R: AllocGlobal + Files + Eprint + Clone + Drop>(
+    rt: &R,
+    paths: &[String],
+    wanted: Kind,
+) -> Result<Vec<Value>, Fault> {
+    let alloc = rt.alloc();
+    let mut values = Vec::new(alloc);
+    for file in files_of(rt, paths)? {
+        for octets in values_in(rt, alloc, file.as_str(), wanted)? {
+            let file = String::from_str(alloc, file.as_str())?;
+            values.push(Value::new(file, octets))?;
+        }
+    }
+    Ok(values)
+}
+
+/// What the files hold that the words name. Each certificate is one by each rule.
+fn wanted_by<R: AllocGlobal + Files + Eprint + Clone + Drop>(
+    rt: &R,
+    words: &SyncWords,
+) -> Result<Wanted, Fault> {
+    let anchors = values_of(rt, &words.anchors, Kind::Certificate)?;
+    for anchor in &anchors {
+        if !is_certificate(rt, anchor.file.as_str(), &anchor.octets) {
+            return Err(Fault::Field);
+        }
+    }
+    let crls = values_of(rt, &words.crls, Kind::List)?;
+    Ok(Wanted { anchors, crls })
+}
+
+/// The CRLs that steps load.
+fn loaded_by<'a>(
+    alloc: Global,
+    wanted: &'a Wanted,
+    steps: &[Step],
+) -> Result<Vec<&'a Value>, AllocError> {
+    let mut loaded = Vec::new(alloc);
+    for step in steps {
+        if step.kind == ts_sync::Kind::Load {
+            if let Some(value) = value_of(wanted, step) {
+                loaded.push(value)?;
+            }
+        }
+    }
+    Ok(loaded)
+}
+
+/// Looks at the store, and plans the steps after which it holds what is wanted; each CRL that they
+/// load is vouched for. None where the node answered no rows, which standard error says.
+fn steps_to<R: Files + Net + Clock + RandomSource + Eprint>(
+    rt: &R,
+    alloc: Global,
+    words: &SyncWords,
+    server: &mut Reached<'_, R>,
+    wanted: &Wanted,
+) -> Result<Option<Vec<Step>>, Fault> {
+    let rows = all_rows(alloc, server, None);
+    let rows = match told(rt, &words.reach, rows)? {
+        Ok(rows) => rows,
+        Err(few) => {
+            let _ended = say_too_few(rt, few);
+            return Ok(None);
+        }
+    };
+    let held = held_in(alloc, &rows)?;
+    let steps = steps_from(alloc, &held, wanted)?;
+    let loaded = loaded_by(alloc, wanted, &steps)?;
+    vouch_for_each(rt, alloc, words, &wanted.anchors, &loaded)?;
+    Ok(Some(steps))
+}
+
+/// Prints a line.
+fn print_line(rt: &impl Print, alloc: Global, line: &Line) -> Result<(), Fault> {
+    let mut text = Vec::new(alloc);
+    text.extend_from_slice(line.as_slice())?;
+    text.push(b'\n')?;
+    put(rt, &text)
+}
+
+/// The line of a step by what is wanted.
+fn line_of(alloc: Global, wanted: &Wanted, step: &Step) -> Result<Line, AllocError> {
+    let file = match value_of(wanted, step) {
+        Some(value) => Some(value.file.as_str()),
+        None => None,
+    };
+    step_line(alloc, step, file)
+}
+
+/// Prints the line of a step, where its command was chosen, and what it came to.
+fn print_settled(
+    rt: &impl Print,
+    alloc: Global,
+    mut line: Line,
+    position: u32,
+    outcome: Outcome,
+) -> Result<(), Fault> {
+    line.text(b" settled ")?;
+    line.number(u64::from(position))?;
+    line.word(outcome_text(alloc, outcome)?.as_bytes())?;
+    print_line(rt, alloc, &line)
+}
+
+/// Submits the command of a step, waits until it is chosen, and prints what it came to.
+fn submit_step<R: Files + Net + Clock + RandomSource + Print + Eprint>(
+    rt: &R,
+    alloc: Global,
+    words: &SyncWords,
+    server: &mut Reached<'_, R>,
+    wanted: &Wanted,
+    step: &Step,
+) -> Result<Ended, Fault> {
+    let line = line_of(alloc, wanted, step)?;
+    let command = command_of(alloc, draw_id(rt)?, step, value_of(wanted, step))?;
+    let longest = Duration::from_secs(words.wait as u64);
+    let answer = submit_and_wait(rt, alloc, server, command, longest);
+    let Frame::Settled { position, outcome } = told(rt, &words.reach, answer)? else {
+        let seconds = words.wait;
+        let _ = eprintln!(rt; "trustd: not chosen within {seconds} seconds; it may be later");
+        return Err(Fault::Unknown);
+    };
+    print_settled(rt, alloc, line, position, outcome)?;
+    Ok(ending_of(outcome))
+}
+
+/// Submits the commands of steps, one after another, up to the first that is refused: of all steps,
+/// or of those alone that bring something.
+fn follow<R: Files + Net + Clock + RandomSource + Print + Eprint>(
+    rt: &R,
+    alloc: Global,
+    words: &SyncWords,
+    server: &mut Reached<'_, R>,
+    wanted: &Wanted,
+    steps: &[Step],
+    all: bool,
+) -> Result<Ended, Fault> {
+    for step in steps {
+        if all || step.kind.brings() {
+            match submit_step(rt, alloc, words, server, wanted, step)? {
+                Ended::Well => {}
+                Ended::Refused => return Ok(Ended::Refused),
+            }
+        }
+    }
+    Ok(Ended::Well)
+}
+
+/// Prints the lines of steps.
+fn print_steps(
+    rt: &impl Print,
+    alloc: Global,
+    wanted: &Wanted,
+    steps: &[Step],
+) -> Result<(), Fault> {
+    for step in steps {
+        print_line(rt, alloc, &line_of(alloc, wanted, step)?)?;
+    }
+    Ok(())
+}
+
+/// Submits to a server what makes its store hold exactly what files hold, and prints a line of each
+/// command. What is brought comes first; where something is, the store is looked at again before
+/// anything goes, since a CRL takes the place of an older one.
+///
+/// # Errors
+///
+/// Those of the files; `Field` where one holds nothing of its kind; `BadCrl` where something speaks
+/// against a CRL that is to be loaded: nothing is submitted then. Those of the exchange and of the
+/// node; `Unknown` where a command is not known to be chosen in time.
+pub(crate) fn sync_store<
+    R: AllocGlobal + Files + Net + Clock + RandomSource + Print + Eprint + Clone + Drop,
+>(rt: &R, words: &SyncWords) -> Result<Ended, Fault> {
+    let alloc = rt.alloc();
+    let wanted = wanted_by(rt, words)?;
+    let mut server = server_at(rt, alloc, &words.reach)?;
+    let Some(steps) = steps_to(rt, alloc, words, &mut server, &wanted)? else {
+        return Ok(Ended::Refused);
+    };
+    if words.dry_run {
+        print_steps(rt, alloc, &wanted, &steps)?;
+        return Ok(Ended::Well);
+    }
+    if !steps.iter().any(|step| step.kind.brings()) {
+        return follow(rt, alloc, words, &mut server, &wanted, &steps, true);
+    }
+    match follow(rt, alloc, words, &mut server, &wanted, &steps, false)? {
+        Ended::Well => {}
+        Ended::Refused => return Ok(Ended::Refused),
+    }
+    let Some(steps) = steps_to(rt, alloc, words, &mut server, &wanted)? else {
+        return Ok(Ended::Refused);
+    };
+    follow(rt, alloc, words, &mut server, &wanted, &steps, true)
+}
