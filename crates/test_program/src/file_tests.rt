@@ -4,10 +4,11 @@ use std::alloc::Global;
 use std::fs;
 use std::rt::Files;
 use std::test::Fail;
+use ts_client::{Fault, read_file};
 use ts_record::Record;
 use ts_store::Command;
 use ts_synod::Fact;
-use ts_tasks::{Fault, RecordLock, format_files, migrate_files, open_disks, read_file};
+use ts_tasks::{RecordLock, format_files, migrate_files, open_disks};
 
 const FOLDER: &str = "ts_tasks_test";
 

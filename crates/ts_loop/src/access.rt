@@ -1,9 +1,9 @@
 //! Who may ask a node, and what it shows its peers.
 
-use crate::keyring::Keyring;
 use std::alloc::Global;
 use std::rt::Files;
 use ts_access::Key;
+use ts_keyring::Keyring;
 use ts_meter::Meter;
 
 /// Who may ask a node, and the key that it shows its peers.

@@ -8,6 +8,7 @@ use crate::door::PIECE;
 use crate::frames::{is_settled, messages_in, octets_of, outcome_of, prefix_of};
 use crate::line::{Change, Line};
 use crate::rounds::PEERS;
+use crate::telling::{MOST, log_frame, tell_rows};
 use mio::event::Event;
 use mio::{Registry, Token};
 use rand_core::{Rng, SeedableRng};
@@ -69,8 +70,8 @@ pub(crate) struct Carrier {
     pub gate: Gate,
     /// How many commands the node knows.
     pub prefix: u32,
-    /// How many of these standard error was told of.
-    told: u32,
+    /// How many of these standard error was told of, once it was told.
+    told: Option<u32>,
     /// When it learned one last, or was told to catch up.
     grown: u64,
     /// How many milliseconds the last position took.
@@ -96,7 +97,7 @@ impl Carrier {
             lines: Vec::new(alloc),
             gate: Gate::new(),
             prefix: 0,
-            told: 0,
+            told: None,
             grown: 0,
             pace: 0,
             rivals: 0,
@@ -385,18 +386,39 @@ impl Carrier {
         self.more
     }
 
-    /// Tells standard error how many commands the node knows, if that is news.
-    fn tell_prefix(&mut self, rt: &impl Eprint) {
-        if !self.tells || self.told == self.prefix {
+    /// Tells standard error of commands that were chosen since it was told last: one by one, or how
+    /// many the node knows where they are many.
+    pub fn tell<S: Service, R: Eprint>(
+        &mut self,
+        rt: &R,
+        table: &mut Connections,
+        service: &mut S,
+        now: u64,
+    )
+        requires { S.is_ready service.old }
+        ensures reached { HasReached S.turn service.old table.old service.new table.new }
+        ensures ready { S.is_ready service.new }
+    {
+        let prefix = self.prefix;
+        if !self.tells || self.told == Some(prefix) {
             return;
         }
-        self.told = self.prefix;
-        let prefix = self.prefix;
+        let told = self.told.replace(prefix);
+        if let Some(from) = told {
+            if prefix.saturating_sub(from) <= MOST {
+                let Some(request) = log_frame(self.alloc, from, prefix) else {
+                    return;
+                };
+                if let Some(answer) = ask(table, service, self.alloc, &request, now) {
+                    tell_rows(rt, self.alloc, from, &answer);
+                }
+                return;
+            }
+        }
         let _ = eprintln!(rt; "trustd: knows {prefix} commands");
     }
 
-    /// One round of the lines to the peers. Standard error is told of those reached and lost, and
-    /// of commands that were chosen.
+    /// One round of the lines to the peers. Standard error is told of those reached and lost.
     pub fn tend<R: Net + Eprint + RandomSource>(
         &mut self,
         rt: &R,
@@ -405,7 +427,6 @@ impl Carrier {
         buffer: &mut [u8; PIECE],
         now: u64,
     ) {
-        self.tell_prefix(rt);
         for place in 0..self.lines.len() {
             let chance = self.chances.next_u64();
             let Some(line) = self.lines.get_mut(place) else {

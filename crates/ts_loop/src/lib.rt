@@ -35,7 +35,8 @@
 //! takes the node's messages, hands the node those to itself at once (a server that takes its own
 //! gives them only beyond the bounds of a turn), and puts the others on a line to each peer, which
 //! is dialed again where it breaks (`ts_carrier`). While a command of a client is under way no
-//! other is taken; it is proposed again where its round was lost.
+//! other is taken; it is proposed again where its round was lost. Standard error is told of each
+//! command that was chosen: its position, kind, outcome and id.
 //!
 //! A sync of the node's disks stops the round, and every connection waits for it.
 //!
@@ -46,7 +47,6 @@
 //! - [`laws::each_speaks_for_itself`]: of the frames that `ts_access` hands on: a peer's key brings
 //!   messages of that peer to this node alone, and only an admin's brings a command.
 //! - [`Counts`]: what was done, for whoever watches.
-//! - [`pause`]: some time passes, for a client that asks again.
 //!
 //! # Not promised
 //!
@@ -68,17 +68,16 @@ mod door;
 mod fault;
 mod frames;
 mod group;
-mod keyring;
 pub mod laws;
 mod limits;
 mod line;
 mod lock;
-mod pausing;
 mod pumping;
 mod rounds;
 mod seal;
 mod serving;
 mod showing;
+mod telling;
 mod watch;
 mod web;
 mod web_door;
@@ -87,7 +86,5 @@ pub use access::Access;
 pub use counts::Counts;
 pub use fault::LoopFault;
 pub use group::{Group, PeerAddress};
-pub use keyring::{KeyFileFault, Keyring, MAX_KEY_FILE, read_key_file};
 pub use limits::Limits;
-pub use pausing::pause;
 pub use serving::serve_all;

@@ -255,6 +255,7 @@ impl Edge {
         ensures ready { S.is_ready service.new }
     {
         self.carrier.carry(table, service, self.counts.taken, now);
+        self.carrier.tell(rt, table, service, now);
         self.carrier
             .tend(rt, self.poll.registry(), own, buffer, now);
     }

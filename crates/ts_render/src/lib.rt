@@ -14,6 +14,8 @@
 //!   [`valid_in`]: whether a reply says that a chain is valid, or that it isn't.
 //! - [`row_fields`]: `IsRow`, `IsNoRow` (`specs/Rows`): the fields of the row that octets are, or
 //!   that they are none. [`row_members`]: the fields as members of an object (`specs/RowMembers`).
+//! - [`write_row`], [`row_text`]: a row as a line that a person reads, and as the text of a JSON
+//!   object; tests say of which words.
 //! - [`chain_fields`]: the certificates of a question, of which the one is marked that a reply names
 //!   (`specs/Chain`).
 //! - [`outcome_text`], [`moment_text`]: what became of a command; a moment.
@@ -27,6 +29,7 @@
 
 mod chain;
 mod fields;
+mod lines;
 mod members;
 mod outcome;
 mod replies;
@@ -35,6 +38,7 @@ mod text;
 
 pub use chain::{CertificateFields, chain_fields};
 pub use fields::answer_fields;
+pub use lines::{row_text, write_row};
 pub use members::row_members;
 pub use outcome::outcome_text;
 pub use replies::{is_final, valid_in};

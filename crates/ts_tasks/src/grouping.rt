@@ -1,14 +1,12 @@
 //! The group that a node is served in.
 
-use crate::fault::Fault;
-use crate::files::fault_of;
-use crate::keys::{key_in, keyring_of};
 use std::alloc::Global;
 use std::fs;
 use std::io::Read;
 use std::rt::Files;
 use ts_access::{Key, Role};
 use ts_cli::{ServeWords, peer_of};
+use ts_client::{Fault, fault_of, key_in, keyring_of};
 use ts_loop::{Access, Group, PeerAddress};
 use ts_meter::Meter;
 

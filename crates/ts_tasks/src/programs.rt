@@ -2,8 +2,7 @@
 
 ghost use Rattle.std.specs.Prelude.{◌≤◌};
 
-use crate::fault::Fault;
-use crate::files::{format_files, migrate_files, open_disks, read_all};
+use crate::disks::{format_files, migrate_files, open_disks};
 use crate::grouping::{access_of, group_of, say_start};
 use crate::locking::RecordLock;
 use std::alloc::Global;
@@ -15,6 +14,7 @@ use std::rt::{Clock, Files};
 use ts_answer::Answers;
 use ts_check::ChosenCheck;
 use ts_cli::ServeWords;
+use ts_client::{Fault, read_all};
 use ts_disk::Disk;
 use ts_loop::{Access, Group, Limits, LoopFault, serve_all};
 use ts_meter::{Meter, Metered};

@@ -1,38 +1,18 @@
 //! A task is run.
 
-ghost use Rattle.std.specs.Prelude.{◌≡◌, IsErr, Ok, OnErr, OnOk};
 ghost use Rattle.ts_cli.specs.Says.{IsInRange};
-ghost use Rattle.ts_tasks.specs.declared.ended.Ended.TheVariants.{Well};
 
-use crate::ended::Ended;
-use crate::fault::Fault;
-use crate::keys::print_key;
-use crate::listing::{Rows, print_diff, print_rows};
-use crate::making::{make_command, make_question, print_id, show_file};
 use crate::programs::{format_record, migrate_record, serve_record};
-use crate::requests::{ask_file, carry_messages, submit_file};
-use crate::syncing::sync_store;
-use crate::upkeep::{Upkeep, tend_server};
 use std::fs::File;
 use std::io::Print;
 use std::net::{Net, TcpListener, TcpStream};
 use std::random::RandomSource;
 use std::rt::{Clock, Files};
 use ts_cli::Task;
+use ts_client::{Ended, Fault, well};
 
-/// A task that asks for no answer ends well, unless it fails.
-fn well(ended: Result<(), Fault>) -> Result<Ended, Fault>
-    ensures done { OnOk ended (result ≡ Ok Well) }
-    ensures failed { OnErr ended (IsErr result) }
-{
-    match ended {
-        Ok(()) => Ok(Ended::Well),
-        Err(fault) => Err(fault),
-    }
-}
-
-/// Runs a task of a client that asks for an answer, or another, but the lab and a verdict without a
-/// node, which end with statuses of their own.
+/// Runs a task of a node or of a client (`ts_client`), but the lab and a verdict without a node,
+/// which end with statuses of their own.
 ///
 /// # Errors
 ///
@@ -51,58 +31,14 @@ pub fn run<
     requires { IsInRange task.now }
 {
     match task {
-        Task::Submit { reach, file, wait } => submit_file(rt, reach, file.as_str(), *wait),
-        Task::Ask {
-            reach,
-            file,
-            check,
-            explain,
-        } => ask_file(rt, reach, file.as_str(), *check, *explain),
-        Task::Store { reach, k, json } => print_rows(rt, reach, Rows::Store, *k, 0, *json),
-        Task::Log {
-            reach,
-            from,
-            k,
-            json,
-        } => print_rows(rt, reach, Rows::Log, *k, from.saturating_sub(1), *json),
-        Task::Diff { reach, old, new } => print_diff(rt, reach, *old, *new),
-        Task::Sync(words) => sync_store(rt, words),
-        other => well(run_other(rt, other)),
-    }
-}
-
-/// Runs a task that ends well unless it fails.
-fn run_other<
-    R: AllocGlobal
-        + Files<File = File>
-        + Net<Listener = TcpListener, Stream = TcpStream>
-        + Clock
-        + RandomSource
-        + Print
-        + Eprint,
->(rt: &R, task: &Task) -> Result<(), Fault>
-    requires { IsInRange task.now }
-{
-    match task {
-        Task::Lab | Task::Verify(_) | Task::Submit { .. } | Task::Ask { .. } => Ok(()),
-        Task::Store { .. } | Task::Log { .. } | Task::Diff { .. } | Task::Sync(_) => Ok(()),
         Task::Format {
             file,
             id,
             nodes,
             group,
-        } => format_record(rt, file.as_str(), *id, *nodes, *group),
-        Task::Migrate { old, new } => migrate_record(rt, old.as_str(), new.as_str()),
-        Task::Serve(words) => serve_record(rt, words),
-        Task::Carry { addresses, rounds } => carry_messages(rt, addresses, *rounds),
-        Task::Status { reach } => tend_server(rt, reach, Upkeep::Status),
-        Task::Identify { reach } => tend_server(rt, reach, Upkeep::Identify),
-        Task::CatchUp { reach } => tend_server(rt, reach, Upkeep::CatchUp),
-        Task::Compact { reach } => tend_server(rt, reach, Upkeep::Compact),
-        Task::Keygen { role } => print_key(rt, *role),
-        Task::Command(words) => make_command(rt, words),
-        Task::Question(words) => make_question(rt, words),
-        Task::Id { file } => print_id(rt, file.as_str()),
-        Task::Show { file } => show_file(rt, file.as_str()),
+        } => well(format_record(rt, file.as_str(), *id, *nodes, *group)),
+        Task::Migrate { old, new } => well(migrate_record(rt, old.as_str(), new.as_str())),
+        Task::Serve(words) => well(serve_record(rt, words)),
+        other => ts_client::run(rt, other),
     }
 }

@@ -89,13 +89,13 @@ impl Keyring {
     }
 
     /// The keys.
-    pub(crate) fn keys(&self) -> &[Key] {
+    pub fn keys(&self) -> &[Key] {
         &self.keys
     }
 
     /// Reads the file again, if a second has gone since it was looked at and it has changed. Where
     /// it can't be read, or a line is no key, the keys stay. Standard error is told of both.
-    pub(crate) fn refresh<R: Files + Eprint>(&mut self, rt: &R, alloc: Global, now: u64) {
+    pub fn refresh<R: Files + Eprint>(&mut self, rt: &R, alloc: Global, now: u64) {
         if now.saturating_sub(self.looked) < LOOK {
             return;
         }

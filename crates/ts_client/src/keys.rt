@@ -9,7 +9,7 @@ use std::os::unix::fs::PermissionsExt;
 use std::random::RandomSource;
 use std::rt::Files;
 use ts_access::{Key, KeysFault, Role, key_line};
-use ts_loop::{KeyFileFault, Keyring, read_key_file};
+use ts_keyring::{KeyFileFault, Keyring, read_key_file};
 
 /// What is wrong with the lines of a file of keys, said on standard error.
 fn fault_of_keys(rt: &impl Eprint, path: &str, fault: KeysFault) -> Fault {
@@ -54,7 +54,7 @@ fn warn_of_mode<R: Files + Eprint>(rt: &R, path: &str) {
 ///
 /// `KeyLine` with the first line that is none; `Field` where two have one number; `TooLong`;
 /// those of the file.
-pub(crate) fn keyring_of<R: Files + Eprint>(
+pub fn keyring_of<R: Files + Eprint>(
     rt: &R,
     alloc: Global,
     path: &Option<String>,
@@ -74,7 +74,7 @@ pub(crate) fn keyring_of<R: Files + Eprint>(
 /// # Errors
 ///
 /// `Field` where the file holds none, or several; else those of [`keyring_of`].
-pub(crate) fn key_in<R: Files + Eprint>(
+pub fn key_in<R: Files + Eprint>(
     rt: &R,
     alloc: Global,
     path: &Option<String>,

@@ -1,8 +1,9 @@
 //! The rows of a page, as lines that a person reads.
 
+use crate::members::row_members;
+use crate::rows::{AnchorFields, CommandFields, CrlFields, PurposeFields, RowFields};
 use std::alloc::{AllocError, Global};
 use ts_json::members_text;
-use ts_render::{AnchorFields, CommandFields, CrlFields, PurposeFields, RowFields, row_members};
 use ts_show::Line;
 
 /// Writes a text, or a question mark where there is none.

@@ -9,6 +9,7 @@ ghost use Rattle.ts_store.specs.Octets.{octets_of};
 use std::alloc::{AllocError, Global};
 use std::test::Fail;
 use ts_answer::Answers;
+use ts_client::{Ended, Upkeep, ask, submit, tend};
 use ts_disk::MemDisk;
 use ts_explain::explained;
 use ts_node::Node;
@@ -17,7 +18,6 @@ use ts_record::Record;
 use ts_serve::{Server, ServerPeer, carry};
 use ts_sig::DigestCheck;
 use ts_store::Command;
-use ts_tasks::{Ended, Upkeep, ask, submit, tend};
 
 type Lone = ServerPeer<MemDisk, Answers<DigestCheck>>;
 

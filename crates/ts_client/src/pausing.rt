@@ -1,6 +1,6 @@
 //! Time passes.
 
-use crate::fault::LoopFault;
+use crate::fault::Fault;
 use mio::{Events, Poll};
 use std::alloc::Global;
 use std::net::Net;
@@ -10,14 +10,14 @@ use std::time::Duration;
 ///
 /// # Errors
 ///
-/// `Poll` where the system can't wait; `Memory`.
-pub fn pause<R: Net>(rt: &R, alloc: Global, millis: u64) -> Result<(), LoopFault> {
+/// `Clock` where the system can't wait; `Memory`.
+pub(crate) fn pause<R: Net>(rt: &R, alloc: Global, millis: u64) -> Result<(), Fault> {
     let Ok(mut poll) = Poll::new(rt) else {
-        return Err(LoopFault::Poll);
+        return Err(Fault::Clock);
     };
     let mut events = Events::with_capacity(alloc, 1)?;
     match poll.poll(&mut events, Some(Duration::from_millis(millis))) {
         Ok(()) => Ok(()),
-        Err(_) => Err(LoopFault::Poll),
+        Err(_) => Err(Fault::Clock),
     }
 }

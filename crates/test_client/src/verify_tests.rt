@@ -4,13 +4,13 @@ use std::alloc::Global;
 use std::fs;
 use std::test::Fail;
 use ts_cli::{Task, task_of};
-use ts_tasks::{Fault, verify_files};
+use ts_client::{Fault, verify_files};
 
 /// A certificate of P-256 under its own key, which openssl made: CN=p256.
 const PEM: &str =
     "-----BEGIN CERTIFICATE-----\nMIIBczCCARmgAwIBAgIUYfTXooGEyu+j+zokUiwbWnCfV4gwCgYIKoZIzj0EAwIw\nDzENMAsGA1UEAwwEcDI1NjAeFw0yNjExMjcxMjA5NTlaFw0zNjExMjQxMjA5NTla\nMA8xDTALBgNVBAMMBHAyNTYwWTATBgcqhkjOPQIBBggqhkjOPQMBBwNCAASfpdFq\nYnfRuHnXu0Fl3RPyiGBvp/zbkKFj542cBqCyO2/E9cHkSr2+ChgweSxJoK7YhZSd\nWYIYZ5rPMzMA1Nseo1MwUTAdBgNVHQ4EFgQU31YQjetaXoISC4RuORI3Tzk+hmMw\nHwYDVR0jBBgwFoAU31YQjetaXoISC4RuORI3Tzk+hmMwDwYDVR0TAQH/BAUwAwEB\n/zAKBggqhkjOPQQDAgNIADBFAiEAvTTcmo4SHNNfTNinqx7olrxrhVGilAZkmxda\n71p8z38CIAk/Khmra49280ye6bb020EprEWu0JKPp/DAApBPrlxX\n-----END CERTIFICATE-----\n";
 
-const FILE: &str = "ts_tasks_verify.pem";
+const FILE: &str = "ts_client_verify.pem";
 
 /// Whether the chain that words name is valid; `None` where they are no words of `verify`.
 fn verdict(
@@ -31,35 +31,35 @@ fn verdict(
 /// Words after `trustd verify`, and what they come to.
 const LINES: &[(&str, Result<bool, Fault>)] = &[
     (
-        "--anchor ts_tasks_verify.pem --at 20270101000000Z ts_tasks_verify.pem",
+        "--anchor ts_client_verify.pem --at 20270101000000Z ts_client_verify.pem",
         Ok(true),
     ),
     (
-        "--anchor ts_tasks_verify.pem --at 20250101000000Z ts_tasks_verify.pem",
+        "--anchor ts_client_verify.pem --at 20250101000000Z ts_client_verify.pem",
         Ok(false),
     ),
     (
-        "--anchor ts_tasks_verify.pem --at 20270101000000Z --host p256 ts_tasks_verify.pem",
+        "--anchor ts_client_verify.pem --at 20270101000000Z --host p256 ts_client_verify.pem",
         Ok(false),
     ),
     (
-        "--anchor ts_tasks_verify.pem --at 20270101000000Z --policy 1.2.3 --json ts_tasks_verify.pem",
+        "--anchor ts_client_verify.pem --at 20270101000000Z --policy 1.2.3 --json ts_client_verify.pem",
         Ok(true),
     ),
     (
-        "--anchor ts_tasks_verify.pem --at 20270101000000Z --policy 1.2.3 --explicit ts_tasks_verify.pem",
+        "--anchor ts_client_verify.pem --at 20270101000000Z --policy 1.2.3 --explicit ts_client_verify.pem",
         Ok(false),
     ),
     (
-        "--anchor ts_tasks_verify.pem --crl ts_tasks_verify.pem ts_tasks_verify.pem",
+        "--anchor ts_client_verify.pem --crl ts_client_verify.pem ts_client_verify.pem",
         Err(Fault::Field),
     ),
     (
-        "--anchor ts_tasks_verify.pem --host a..b ts_tasks_verify.pem",
+        "--anchor ts_client_verify.pem --host a..b ts_client_verify.pem",
         Err(Fault::Field),
     ),
     (
-        "--anchor ts_tasks_none.pem ts_tasks_verify.pem",
+        "--anchor ts_client_none.pem ts_client_verify.pem",
         Err(Fault::File),
     ),
 ];

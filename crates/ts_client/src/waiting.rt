@@ -2,13 +2,13 @@
 
 use crate::fault::Fault;
 use crate::keyed::Reached;
+use crate::pausing::pause;
 use crate::requests::answer_of;
 use std::alloc::Global;
 use std::net::Net;
 use std::random::RandomSource;
 use std::rt::Clock;
 use std::time::{Duration, Instant};
-use ts_loop::{LoopFault, pause};
 use ts_store::Command;
 use ts_wire::Frame;
 
@@ -21,15 +21,6 @@ const LONGEST: u64 = 320;
 
 /// After how many looks the command is submitted again, in case that the node was started anew.
 const LOOKS: u32 = 20;
-
-/// Pauses for so many milliseconds.
-fn wait_for<R: Net>(rt: &R, alloc: Global, millis: u64) -> Result<(), Fault> {
-    match pause(rt, alloc, millis) {
-        Ok(()) => Ok(()),
-        Err(LoopFault::Memory) => Err(Fault::Memory),
-        Err(_) => Err(Fault::Clock),
-    }
-}
 
 /// How much time is left, in milliseconds.
 fn left<R: Clock>(rt: &R, start: Instant, longest: Duration) -> Result<u64, Fault> {
@@ -65,7 +56,7 @@ pub(crate) fn submit_and_wait<R: Net + Clock + RandomSource>(
         if left == 0 || matches!(answer, Frame::Settled { .. }) {
             return Ok(answer);
         }
-        wait_for(rt, alloc, millis.min(left))?;
+        pause(rt, alloc, millis.min(left))?;
         millis = millis.saturating_mul(2).min(LONGEST);
         let next = if look % LOOKS == 0 { &request } else { &asked };
         answer = answer_of(alloc, server, next)?;

@@ -1,7 +1,7 @@
 //! How a task that did not fail ended.
 
 ghost use Rattle.std.specs.Prelude.{◌≡◌};
-ghost use Rattle.ts_tasks.specs.Endings.{ending_by, ending_of, is_valid};
+ghost use Rattle.ts_client.specs.Endings.{ending_by, ending_of, is_valid};
 
 use ts_question::Reply;
 use ts_store::Outcome;

@@ -4,8 +4,8 @@ use Rattle.ts_store.specs.declared.outcome.Outcome.{Outcome}
 use Rattle.ts_store.specs.declared.outcome.Outcome.TheVariants.{Applied, Repeated, Refused}
 use Rattle.ts_question.specs.declared.reply.Reply.{Reply}
 use Rattle.ts_question.specs.declared.reply.Reply.TheVariants.{Valid, Found}
-use Rattle.ts_tasks.specs.declared.ended.Ended.{Ended}
-use Rattle.ts_tasks.specs.declared.ended.Ended.TheVariants as ended
+use Rattle.ts_client.specs.declared.ended.Ended.{Ended}
+use Rattle.ts_client.specs.declared.ended.Ended.TheVariants as ended
 
 -- a command that was refused; one that was applied, now or before, ends well
 abbrev pub ending_of : Outcome → Ended

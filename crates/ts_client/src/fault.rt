@@ -1,7 +1,7 @@
 //! Why a task fails.
 
 ghost use Rattle.std.specs.Prelude.{◌≡◌};
-ghost use Rattle.ts_tasks.specs.declared.fault.Fault.TheVariants as fault;
+ghost use Rattle.ts_client.specs.declared.fault.Fault.TheVariants as fault;
 
 use std::alloc::{AllocError, AllocFailed};
 use std::fmt;

@@ -1,10 +1,10 @@
 //! What is printed of the rows of a page. The texts were written by hand.
 
 use std::test::Fail;
-use ts_render::row_fields;
+use ts_client::step_line;
+use ts_render::{row_fields, row_text, write_row};
 use ts_show::Line;
 use ts_sync::{Kind, Step};
-use ts_tasks::{row_text, step_line, write_row};
 
 /// The octets of a row, its position, its line, and its JSON object.
 const ROWS: &[(&[u8], u32, &str, &str)] = &[

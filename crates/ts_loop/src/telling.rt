@@ -1,0 +1,45 @@
+//! Standard error is told of commands that were chosen.
+
+use crate::frames::{first_of, octets_of};
+use std::alloc::{AllocError, Global};
+use ts_question::{Question, Reply, Terms};
+use ts_render::{row_fields, write_row};
+use ts_show::Line;
+use ts_wire::Frame;
+
+/// How many commands are told of one by one. Where more are new, their number is told alone.
+pub(crate) const MOST: u32 = 64;
+
+/// The frame that asks the node for the commands behind a position, of the first k.
+pub(crate) fn log_frame(alloc: Global, from: u32, k: u32) -> Option<Vec<u8>> {
+    let question = Question::log(Terms::plain(alloc, Some(k)), from).ok()?;
+    octets_of(alloc, &Frame::Question { question })
+}
+
+/// Tells of a command at a position: its kind, its outcome, its id, what it is about.
+fn tell_row(rt: &impl Eprint, alloc: Global, place: u32, octets: &[u8]) -> Result<(), AllocError> {
+    let Some(row) = row_fields(alloc, octets)? else {
+        return Ok(());
+    };
+    let mut line = Line::of(alloc, b"trustd: ")?;
+    write_row(&mut line, place, &row)?;
+    if let Ok(text) = str::from_utf8(line.as_slice()) {
+        let _ = eprintln!(rt; "{text}");
+    }
+    Ok(())
+}
+
+/// Tells of the commands behind a position, by the node's answer.
+pub(crate) fn tell_rows(rt: &impl Eprint, alloc: Global, from: u32, answer: &[u8]) {
+    let Some(Frame::Answer { answer }) = first_of(alloc, answer) else {
+        return;
+    };
+    let Reply::Page { rows, .. } = answer.reply() else {
+        return;
+    };
+    let mut place = from;
+    for row in rows.as_slice() {
+        place = place.saturating_add(1);
+        let _told = tell_row(rt, alloc, place, row);
+    }
+}
