@@ -4,6 +4,7 @@ use sha2::{Digest, Sha256};
 use std::alloc::{AllocError, Global};
 use std::test::Fail;
 use ts_answer::{Answers, is_deliverable};
+use ts_octets::Octets;
 use ts_question::{Flags, OctetStrings, Oids, Question, Reply, Terms};
 use ts_sig::DigestCheck;
 use ts_store::{Command, Outcome};
@@ -60,7 +61,7 @@ fn chain(alloc: Global, octets: &[u8]) -> Result<Option<Question>, AllocError> {
 /// A store that took the anchor, and then its withdrawal.
 fn store(alloc: Global) -> Result<Option<Answers<DigestCheck>>, AllocError> {
     let mut answers = Answers::new(alloc, DigestCheck);
-    let Ok(add) = Command::add_anchor(id(1), R.to_vec(alloc)?) else {
+    let Ok(add) = Command::add_anchor(id(1), Octets::copy_of(alloc, R)?) else {
         return Ok(None);
     };
     let _added = answers.push(&add)?;
@@ -179,7 +180,7 @@ fn alternating(alloc: Global, count: u16) -> Result<Option<Answers<DigestCheck>>
     for number in 0..count {
         let id = numbered(number);
         let command = if number % 2 == 0 {
-            match Command::add_anchor(id, R.to_vec(alloc)?) {
+            match Command::add_anchor(id, Octets::copy_of(alloc, R)?) {
                 Ok(command) => command,
                 Err(_) => return Ok(None),
             }
@@ -244,7 +245,7 @@ fn grown(
     answers: &mut Answers<DigestCheck>,
     question: &Question,
 ) -> Result<[u8; 2], AllocError> {
-    let Ok(add) = Command::add_anchor(id(3), R.to_vec(alloc)?) else {
+    let Ok(add) = Command::add_anchor(id(3), Octets::copy_of(alloc, R)?) else {
         return Ok([0; 2]);
     };
     let before = tag(answers, 3, question)?;

@@ -2,6 +2,7 @@
 
 use std::alloc::{AllocError, Global};
 use std::test::Fail;
+use ts_octets::Octets;
 use ts_store::Command;
 
 /// What follows the id, of commands.
@@ -72,11 +73,12 @@ fn other_octets_are_no_command(rt: HostRuntime) -> Result<(), Fail> {
 
 #[test]
 fn a_long_certificate_is_refused(rt: HostRuntime) -> Result<(), Fail> {
-    let long = vec![in rt.alloc(); 0u8; 65_537]?;
+    let alloc = rt.alloc();
+    let long = Octets::of(alloc, vec![in alloc; 0u8; 65_537]?)?;
     assert!(rt; Command::add_anchor([7; 16], long).is_err());
-    let short = vec![in rt.alloc(); 0u8; 65_536]?;
+    let short = Octets::of(alloc, vec![in alloc; 0u8; 65_536]?)?;
     assert!(rt; Command::add_anchor([7; 16], short).is_ok());
-    let list = vec![in rt.alloc(); 0u8; 65_537]?;
+    let list = Octets::of(alloc, vec![in alloc; 0u8; 65_537]?)?;
     assert!(rt; Command::load_crl([7; 16], list).is_ok());
     Ok(())
 }

@@ -2,6 +2,7 @@
 
 use std::alloc::Global;
 use std::test::Fail;
+use ts_octets::Octets;
 use ts_store::{Command, First, Outcome, Refusal, Store};
 
 /// Serial number 2, issuer CN=R, subject CN=L.
@@ -63,7 +64,7 @@ fn a_repeated_id_names_the_first_position(rt: HostRuntime) -> Result<(), Fail> {
 
 /// The command that adds an anchor of these octets.
 fn add_anchor(alloc: Global, id: u8, octets: &[u8]) -> Result<Command, Fail> {
-    let certificate = Vec::from_slice(alloc, octets)?;
+    let certificate = Octets::copy_of(alloc, octets)?;
     Ok(Command::add_anchor([id; 16], certificate)?)
 }
 
@@ -93,7 +94,7 @@ fn an_anchor_goes_once(rt: HostRuntime) -> Result<(), Fail> {
 
 /// The command that loads octets.
 fn load(alloc: Global, id: u8, octets: &[u8]) -> Result<Command, Fail> {
-    let crl = Vec::from_slice(alloc, octets)?;
+    let crl = Octets::copy_of(alloc, octets)?;
     Ok(Command::load_crl([id; 16], crl)?)
 }
 

@@ -45,6 +45,7 @@
 //! - `Cert::is_self_issued`: true exactly where issuer and subject are one name in canonical form.
 //! - `OwnedCert::read`: a copy of the octets, or `Memory`, exactly where no rule is broken; else
 //!   `Unreadable` with the first rule that is (`kept`, `refused`).
+//! - `OwnedCert::of`: the same of octets that are shared (`ts_octets`), which are not copied.
 //! - `OwnedCert::view`, `octets`: the certificate that these octets are, without reading them
 //!   again; the octets (`found`, `exact`; its clause).
 //! - within: of every `Cert` the octets are a certificate whose parts begin at the offsets that it

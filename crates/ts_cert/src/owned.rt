@@ -17,6 +17,7 @@ use std::alloc::{AllocError, Global};
 use std::error::Error;
 use std::fmt;
 use std::marker::Model;
+use ts_octets::Octets;
 use ts_shape::CertFault;
 
 /// Why a certificate is not kept.
@@ -63,16 +64,16 @@ impl From<CertFault> for OwnedCertFault {
 /// A certificate with memory of its own. A contract sees it as its octets, which are a certificate.
 #[derive(Debug, Drop)]
 pub struct OwnedCert {
-    octets: Vec<u8>,
+    octets: Octets,
     layout: Layout,
 }
 
 impl Model for OwnedCert {
     ghost Value = { List ℕ };
 
-    ghost view = { λ cert. cert.octets.items };
+    ghost view = { λ cert. cert.octets };
 
-    ghost invariant = { λ cert. AreLaidOut cert.octets.items cert.layout };
+    ghost invariant = { λ cert. AreLaidOut cert.octets cert.layout };
 }
 
 impl OwnedCert {
@@ -89,7 +90,23 @@ impl OwnedCert {
             → result ≡ Err (Unreadable f) }
     {
         let layout = read_layout(octets)?;
-        let octets = Vec::from_slice(alloc, octets)?;
+        let octets = Octets::copy_of(alloc, octets)?;
+        Ok(OwnedCert { octets, layout })
+    }
+
+    /// These octets, which are shared and not copied.
+    ///
+    /// # Errors
+    ///
+    /// As [`OwnedCert::read`]; `Memory` only where as many owners share them as can be counted.
+    pub fn of(octets: &Octets) -> Result<OwnedCert, OwnedCertFault>
+        ensures kept { certificate_fault octets.now ≡ None
+            → (result ≡ Ok octets.now) ⊎ (result ≡ Err Memory) }
+        ensures refused { (f : CertFault) → certificate_fault octets.now ≡ Some f
+            → result ≡ Err (Unreadable f) }
+    {
+        let layout = read_layout(octets.as_slice())?;
+        let octets = octets.share()?;
         Ok(OwnedCert { octets, layout })
     }
 

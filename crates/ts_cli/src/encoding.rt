@@ -19,6 +19,7 @@ use std::alloc::{AllocError, AllocFailed, Global};
 use ts_cert::MAX_CERTIFICATE;
 use ts_crl::MAX_CRL;
 use ts_der::Oid;
+use ts_octets::Octets;
 use ts_question::{OctetStrings, Oids, Question, Terms};
 use ts_store::{Command, Purposes};
 
@@ -67,7 +68,7 @@ fn add(alloc: Global, id: [u8; 16], contents: &[u8]) -> Result<Command, MakeFaul
     ensures made { IfOk result (λ command. command ≡ AddAnchor id contents.now) }
     ensures refused { IfErr result (λ fault. (fault ≡ Memory) ⊎ (65536 < length contents.now)) }
 {
-    let octets = Vec::from_slice(alloc, contents)?;
+    let octets = Octets::copy_of(alloc, contents)?;
     match Command::add_anchor(id, octets) {
         Ok(command) => Ok(command),
         Err(_) => Err(MakeFault::TooLong),
@@ -79,7 +80,7 @@ fn load(alloc: Global, id: [u8; 16], contents: &[u8]) -> Result<Command, MakeFau
     ensures made { IfOk result (λ command. command ≡ LoadCrl id contents.now) }
     ensures refused { IfErr result (λ fault. (fault ≡ Memory) ⊎ (4194304 < length contents.now)) }
 {
-    let octets = Vec::from_slice(alloc, contents)?;
+    let octets = Octets::copy_of(alloc, contents)?;
     match Command::load_crl(id, octets) {
         Ok(command) => Ok(command),
         Err(_) => Err(MakeFault::TooLong),

@@ -22,6 +22,7 @@ use std::error::Error;
 use std::fmt;
 use std::marker::Model;
 use ts_digest::{Digest, Message, likely_hash};
+use ts_octets::Octets;
 use ts_shape::CertFault;
 
 /// Why a list is not kept.
@@ -59,7 +60,7 @@ impl<'a> From<AllocError> for OwnedCrlFault<'a> {
 /// are a list.
 #[derive(Debug, Drop)]
 pub struct OwnedCrl {
-    octets: Vec<u8>,
+    octets: Octets,
     /// Where the first extensions of its entries are, which is all that has to be known of these.
     first: Option<CertFault>,
     /// The hash of what is signed of it.
@@ -74,10 +75,10 @@ impl Model for OwnedCrl {
 
     ghost Value = { List ℕ };
 
-    ghost view = { λ crl. crl.octets.items };
+    ghost view = { λ crl. crl.octets };
 
-    ghost invariant = { λ crl. WasRead crl.first crl.octets.items
-        × IsDigestOf crl.digest (list_of crl.octets.items).tbs };
+    ghost invariant = { λ crl. WasRead crl.first crl.octets
+        × IsDigestOf crl.digest (list_of crl.octets).tbs };
 }
 
 /// Where the first extensions of the entries of a list are.
@@ -122,6 +123,13 @@ fn check<'a>(octets: &'a [u8]) -> Result<Checked, CrlFault<'a>>
     }
 }
 
+/// What has to be known of shared octets that are a list, to lend it again.
+fn check_shared(octets: &Octets) -> Result<Checked, CrlFault<'_>>
+    ensures { Checks octets.now result }
+{
+    check(octets.as_slice())
+}
+
 /// A list that is lent with the hash of what is signed of it.
 fn with_digest<'a>(crl: Crl<'a>, digest: &'a Digest) -> Crl<'a>
     requires { IsDigestOf digest.now (crl_in crl).tbs }
@@ -160,7 +168,31 @@ impl OwnedCrl {
             Ok(checked) => checked,
             Err(fault) => return Err(OwnedCrlFault::Unreadable(fault)),
         };
-        let octets = Vec::from_slice(alloc, octets)?;
+        let octets = Octets::copy_of(alloc, octets)?;
+        Ok(OwnedCrl {
+            octets,
+            first,
+            digest,
+        })
+    }
+
+    /// These octets, which are shared and not copied.
+    ///
+    /// # Errors
+    ///
+    /// As [`OwnedCrl::read`]; `Memory` only where as many owners share them as can be counted.
+    pub fn of<'a>(octets: &'a Octets) -> Result<OwnedCrl, OwnedCrlFault<'a>>
+        ensures kept { crl_fault octets.now ≡ None
+            → (result ≡ Ok octets.now) ⊎ (result ≡ Err Memory) }
+        ensures refused { (f : ListFault) → crl_fault octets.now ≡ Some f
+            → IsErrAnd result (λ e. unreadable_in e ≡ Some f) }
+        ensures exact { IfErr result (λ e. RefusedFor octets.now e) }
+    {
+        let Checked { first, digest } = match check_shared(octets) {
+            Ok(checked) => checked,
+            Err(fault) => return Err(OwnedCrlFault::Unreadable(fault)),
+        };
+        let octets = octets.share()?;
         Ok(OwnedCrl {
             octets,
             first,

@@ -56,8 +56,10 @@ seen_disk events octets failures bounded is =
     }
 
 abbrev pub lawful_of : {F : Type 0} (disk : FileDisk F) → IsDisk (state_of disk)
-lawful_of disk = seen_disk disk.history.events disk.octets.items disk.failures disk.bounded
-    disk.replayed
+lawful_of disk =
+    let events = disk.file.history.events in
+    seen_disk events (disk_after events).read disk.failures
+    (subst (λ n. n < 2 ^ 63) disk.sized disk.bounded) refl
 
 -- what one event more does to the images
 next_call : (old : State) (image : List ℕ) (may_leave : List ℕ → Type 0)

@@ -61,23 +61,19 @@ pub(crate) struct TakenCommand {
 }
 
 /// A command that adds an anchor, and what it changes where it is applied.
-fn anchor_taken(
-    alloc: Global,
-    id: [u8; 16],
-    certificate: &CertificateOctets,
-) -> Result<TakenCommand, AllocError>
+fn anchor_taken(id: [u8; 16], certificate: &CertificateOctets) -> Result<TakenCommand, AllocError>
     ensures same { IfOk result (λ taken. command_in taken.kept ≡ AddAnchor id certificate.now) }
     ensures done { IfOk result (λ taken. (old new : Stated)
         → change_by (AddAnchor id certificate.now) old ≡ Ok new
         → changed taken.change taken.kept (contents_of old) ≡ contents_of new) }
 {
-    let octets = certificate.as_slice();
-    match OwnedCert::read(alloc, octets) {
+    let octets = certificate.octets();
+    match OwnedCert::of(octets) {
         Ok(certificate) => Ok(TakenCommand {
             kept: KeptCommand::Anchor {
                 id,
                 anchor: TrustAnchor {
-                    id: digest(octets),
+                    id: digest(octets.as_slice()),
                     certificate,
                     purposes: Purposes::any(),
                 },
@@ -86,7 +82,7 @@ fn anchor_taken(
         }),
         Err(OwnedCertFault::Memory) => Err(AllocError),
         Err(OwnedCertFault::Unreadable(_)) => {
-            let certificate = certificate.try_copy(alloc)?;
+            let certificate = certificate.share()?;
             Ok(TakenCommand {
                 kept: KeptCommand::Other(Command::AddAnchor { id, certificate }),
                 change: Change::Nothing,
@@ -107,12 +103,12 @@ fn crl_taken(
         → change_by (LoadCrl id crl.now) tables.now ≡ Ok new
         → changed taken.change taken.kept (contents_of tables.now) ≡ contents_of new) }
 {
-    let octets = crl.as_slice();
-    match OwnedCrl::read(alloc, octets) {
+    let octets = crl.octets();
+    match OwnedCrl::of(octets) {
         Ok(crl) => {
             let change = crl_change(alloc, tables, crl.view())?;
             let crl = StoredCrl {
-                id: digest(octets),
+                id: digest(octets.as_slice()),
                 crl,
             };
             Ok(TakenCommand {
@@ -122,7 +118,7 @@ fn crl_taken(
         }
         Err(OwnedCrlFault::Memory) => Err(AllocError),
         Err(OwnedCrlFault::Unreadable(_)) => {
-            let crl = crl.try_copy(alloc)?;
+            let crl = crl.share()?;
             Ok(TakenCommand {
                 kept: KeptCommand::Other(Command::LoadCrl { id, crl }),
                 change: Change::Nothing,
@@ -152,7 +148,7 @@ pub(crate) fn taken_of(
         → changed taken.change taken.kept (contents_of tables.now) ≡ contents_of new) }
 {
     match command {
-        Command::AddAnchor { id, certificate } => anchor_taken(alloc, *id, certificate),
+        Command::AddAnchor { id, certificate } => anchor_taken(*id, certificate),
         Command::LoadCrl { id, crl } => crl_taken(alloc, tables, *id, crl),
         Command::WithdrawAnchor { anchor, .. } => {
             other_taken(alloc, command, removal(tables.anchors(), anchor))

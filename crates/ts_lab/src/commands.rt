@@ -3,6 +3,7 @@
 use crate::node_line::Wanted;
 use sha2::{Digest, Sha256};
 use std::alloc::Global;
+use ts_octets::Octets;
 use ts_script::{LineFault, Symbols};
 use ts_store::{Command, Purposes};
 
@@ -45,11 +46,11 @@ pub(crate) fn command_of(
     let id = id_of(last);
     match wanted {
         Wanted::Add(name) => {
-            let octets = certificate(known, name)?.to_vec(alloc)?;
+            let octets = Octets::copy_of(alloc, certificate(known, name)?)?;
             Command::add_anchor(id, octets).map_err(|_| LineFault::Limit)
         }
         Wanted::Load(name) => {
-            let octets = list(known, name)?.to_vec(alloc)?;
+            let octets = Octets::copy_of(alloc, list(known, name)?)?;
             Command::load_crl(id, octets).map_err(|_| LineFault::Limit)
         }
         Wanted::Withdraw(name) => Ok(Command::WithdrawAnchor {

@@ -16,6 +16,7 @@ use sha2::{Digest, Sha256};
 use std::alloc::{AllocError, Global};
 use std::marker::Model;
 use ts_cert::{OwnedCert, OwnedCertFault};
+use ts_octets::Octets;
 
 /// How many trust anchors there may be.
 pub const MAX_ANCHORS: usize = 256;
@@ -57,12 +58,12 @@ impl Anchors {
     /// # Errors
     ///
     /// Out of memory. Nothing is changed then.
-    pub fn add(&mut self, alloc: Global, certificate: &[u8]) -> Result<Option<Refusal>, AllocError>
+    pub fn add(&mut self, certificate: &Octets) -> Result<Option<Refusal>, AllocError>
         ensures done { IfOk result (λ refusal. Becomes refusal self.old self.new
             (add_anchor certificate.now self.old)) }
         ensures memory { OnErr result (self.new ≡ self.old) }
     {
-        add_to(&mut self.anchors, alloc, certificate)
+        add_to(&mut self.anchors, certificate)
     }
 
     /// Removes the anchor of this id, or answers why not. The rest keeps its order.
@@ -128,19 +129,18 @@ fn refusal_at(anchors: &[TrustAnchor], id: &[u8; 32]) -> Option<Refusal>
 
 fn add_to(
     anchors: &mut Vec<TrustAnchor>,
-    alloc: Global,
-    certificate: &[u8],
+    certificate: &Octets,
 ) -> Result<Option<Refusal>, AllocError>
     ensures done { IfOk result (λ refusal. Becomes refusal anchors.old.items anchors.new.items
         (add_anchor certificate.now anchors.old.items)) }
     ensures memory { OnErr result (anchors.new.items ≡ anchors.old.items) }
 {
-    let kept = match OwnedCert::read(alloc, certificate) {
+    let kept = match OwnedCert::of(certificate) {
         Ok(kept) => kept,
         Err(OwnedCertFault::Memory) => return Err(AllocError),
         Err(OwnedCertFault::Unreadable(_)) => return Ok(Some(Refusal::Malformed)),
     };
-    let id = digest(certificate);
+    let id = digest(certificate.as_slice());
     if let Some(refusal) = refusal_at(anchors, &id) {
         return Ok(Some(refusal));
     }

@@ -10,6 +10,7 @@ use crate::reading::read_command;
 use crate::values::{CertificateOctets, CrlOctets, TooLong};
 use crate::writing::{has_encoding, push_encoding};
 use std::alloc::{AllocError, Global};
+use ts_octets::Octets;
 
 /// A command of a trust store. Its client chose its id.
 #[derive(Debug, Drop)]
@@ -53,9 +54,9 @@ impl Command {
     /// # Errors
     ///
     /// `TooLong` exactly where there are more than 65,536 octets.
-    pub fn add_anchor(id: [u8; 16], certificate: Vec<u8>) -> Result<Command, TooLong>
-        ensures { MatchResult result (λ command. (command ≡ AddAnchor id certificate.items)
-            × (length certificate.items ≤ 65536)) (λ _. 65536 < length certificate.items) }
+    pub fn add_anchor(id: [u8; 16], certificate: Octets) -> Result<Command, TooLong>
+        ensures { MatchResult result (λ command. (command ≡ AddAnchor id certificate)
+            × (length certificate ≤ 65536)) (λ _. 65536 < length certificate) }
     {
         let certificate = CertificateOctets::new(certificate)?;
         Ok(Command::AddAnchor { id, certificate })
@@ -66,9 +67,9 @@ impl Command {
     /// # Errors
     ///
     /// `TooLong` exactly where there are more than 4,194,304 octets.
-    pub fn load_crl(id: [u8; 16], crl: Vec<u8>) -> Result<Command, TooLong>
-        ensures { MatchResult result (λ command. (command ≡ LoadCrl id crl.items)
-            × (length crl.items ≤ 4194304)) (λ _. 4194304 < length crl.items) }
+    pub fn load_crl(id: [u8; 16], crl: Octets) -> Result<Command, TooLong>
+        ensures { MatchResult result (λ command. (command ≡ LoadCrl id crl)
+            × (length crl ≤ 4194304)) (λ _. 4194304 < length crl) }
     {
         let crl = CrlOctets::new(crl)?;
         Ok(Command::LoadCrl { id, crl })
@@ -88,7 +89,7 @@ impl Command {
         }
     }
 
-    /// A copy.
+    /// A copy. The octets of a certificate or a CRL are shared.
     ///
     /// # Errors
     ///
@@ -99,7 +100,7 @@ impl Command {
         Ok(match self {
             Command::AddAnchor { id, certificate } => Command::AddAnchor {
                 id: *id,
-                certificate: certificate.try_copy(alloc)?,
+                certificate: certificate.share()?,
             },
             Command::WithdrawAnchor { id, anchor } => Command::WithdrawAnchor {
                 id: *id,
@@ -107,7 +108,7 @@ impl Command {
             },
             Command::LoadCrl { id, crl } => Command::LoadCrl {
                 id: *id,
-                crl: crl.try_copy(alloc)?,
+                crl: crl.share()?,
             },
             Command::DropCrl { id, crl } => Command::DropCrl { id: *id, crl: *crl },
             Command::SetPurposes {

@@ -17,6 +17,9 @@
 //! its purposes (`00` for any; else `01`, an octet of their number, and the contents octets of each
 //! after an octet of their length, strictly ascending); 06 nothing.
 //!
+//! Copies of a command share the octets of its certificate or CRL (`ts_octets`), and so do the
+//! tables: a CRL is in memory once, however many places keep it.
+//!
 //! - [`Command::add_anchor`], [`Command::load_crl`], [`CertificateOctets::new`],
 //!   [`CrlOctets::new`]: `TooLong` exactly above the limit.
 //! - [`Purposes::new`]: `None` exactly where the list is longer than 16 or not strictly ascending.

@@ -16,6 +16,7 @@ use std::alloc::{AllocError, Global};
 use ts_cert::MAX_CERTIFICATE;
 use ts_crl::MAX_CRL;
 use ts_der::{Oid, OidRef};
+use ts_octets::Octets;
 
 /// The object identifier that these contents octets are.
 fn oid_of(alloc: Global, content: &[u8]) -> Result<Option<Oid>, AllocError>
@@ -128,7 +129,7 @@ fn certificate_of(alloc: Global, octets: &[u8]) -> Result<Option<CertificateOcte
     if content.len() > MAX_CERTIFICATE {
         return Ok(None);
     }
-    let copy = Vec::from_slice(alloc, content)?;
+    let copy = Octets::copy_of(alloc, content)?;
     Ok(CertificateOctets::new(copy).ok())
 }
 
@@ -144,7 +145,7 @@ fn crl_of(alloc: Global, octets: &[u8]) -> Result<Option<CrlOctets>, AllocError>
     if content.len() > MAX_CRL {
         return Ok(None);
     }
-    let copy = Vec::from_slice(alloc, content)?;
+    let copy = Octets::copy_of(alloc, content)?;
     Ok(CrlOctets::new(copy).ok())
 }
 

@@ -14,6 +14,7 @@ use crate::stored::StoredCrl;
 use std::alloc::{AllocError, Global};
 use std::marker::Model;
 use ts_crl::{CrlFault, OwnedCrl, OwnedCrlFault};
+use ts_octets::Octets;
 
 /// The trust anchors of a store, its complete CRLs and its deltas, each in
 /// the order of the store.
@@ -81,12 +82,12 @@ impl Tables {
     {
         match command {
             Command::AddAnchor { certificate, .. } => {
-                let refusal = self.anchors.add(alloc, certificate.as_slice())?;
+                let refusal = self.anchors.add(certificate.octets())?;
                 Ok(refusal)
             }
             Command::WithdrawAnchor { anchor, .. } => Ok(self.anchors.withdraw(anchor)),
             Command::LoadCrl { crl, .. } => {
-                let refusal = self.load(alloc, crl.as_slice())?;
+                let refusal = self.load(alloc, crl.octets())?;
                 Ok(refusal)
             }
             Command::DropCrl { crl, .. } => Ok(self.remove(crl)),
@@ -102,19 +103,19 @@ impl Tables {
         }
     }
 
-    fn load(&mut self, alloc: Global, octets: &[u8]) -> Result<Option<Refusal>, AllocError>
+    fn load(&mut self, alloc: Global, octets: &Octets) -> Result<Option<Refusal>, AllocError>
         ensures done { IfOk result (λ refusal. Becomes refusal self.old self.new
             (load_crl octets.now self.old)) }
         ensures memory { OnErr result (self.new ≡ self.old) }
     {
-        let crl = match OwnedCrl::read(alloc, octets) {
+        let crl = match OwnedCrl::of(octets) {
             Ok(crl) => crl,
             Err(OwnedCrlFault::Memory) => return Err(AllocError),
             Err(OwnedCrlFault::Unreadable(fault)) => return Ok(Some(refusal(fault))),
         };
         let is_delta = crl.view().is_delta();
         let stored = StoredCrl {
-            id: digest(octets),
+            id: digest(octets.as_slice()),
             crl,
         };
         if is_delta {

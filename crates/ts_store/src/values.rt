@@ -1,11 +1,12 @@
 //! Octets within a limit.
 
-ghost use Rattle.std.specs.Prelude.{◌≡◌, ◌≤◌, ◌<◌, ◌↔◌, ℕ, List, length, IfOk, IsErr, MatchResult};
+ghost use Rattle.std.specs.Prelude.{◌≡◌, ◌≤◌, ◌<◌, ℕ, List, length, IfOk, MatchResult};
 
-use std::alloc::{AllocError, Global};
+use std::alloc::AllocError;
 use std::marker::Model;
 use ts_cert::MAX_CERTIFICATE;
 use ts_crl::MAX_CRL;
+use ts_octets::Octets;
 
 /// More octets than a command may have of this kind.
 #[derive(Clone, Copy, Debug, PartialEq, Eq)]
@@ -14,27 +15,27 @@ pub struct TooLong;
 /// Octets that a command calls a certificate: at most 65,536, which may or may not be one.
 #[derive(Debug, Drop)]
 pub struct CertificateOctets {
-    octets: Vec<u8>,
+    octets: Octets,
 }
 
 impl Model for CertificateOctets {
     ghost Value = { List ℕ };
 
-    ghost view = { λ c. c.octets.items };
+    ghost view = { λ c. c.octets };
 
-    ghost invariant = { λ c. length c.octets.items ≤ 65536 };
+    ghost invariant = { λ c. length c.octets ≤ 65536 };
 }
 
 impl CertificateOctets {
-    /// A copy.
+    /// The same octets, which are shared and not copied.
     ///
     /// # Errors
     ///
-    /// Out of memory.
-    pub fn try_copy(&self, alloc: Global) -> Result<CertificateOctets, AllocError>
-        ensures { IfOk result (λ copy. copy ≡ self.now) }
+    /// Out of memory, where as many owners share them as can be counted.
+    pub fn share(&self) -> Result<CertificateOctets, AllocError>
+        ensures { IfOk result (λ again. again ≡ self.now) }
     {
-        let octets = Vec::from_slice(alloc, &self.octets)?;
+        let octets = self.octets.share()?;
         Ok(CertificateOctets { octets })
     }
 
@@ -43,11 +44,11 @@ impl CertificateOctets {
     /// # Errors
     ///
     /// `TooLong` exactly where there are more than 65,536.
-    pub fn new(octets: Vec<u8>) -> Result<CertificateOctets, TooLong>
-        ensures { MatchResult result (λ c. (c ≡ octets.items) × (length octets.items ≤ 65536))
-            (λ _. 65536 < length octets.items) }
+    pub fn new(octets: Octets) -> Result<CertificateOctets, TooLong>
+        ensures { MatchResult result (λ c. (c ≡ octets) × (length octets ≤ 65536))
+            (λ _. 65536 < length octets) }
     {
-        if octets.len() > MAX_CERTIFICATE {
+        if octets.as_slice().len() > MAX_CERTIFICATE {
             return Err(TooLong);
         }
         Ok(CertificateOctets { octets })
@@ -60,33 +61,40 @@ impl CertificateOctets {
     {
         self.octets.as_slice()
     }
+
+    /// The octets, to be shared.
+    pub fn octets(&self) -> &Octets
+        ensures { result.now ≡ self.now }
+    {
+        &self.octets
+    }
 }
 
 /// Octets that a command calls a CRL: at most 4,194,304, which may or may
 /// not be one.
 #[derive(Debug, Drop)]
 pub struct CrlOctets {
-    octets: Vec<u8>,
+    octets: Octets,
 }
 
 impl Model for CrlOctets {
     ghost Value = { List ℕ };
 
-    ghost view = { λ c. c.octets.items };
+    ghost view = { λ c. c.octets };
 
-    ghost invariant = { λ c. length c.octets.items ≤ 4194304 };
+    ghost invariant = { λ c. length c.octets ≤ 4194304 };
 }
 
 impl CrlOctets {
-    /// A copy.
+    /// The same octets, which are shared and not copied.
     ///
     /// # Errors
     ///
-    /// Out of memory.
-    pub fn try_copy(&self, alloc: Global) -> Result<CrlOctets, AllocError>
-        ensures { IfOk result (λ copy. copy ≡ self.now) }
+    /// Out of memory, where as many owners share them as can be counted.
+    pub fn share(&self) -> Result<CrlOctets, AllocError>
+        ensures { IfOk result (λ again. again ≡ self.now) }
     {
-        let octets = Vec::from_slice(alloc, &self.octets)?;
+        let octets = self.octets.share()?;
         Ok(CrlOctets { octets })
     }
 
@@ -95,11 +103,11 @@ impl CrlOctets {
     /// # Errors
     ///
     /// `TooLong` exactly where there are more than 4,194,304.
-    pub fn new(octets: Vec<u8>) -> Result<CrlOctets, TooLong>
-        ensures { MatchResult result (λ c. (c ≡ octets.items) × (length octets.items ≤ 4194304))
-            (λ _. 4194304 < length octets.items) }
+    pub fn new(octets: Octets) -> Result<CrlOctets, TooLong>
+        ensures { MatchResult result (λ c. (c ≡ octets) × (length octets ≤ 4194304))
+            (λ _. 4194304 < length octets) }
     {
-        if octets.len() > MAX_CRL {
+        if octets.as_slice().len() > MAX_CRL {
             return Err(TooLong);
         }
         Ok(CrlOctets { octets })
@@ -111,5 +119,12 @@ impl CrlOctets {
         ensures limit { length self.now ≤ 4194304 }
     {
         self.octets.as_slice()
+    }
+
+    /// The octets, to be shared.
+    pub fn octets(&self) -> &Octets
+        ensures { result.now ≡ self.now }
+    {
+        &self.octets
     }
 }

@@ -2,6 +2,7 @@
 
 use crate::fault::Fault;
 use std::alloc::{AllocError, Global};
+use ts_octets::Octets;
 use ts_question::{AnchorRow, CrlRow};
 use ts_show::Line;
 use ts_store::{Command, TooLong, digest};
@@ -102,10 +103,10 @@ pub(crate) fn value_of<'a>(wanted: &'a Wanted, step: &Step) -> Option<&'a Value>
 }
 
 /// The octets that a step brings.
-fn octets_of(alloc: Global, value: Option<&Value>) -> Result<Vec<u8>, AllocError> {
+fn octets_of(alloc: Global, value: Option<&Value>) -> Result<Octets, AllocError> {
     match value {
-        Some(value) => Ok(Vec::from_slice(alloc, &value.octets)?),
-        None => Ok(Vec::new(alloc)),
+        Some(value) => Octets::copy_of(alloc, &value.octets),
+        None => Octets::copy_of(alloc, &[]),
     }
 }
 

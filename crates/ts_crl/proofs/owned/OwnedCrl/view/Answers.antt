@@ -13,19 +13,19 @@ use Rattle.ts_crl.proofs.owned.OwnedCrl.view.Goals as goal
 
 pub unreachable-requires : goal.unreachable-requires
 unreachable-requires c =
-    never-lent c.self.inside.first c.self.inside.octets.items c.as_slice.result.now c.in-Err.field-0 c.as_slice.ensures.value c.self.invariant.0 c.in-Err.ensures
+    never-lent c.self.inside.first c.self.inside.octets c.as_slice.result.now c.in-Err.field-0 c.as_slice.ensures c.self.invariant.0 c.in-Err.ensures
 
 pub with_digest-requires : goal.with_digest-requires
 with_digest-requires c =
-    let octets = c.self.inside.octets.items in
-    let read = lent-is c.self.inside.first octets c.as_slice.result.now c.as_slice.ensures.value c.self.invariant.0 (located_list_in c.in-Ok.crl) c.in-Ok.ensures in
+    let octets = c.self.inside.octets in
+    let read = lent-is c.self.inside.first octets c.as_slice.result.now c.as_slice.ensures c.self.invariant.0 (located_list_in c.in-Ok.crl) c.in-Ok.ensures in
     let is : list_of octets ≡ crl_in c.in-Ok.crl = ap (λ (r : Result CertificateList ListFault). result_unwrap_or r no_list) read in
     subst (λ (l : CertificateList). IsDigestOf c.self.inside.digest l.tbs) is c.self.invariant.1
 
 pub returns-clause-found : goal.returns-clause-found
 returns-clause-found c =
-    let octets = c.self.inside.octets.items in
-    let read = lent-is c.self.inside.first octets c.as_slice.result.now c.as_slice.ensures.value c.self.invariant.0 (located_list_in c.in-Ok.crl) c.in-Ok.ensures in
+    let octets = c.self.inside.octets in
+    let read = lent-is c.self.inside.first octets c.as_slice.result.now c.as_slice.ensures c.self.invariant.0 (located_list_in c.in-Ok.crl) c.in-Ok.ensures in
     let same : crl_in c.with_digest.result ≡ crl_in c.in-Ok.crl = ap unlocated_list c.with_digest.ensures in
     subst (λ (l : CertificateList). IsCertificateList c.args.self.now l) (sym same)
     (subst (λ (o : List ℕ). IsCertificateList o (crl_in c.in-Ok.crl)) c.self.view_is (crl-found octets (crl_in c.in-Ok.crl) c.self.invariant.0.are_octets read))
@@ -35,7 +35,7 @@ returns-clause-exact c =
     let same : crl_in c.with_digest.result ≡ crl_in c.in-Ok.crl = ap unlocated_list c.with_digest.ensures in
     let read_as : CertificateList → Result CertificateList ListFault = λ l. Ok l in
     ap crl_of (sym c.self.view_is)
-    ∙ lent-is c.self.inside.first c.self.inside.octets.items c.as_slice.result.now c.as_slice.ensures.value c.self.invariant.0 (located_list_in c.in-Ok.crl) c.in-Ok.ensures
+    ∙ lent-is c.self.inside.first c.self.inside.octets c.as_slice.result.now c.as_slice.ensures c.self.invariant.0 (located_list_in c.in-Ok.crl) c.in-Ok.ensures
     ∙ ap read_as (sym same)
 
 pub returns-clause-same : goal.returns-clause-same
