@@ -8,6 +8,7 @@ ghost use Rattle.ts_record.specs.declared.fault.Fault.TheVariants.{Memory, Damag
 ghost use Rattle.ts_record.specs.Blocks.{IsRead, IsUnreadable, IsLength};
 
 use crate::Fault;
+use crate::known::Known;
 use crate::layout::Layout;
 use crate::reading::{read_facts, u32_at};
 use std::alloc::Global;
@@ -49,6 +50,7 @@ pub(crate) fn read_blocks<C: Codec>(
         ⊎ ((at : ℕ) × (fault ≡ Damaged at) × IsUnreadable C.octets layout octets.now at)) }
 {
     let mut facts = Vec::new(alloc);
+    let mut known = Known::none();
     let mut at = layout.first_gate;
     while at < octets.len() {
         if octets[at] == 0 {
@@ -61,7 +63,7 @@ pub(crate) fn read_blocks<C: Codec>(
         if octets.len() - body < size {
             return Err(Fault::Damaged(body));
         }
-        if !read_facts(alloc, &octets[body..body + size], &mut facts)? {
+        if !read_facts(alloc, &octets[body..body + size], &mut facts, &mut known)? {
             return Err(Fault::Damaged(body));
         }
         at = body + size;

@@ -38,6 +38,7 @@
 mod blocks;
 mod compacted;
 mod fault;
+mod known;
 mod layout;
 mod ledger;
 mod migrating;

@@ -8,6 +8,7 @@ ghost use Rattle.ts_record.specs.Facts.{IsPosition, IsRound, IsBallot, IsBlob, b
 ghost use Rattle.ts_record.specs.Facts.{encodings, Fits, AllFit, Begins, FactOrNot};
 ghost use Rattle.ts_synod.specs.declared.message.Fact.{Fact};
 
+use crate::known::Known;
 use std::alloc::{AllocError, Global};
 use ts_synod::{Codec, Fact};
 
@@ -86,7 +87,11 @@ fn blob_at(rest: &[u8]) -> Option<usize>
 }
 
 /// The command of a blob that begins here, and the length of both.
-fn command_at<C: Codec>(alloc: Global, rest: &[u8]) -> Result<Option<(C, usize)>, AllocError>
+fn command_at<'a, C: Codec>(
+    alloc: Global,
+    rest: &'a [u8],
+    known: &mut Known<'a, C>,
+) -> Result<Option<(C, usize)>, AllocError>
     ensures { IfOk result (λ found. MatchOption found
         ((command : C) (after : List ℕ) → IsBlob (C.octets command)
         → rest.now ≡ blob (C.octets command) ++ after → ⊥)
@@ -96,7 +101,7 @@ fn command_at<C: Codec>(alloc: Global, rest: &[u8]) -> Result<Option<(C, usize)>
     let Some(size) = blob_at(rest) else {
         return Ok(None);
     };
-    match C::read(alloc, &rest[4..4 + size])? {
+    match known.read(alloc, &rest[4..4 + size])? {
         Some(command) => Ok(Some((command, 4 + size))),
         None => Ok(None),
     }
@@ -122,7 +127,11 @@ fn promised_at<C: Codec>(fields: &[u8]) -> Option<(Fact<C>, usize)>
 }
 
 /// The ballot and the command that begin here, and the length of both.
-fn vote_at<C: Codec>(alloc: Global, rest: &[u8]) -> Result<Option<(u64, C, usize)>, AllocError>
+fn vote_at<'a, C: Codec>(
+    alloc: Global,
+    rest: &'a [u8],
+    known: &mut Known<'a, C>,
+) -> Result<Option<(u64, C, usize)>, AllocError>
     ensures { IfOk result (λ found. MatchOption found
         ((ballot : ℕ) (command : C) (after : List ℕ) → IsBallot ballot → IsBlob (C.octets command)
         → rest.now ≡ to_be_bytes w64 ballot ++ blob (C.octets command) ++ after → ⊥)
@@ -133,20 +142,24 @@ fn vote_at<C: Codec>(alloc: Global, rest: &[u8]) -> Result<Option<(u64, C, usize
     let Some(ballot) = ballot_at(rest) else {
         return Ok(None);
     };
-    match command_at(alloc, &rest[8..])? {
+    match command_at(alloc, &rest[8..], known)? {
         Some((command, size)) => Ok(Some((ballot, command, 8 + size))),
         None => Ok(None),
     }
 }
 
-fn took_at<C: Codec>(alloc: Global, fields: &[u8]) -> Result<Option<(Fact<C>, usize)>, AllocError>
+fn took_at<'a, C: Codec>(
+    alloc: Global,
+    fields: &'a [u8],
+    known: &mut Known<'a, C>,
+) -> Result<Option<(Fact<C>, usize)>, AllocError>
     ensures { IfOk result (λ found. FactOrNot C.octets 3 fields.now found) }
 {
     C::one_encoding();
     let Some(position) = position_at(fields) else {
         return Ok(None);
     };
-    match vote_at(alloc, &fields[4..])? {
+    match vote_at(alloc, &fields[4..], known)? {
         Some((ballot, command, size)) => Ok(Some((
             Fact::Took {
                 position,
@@ -159,20 +172,28 @@ fn took_at<C: Codec>(alloc: Global, fields: &[u8]) -> Result<Option<(Fact<C>, us
     }
 }
 
-fn chosen_at<C: Codec>(alloc: Global, fields: &[u8]) -> Result<Option<(Fact<C>, usize)>, AllocError>
+fn chosen_at<'a, C: Codec>(
+    alloc: Global,
+    fields: &'a [u8],
+    known: &mut Known<'a, C>,
+) -> Result<Option<(Fact<C>, usize)>, AllocError>
     ensures { IfOk result (λ found. FactOrNot C.octets 4 fields.now found) }
 {
     let Some(position) = position_at(fields) else {
         return Ok(None);
     };
-    match command_at(alloc, &fields[4..])? {
+    match command_at(alloc, &fields[4..], known)? {
         Some((command, size)) => Ok(Some((Fact::Chosen { position, command }, 5 + size))),
         None => Ok(None),
     }
 }
 
 /// The fact that begins here, and the length of its octets.
-fn fact_at<C: Codec>(alloc: Global, rest: &[u8]) -> Result<Option<(Fact<C>, usize)>, AllocError>
+fn fact_at<'a, C: Codec>(
+    alloc: Global,
+    rest: &'a [u8],
+    known: &mut Known<'a, C>,
+) -> Result<Option<(Fact<C>, usize)>, AllocError>
     ensures { IfOk result (λ found. Begins C.octets rest.now found) }
 {
     let [kind, fields @ ..] = rest else {
@@ -181,18 +202,19 @@ fn fact_at<C: Codec>(alloc: Global, rest: &[u8]) -> Result<Option<(Fact<C>, usiz
     match *kind {
         1 => Ok(used_at(fields)),
         2 => Ok(promised_at(fields)),
-        3 => took_at(alloc, fields),
-        4 => chosen_at(alloc, fields),
+        3 => took_at(alloc, fields, known),
+        4 => chosen_at(alloc, fields, known),
         _ => Ok(None),
     }
 }
 
 /// Reads the facts of a whole body after those that are there. False where the body is not a list
 /// of facts; then what is there after those has no meaning.
-pub(crate) fn read_facts<C: Codec>(
+pub(crate) fn read_facts<'a, C: Codec>(
     alloc: Global,
-    body: &[u8],
+    body: &'a [u8],
     facts: &mut Vec<Fact<C>>,
+    known: &mut Known<'a, C>,
 ) -> Result<bool, AllocError>
     ensures found { IfOk result (λ found. found ≡ true
         → (more : List (Fact C)) × AllFit C.octets more
@@ -203,7 +225,7 @@ pub(crate) fn read_facts<C: Codec>(
     C::one_encoding();
     let mut rest = body;
     while !rest.is_empty() {
-        let Some((fact, size)) = fact_at(alloc, rest)? else {
+        let Some((fact, size)) = fact_at(alloc, rest, known)? else {
             return Ok(false);
         };
         facts.push(fact)?;
