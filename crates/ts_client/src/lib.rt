@@ -13,13 +13,14 @@
 //!   chain is asked for and none is answered.
 //! - [`other_kind`]: what octets hold that are not of the wanted kind, where that is known
 //!   (`IsOther` in `specs/Others`).
-//! - [`read_file`]: `short`: no more octets than a frame may have.
+//! - [`read_file`], [`read_within`]: `short`: no more octets than a frame may have, or than are
+//!   wanted.
 //! - [`submit`], [`ask`], [`tend`]: the peer that is asked can be asked again.
 //! - [`step_line`]: a step of a plan, as a line; tests say of which words.
 //! - [`verify_files`]: it hands the certificates, CRLs and inputs that files and words give to
 //!   `ts_verify`, whose clauses say what the verdict is.
-//! - [`fault_of`], [`read_all`], [`second`], [`key_in`], [`keyring_of`]: files, and what is wrong
-//!   with them, for the tasks of a node (`ts_tasks`).
+//! - [`fault_of`], [`second`], [`key_in`], [`keyring_of`]: files, and what is wrong with them, for
+//!   the tasks of a node (`ts_tasks`).
 //!
 //! # Not promised
 //!
@@ -49,7 +50,7 @@ mod waiting;
 
 pub use ended::{Ended, ending_by, ending_of};
 pub use fault::Fault;
-pub use files::{fault_of, read_all, read_file, second};
+pub use files::{MAX_TABLE, fault_of, read_file, read_within, second};
 pub use keys::{key_in, keyring_of};
 pub use kinds::other_kind;
 pub use requests::{Said, ask, submit};

@@ -2,7 +2,7 @@
 //! lists; what files hold.
 
 use crate::fault::Fault;
-use crate::files::{read_all, read_whole, second};
+use crate::files::{MAX_SHOWN, read_at_most, read_within, second};
 use crate::material::{certificate_of, certificates_of, crl_of, crls_of, values_of};
 use crate::vouching::vouch_for;
 use std::alloc::Global;
@@ -165,18 +165,19 @@ fn show_blocks(
 ///
 /// # Errors
 ///
-/// Those of the file; `Field` where a block of PEM is broken; `Write`.
+/// Those of the file; `TooLong` above 4 GiB; `Field` where a block of PEM is broken; `Write`.
 pub fn show_file(
     rt: &(impl AllocGlobal + Files + Print + Eprint),
     file: &str,
 ) -> Result<(), Fault> {
     let alloc = rt.alloc();
-    let octets = read_all(rt, alloc, file)?;
+    let octets = read_within(rt, alloc, file, MAX_SHOWN)?;
     if is_pem(&octets) {
         return show_blocks(rt, file, &octets);
     }
-    let other = match read_whole(rt, alloc, second(alloc, file)?.as_str()) {
-        Ok(other) => other,
+    let other = match read_at_most(rt, alloc, second(alloc, file)?.as_str(), MAX_SHOWN) {
+        Ok(Some(other)) => other,
+        Ok(None) => return Err(Fault::TooLong),
         Err(error) if error.kind() == ErrorKind::OutOfMemory => return Err(Fault::Memory),
         Err(_) => Vec::new(alloc),
     };

@@ -14,7 +14,7 @@ use std::rt::{Clock, Files};
 use ts_answer::Answers;
 use ts_check::ChosenCheck;
 use ts_cli::ServeWords;
-use ts_client::{Fault, read_all};
+use ts_client::{Fault, MAX_TABLE, read_within};
 use ts_disk::Disk;
 use ts_loop::{Access, Group, Limits, LoopFault, serve_all};
 use ts_meter::{Meter, Metered};
@@ -75,7 +75,7 @@ fn check_of<R: Files + Eprint>(
     let Some(path) = &words.table else {
         return Ok(ChosenCheck::Native);
     };
-    let text = read_all(rt, alloc, path.as_str())?;
+    let text = read_within(rt, alloc, path.as_str(), MAX_TABLE)?;
     Ok(ChosenCheck::NativeOrTable(TableCheck::read(alloc, &text)?))
 }
 
