@@ -25,6 +25,10 @@ const PREFIX_0: &[u8] = b"\x00\x00\x00\x06\x02\x27\x00\x00\x00\x00";
 
 const TAKE: &[u8] = b"\x00\x00\x00\x02\x02\x12";
 
+/// The Prepare of node 1 of 1 to itself, and that it was the only message.
+const GIVEN: &[u8] =
+    b"\x00\x00\x00\x10\x02\x01\x01\x01\x00\x00\x00\x01\x00\x00\x00\x00\x00\x00\x00\x11\x00\x00\x00\x06\x02\x20\x00\x00\x00\x01";
+
 /// The Noop of the id 01.
 const SUBMIT: &[u8] =
     b"\x00\x00\x00\x17\x02\x10\x00\x00\x00\x11\x00\x00\x00\x00\x00\x00\x00\x00\x00\x00\x00\x00\x00\x00\x00\x01\x06";
@@ -56,10 +60,7 @@ const ROWS: &[(&[u8], &[u8])] = &[
     ),
     (SUBMIT, STARTED),
     (OUTCOME, UNKNOWN),
-    (
-        TAKE,
-        b"\x00\x00\x00\x10\x02\x01\x01\x01\x00\x00\x00\x01\x00\x00\x00\x00\x00\x00\x00\x11\x00\x00\x00\x06\x02\x20\x00\x00\x00\x01",
-    ),
+    (TAKE, GIVEN),
     (TAKE, b"\x00\x00\x00\x06\x02\x20\x00\x00\x00\x00"),
     // Catch up: there is no other node to ask.
     (
@@ -200,6 +201,56 @@ fn a_stream_may_end_anywhere(rt: HostRuntime) -> Result<(), Fail> {
         );
         assert!(rt; said.starts_with(PREFIX_0));
         assert_eq!(rt; said.len(), if cut == SUBMIT.len() { 28 } else { 10 });
+    }
+    Ok(())
+}
+
+/// Gives octets in two pieces.
+#[derive(Drop)]
+struct TwoPieces<'a> {
+    first: &'a [u8],
+    second: &'a [u8],
+}
+
+impl Read for TwoPieces<'_> {
+    fn read(&mut self, buf: &mut [u8]) -> io::Result<usize> {
+        if self.first.is_empty() {
+            self.first = self.second;
+            self.second = &[];
+        }
+        self.first.read(buf)
+    }
+}
+
+/// What Submit and then Take are answered where the two come in two pieces, of which the first has
+/// so many octets.
+fn in_two_pieces(alloc: Global, cut: usize) -> Result<Option<Vec<u8>>, AllocError> {
+    let mut stream = Vec::from_slice(alloc, SUBMIT)?;
+    stream.extend_from_slice(TAKE)?;
+    let (Some(first), Some(second)) = (stream.get(..cut), stream.get(cut..)) else {
+        return Ok(None);
+    };
+    let mut reader = TwoPieces { first, second };
+    let mut writer = Vec::new(alloc);
+    match server(alloc, 1, 1, u64::MAX)? {
+        Some(mut server) => Ok(match serve(&mut server, &mut reader, &mut writer) {
+            Ok(()) => Some(writer),
+            Err(_) => None,
+        }),
+        None => Err(AllocError),
+    }
+}
+
+#[test]
+fn a_take_may_be_cut_anywhere(rt: HostRuntime) -> Result<(), Fail> {
+    let alloc = rt.alloc();
+    let mut expected = Vec::from_slice(alloc, STARTED)?;
+    expected.extend_from_slice(GIVEN)?;
+    for cut in 0..=SUBMIT.len() + TAKE.len() {
+        let Some(said) = in_two_pieces(alloc, cut)? else {
+            panic!(&rt; "not answered at {cut}");
+        };
+        assert!(rt; said.as_slice() == expected.as_slice(), "{cut}");
     }
     Ok(())
 }
