@@ -249,12 +249,10 @@ fn store(alloc: Global, known: &Symbols) -> Result<Answers<DigestCheck>, Fail> {
 
 /// The certificates of names.
 fn named(alloc: Global, known: &Symbols, names: Option<&[u8]>) -> Result<Vec<Vec<u8>>, Fail> {
+    let names = str::from_utf8(names.ok_or(LineFault::Form)?)?;
     let mut certificates = Vec::new(alloc);
-    let mut rest = names;
-    while let Some(left) = rest {
-        let (name, behind) = first_piece(left, SPACE);
-        certificates.push(certificate(alloc, known, name)?)?;
-        rest = behind;
+    for name in names.split(' ') {
+        certificates.push(certificate(alloc, known, name.as_bytes())?)?;
     }
     Ok(certificates)
 }

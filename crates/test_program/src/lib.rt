@@ -9,6 +9,8 @@ mod command_tests;
 #[cfg(test)]
 mod encoding_tests;
 #[cfg(test)]
+mod field_tests;
+#[cfg(test)]
 mod file_tests;
 #[cfg(test)]
 mod request_tests;

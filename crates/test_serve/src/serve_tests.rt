@@ -9,13 +9,17 @@ use crate::test_machine::Applies;
 use std::alloc::{AllocError, Global};
 use std::io;
 use std::io::{ErrorKind, Read, Write};
-use std::net::{Shutdown, TcpListener, TcpStream};
+use std::net::{Shutdown, TcpListener};
 use std::test::Fail;
 use ts_disk::MemDisk;
 use ts_node::{Machine, Node};
 use ts_record::Record;
-use ts_serve::{Peer, READ_LIMIT, ServeFault, Server, ServerPeer, TcpPeer, carry, listen, serve};
+use ts_serve::{
+    AnswerFault, MAX_WAITING, Peer, READ_LIMIT, ServeFault, Server, ServerPeer, TcpPeer, carry,
+    connect, is_request, listen, refusal, serve, set_up, write_octets,
+};
 use ts_store::Command;
+use ts_wire::{Frame, FrameFault};
 
 type Served = Server<MemDisk, Applies>;
 
@@ -122,7 +126,11 @@ fn server(alloc: Global, me: u8, nodes: u8, passing: u64) -> Result<Option<Serve
 }
 
 /// What a server answers to a stream, and how it ends.
-fn answers(alloc: Global, server: &mut Served, stream: &[u8]) -> (Vec<u8>, Result<(), ServeFault>)
+fn answers_of(
+    alloc: Global,
+    server: &mut Served,
+    stream: &[u8],
+) -> (Vec<u8>, Result<(), ServeFault>)
     requires { IsSound state_of octets_of ⟦<Applies as Machine<Command>>⟧.commands server.old.node }
     ensures { IsSound state_of octets_of ⟦<Applies as Machine<Command>>⟧.commands server.new.node }
 {
@@ -132,17 +140,47 @@ fn answers(alloc: Global, server: &mut Served, stream: &[u8]) -> (Vec<u8>, Resul
     (writer, end)
 }
 
+/// Whether memory was refused: to the server or to what it writes to, or a frame says that the node
+/// has none or that its device failed, which a disk in memory does where it has none.
+fn was_refused(said: &[u8], end: Result<(), ServeFault>) -> bool {
+    matches!(end, Err(ServeFault::Memory | ServeFault::Write))
+        || said
+            .windows(7)
+            .any(|frame| matches!(frame, [0, 0, 0, 3, 2, 0x25, 1..=3]))
+}
+
+/// What a server whose disks do not fail answers to a stream, and how it ends. An error where memory
+/// was refused.
+fn answers(
+    alloc: Global,
+    server: &mut Served,
+    stream: &[u8],
+) -> Result<(Vec<u8>, Result<(), ServeFault>), AllocError>
+    requires { IsSound state_of octets_of ⟦<Applies as Machine<Command>>⟧.commands server.old.node }
+    ensures { IsSound state_of octets_of ⟦<Applies as Machine<Command>>⟧.commands server.new.node }
+{
+    let (said, end) = answers_of(alloc, server, stream);
+    if was_refused(&said, end) {
+        return Err(AllocError);
+    }
+    Ok((said, end))
+}
+
 /// Whether each stream in turn is answered so, without a fault.
-fn rows_hold(alloc: Global, server: &mut Served, rows: &[(&[u8], &[u8])]) -> bool
+fn rows_hold(
+    alloc: Global,
+    server: &mut Served,
+    rows: &[(&[u8], &[u8])],
+) -> Result<bool, AllocError>
     requires { IsSound state_of octets_of ⟦<Applies as Machine<Command>>⟧.commands server.old.node }
 {
     for (stream, expected) in rows {
-        let (said, end) = answers(alloc, server, stream);
+        let (said, end) = answers(alloc, server, stream)?;
         if said.as_slice() != *expected || end != Ok(()) {
-            return false;
+            return Ok(false);
         }
     }
-    true
+    Ok(true)
 }
 
 #[test]
@@ -151,7 +189,7 @@ fn streams_are_answered(rt: HostRuntime) -> Result<(), Fail> {
     let Some(mut server) = server(alloc, 1, 1, u64::MAX)? else {
         panic!(&rt; "no server");
     };
-    assert!(rt; rows_hold(alloc, &mut server, ROWS));
+    assert!(rt; rows_hold(alloc, &mut server, ROWS)?);
     Ok(())
 }
 
@@ -164,7 +202,7 @@ fn end_behind_status(
     whole.extend_from_slice(stream)?;
     match server(alloc, 1, 1, u64::MAX)? {
         Some(mut server) => {
-            let (said, end) = answers(alloc, &mut server, &whole);
+            let (said, end) = answers(alloc, &mut server, &whole)?;
             Ok((said, end.err()))
         }
         None => Err(AllocError),
@@ -233,10 +271,13 @@ fn in_two_pieces(alloc: Global, cut: usize) -> Result<Option<Vec<u8>>, AllocErro
     let mut reader = TwoPieces { first, second };
     let mut writer = Vec::new(alloc);
     match server(alloc, 1, 1, u64::MAX)? {
-        Some(mut server) => Ok(match serve(&mut server, &mut reader, &mut writer) {
-            Ok(()) => Some(writer),
-            Err(_) => None,
-        }),
+        Some(mut server) => {
+            let end = serve(&mut server, &mut reader, &mut writer);
+            if was_refused(&writer, end) {
+                return Err(AllocError);
+            }
+            Ok(end.is_ok().then_some(writer))
+        }
         None => Err(AllocError),
     }
 }
@@ -413,10 +454,10 @@ fn a_failed_disk_is_answered(rt: HostRuntime) -> Result<(), Fail> {
     let Some(mut server) = server(alloc, 1, 1, 2)? else {
         panic!(&rt; "no server");
     };
-    let (said, end) = answers(alloc, &mut server, SUBMIT);
+    let (said, end) = answers_of(alloc, &mut server, SUBMIT);
     assert_eq!(rt; said.as_slice(), b"\x00\x00\x00\x03\x02\x25\x02".as_slice());
     assert_eq!(rt; end, Ok(()));
-    let (said, end) = answers(alloc, &mut server, STATUS);
+    let (said, end) = answers_of(alloc, &mut server, STATUS);
     assert_eq!(rt; said.as_slice(), b"\x00\x00\x00\x03\x02\x25\x03".as_slice());
     assert_eq!(rt; end, Ok(()));
     let _node = server.close();
@@ -486,8 +527,12 @@ fn a_connection_is_served(rt: HostRuntime) -> Result<(), Fail> {
     let alloc = rt.alloc();
     let listener = TcpListener::bind(&rt, "127.0.0.1:0")?;
     let address = listener.local_addr()?;
-    let mut stream = TcpStream::connect(&rt, address)?;
-    stream.write_all(STATUS)?;
+    let address = format!(in alloc; "{address}")?;
+    let Some(mut stream) = connect(&rt, address.as_str()) else {
+        panic!(&rt; "no connection");
+    };
+    set_up(&stream)?;
+    write_octets(&mut stream, STATUS)?;
     stream.shutdown(Shutdown::Write)?;
     let mut server = peer(alloc, 1, 1)?.close();
     assert_eq!(rt; listen(&mut server, &listener, 1), Ok(()));
@@ -503,5 +548,88 @@ fn a_connection_that_is_not_made_is_write(rt: HostRuntime) -> Result<(), Fail> {
     let address = String::from_str(alloc, "127.0.0.1:1")?;
     let mut peer = TcpPeer::new(alloc, &rt, address);
     assert!(rt; matches!(peer.exchange(STATUS), Err(ServeFault::Write)));
+    Ok(())
+}
+
+/// A server that takes its own messages settles a command of one node in the turn that it comes in.
+const OWN_ROWS: &[(&[u8], &[u8])] = &[
+    (SUBMIT, STARTED),
+    (OUTCOME, SETTLED),
+    (TAKE, b"\x00\x00\x00\x06\x02\x20\x00\x00\x00\x00"),
+];
+
+#[test]
+fn a_turn_takes_its_own_messages(rt: HostRuntime) -> Result<(), Fail> {
+    let alloc = rt.alloc();
+    let Some(mut server) = server(alloc, 1, 1, u64::MAX)? else {
+        panic!(&rt; "no server");
+    };
+    server.take_own();
+    assert!(rt; rows_hold(alloc, &mut server, OWN_ROWS)?);
+    Ok(())
+}
+
+/// Whether single frames are answered by node 2 of 3, and what is no request is not.
+fn are_frames_answered(alloc: Global) -> Result<bool, AllocError> {
+    let Some(mut server) = server(alloc, 2, 3, u64::MAX)? else {
+        return Ok(false);
+    };
+    let identity = server.identity();
+    let is_second = (identity.node, identity.nodes, identity.group) == (2, 3, 0);
+    let Ok(said) = server.answer_frame(Frame::Status) else {
+        return Ok(false);
+    };
+    let other = server.answer_frame(Frame::Unknown);
+    let refused = refusal(alloc, FrameFault::Kind)?;
+    Ok(
+        is_second
+            && said.as_slice() == PREFIX_0
+            && matches!(other, Err(AnswerFault::NoRequest))
+            && is_request(&Frame::Take)
+            && !is_request(&Frame::Unknown)
+            && refused.as_slice() == b"\x00\x00\x00\x03\x02\x26\x03".as_slice()
+            && !server.has_failed(),
+    )
+}
+
+#[test]
+fn frames_are_answered_one_by_one(rt: HostRuntime) -> Result<(), Fail> {
+    assert!(rt; are_frames_answered(rt.alloc())?);
+    Ok(())
+}
+
+/// What Take is answered behind so many commands, each of which makes node 1 of 3 send a Prepare to
+/// each node: how many octets, and the last four.
+fn given_after(alloc: Global, commands: u8) -> Result<(usize, Option<[u8; 4]>), AllocError> {
+    let mut stream = Vec::new(alloc);
+    for command in 0..commands {
+        stream.extend_from_slice(&SUBMIT[..25])?;
+        stream.extend_from_slice(&[command, 6])?;
+    }
+    stream.extend_from_slice(TAKE)?;
+    let Some(mut server) = server(alloc, 1, 3, u64::MAX)? else {
+        return Err(AllocError);
+    };
+    let (said, _end) = answers(alloc, &mut server, &stream)?;
+    let started = usize::from(commands) * STARTED.len();
+    Ok((
+        said.len().saturating_sub(started),
+        said.last_chunk().copied(),
+    ))
+}
+
+#[test]
+fn the_first_messages_wait(rt: HostRuntime) -> Result<(), Fail> {
+    assert_eq!(rt; MAX_WAITING, 256);
+    // A Prepare has 20 octets, and Done 10.
+    for (commands, size, count) in [
+        (0, 10, 0),
+        (85, 5110, 255),
+        (86, 5130, 256),
+        (99, 5130, 256),
+    ] {
+        let found = given_after(rt.alloc(), commands)?;
+        assert_eq!(rt; found, (size, Some(u32::to_be_bytes(count))), "{commands}");
+    }
     Ok(())
 }
