@@ -187,7 +187,7 @@ fn rows_hold(
 fn streams_are_answered(rt: HostRuntime) -> Result<(), Fail> {
     let alloc = rt.alloc();
     let Some(mut server) = server(alloc, 1, 1, u64::MAX)? else {
-        panic!(&rt; "no server");
+        return Err(Fail::from(AllocError));
     };
     assert!(rt; rows_hold(alloc, &mut server, ROWS)?);
     Ok(())
@@ -364,6 +364,10 @@ fn narrowed(
         Some(mut server) => {
             let end = serve(&mut server, &mut reader, &mut writer).err();
             let Narrow { taken, .. } = writer;
+            let was_full = end == Some(ServeFault::Write) && taken.len() >= room;
+            if !was_full && was_refused(&taken, end.map_or(Ok(()), Err)) {
+                return Err(AllocError);
+            }
             Ok((taken, end))
         }
         None => Err(AllocError),
@@ -448,19 +452,31 @@ fn reads_are_limited(rt: HostRuntime) -> Result<(), Fail> {
     Ok(())
 }
 
-#[test]
-fn a_failed_disk_is_answered(rt: HostRuntime) -> Result<(), Fail> {
-    let alloc = rt.alloc();
+/// Whether a node whose disk fails says so, and then that it is broken. An error where memory was
+/// refused before that.
+fn is_failure_answered(alloc: Global) -> Result<bool, AllocError> {
     let Some(mut server) = server(alloc, 1, 1, 2)? else {
-        panic!(&rt; "no server");
+        return Err(AllocError);
     };
     let (said, end) = answers_of(alloc, &mut server, SUBMIT);
-    assert_eq!(rt; said.as_slice(), b"\x00\x00\x00\x03\x02\x25\x02".as_slice());
-    assert_eq!(rt; end, Ok(()));
-    let (said, end) = answers_of(alloc, &mut server, STATUS);
-    assert_eq!(rt; said.as_slice(), b"\x00\x00\x00\x03\x02\x25\x03".as_slice());
-    assert_eq!(rt; end, Ok(()));
+    let (again, end_again) = answers_of(alloc, &mut server, STATUS);
+    let has_failed = server.has_failed();
     let _node = server.close();
+    if said.ends_with(b"\x25\x01") || was_refused(b"", end) || was_refused(b"", end_again) {
+        return Err(AllocError);
+    }
+    Ok(
+        said.as_slice() == b"\x00\x00\x00\x03\x02\x25\x02".as_slice()
+            && again.as_slice() == b"\x00\x00\x00\x03\x02\x25\x03".as_slice()
+            && has_failed
+            && end == Ok(())
+            && end_again == Ok(()),
+    )
+}
+
+#[test]
+fn a_failed_disk_is_answered(rt: HostRuntime) -> Result<(), Fail> {
+    assert!(rt; is_failure_answered(rt.alloc())?);
     Ok(())
 }
 
@@ -476,15 +492,34 @@ fn peer(alloc: Global, me: u8, nodes: u8) -> Result<ServerPeer<MemDisk, Applies>
     }
 }
 
-/// What the peer at a place answers, or nothing where it fails.
-fn asked<P: Peer>(alloc: Global, peers: &mut [P], place: usize, stream: &[u8]) -> Vec<u8>
+/// What the peer at a place answers. An error where memory was refused, without which it fails not.
+fn asked<P: Peer>(peers: &mut [P], place: usize, stream: &[u8]) -> Result<Vec<u8>, AllocError>
     requires ready { All P.is_ready peers.old }
     requires within { place < length peers.old }
     ensures { All P.is_ready peers.new }
 {
     match peers[place].exchange(stream) {
-        Ok(answers) => answers,
-        Err(_) => Vec::new(alloc),
+        Ok(said) if !was_refused(&said, Ok(())) => Ok(said),
+        _ => Err(AllocError),
+    }
+}
+
+/// How many messages are delivered in so many rounds. An error where they are fewer than wanted, as
+/// where memory is refused to an exchange.
+fn carried<P: Peer>(
+    alloc: Global,
+    peers: &mut [P],
+    rounds: u32,
+    wanted: u64,
+) -> Result<u64, AllocError>
+    requires { All P.is_ready peers.old }
+    ensures { All P.is_ready peers.new }
+{
+    let count = carry(alloc, peers, rounds)?;
+    if count < wanted {
+        Err(AllocError)
+    } else {
+        Ok(count)
     }
 }
 
@@ -493,9 +528,12 @@ fn one_node_settles_in_four_rounds(rt: HostRuntime) -> Result<(), Fail> {
     let alloc = rt.alloc();
     for (rounds, outcome) in [(3, UNKNOWN), (4, SETTLED)] {
         let mut peers = [peer(alloc, 1, 1)?];
-        assert_eq!(rt; asked(alloc, &mut peers, 0, SUBMIT).as_slice(), STARTED);
-        assert_eq!(rt; carry(alloc, &mut peers, rounds)?, u64::from(rounds));
-        assert_eq!(rt; asked(alloc, &mut peers, 0, OUTCOME).as_slice(), outcome);
+        assert_eq!(rt; asked(&mut peers, 0, SUBMIT)?.as_slice(), STARTED);
+        assert_eq!(rt;
+            carried(alloc, &mut peers, rounds, u64::from(rounds))?,
+            u64::from(rounds)
+        );
+        assert_eq!(rt; asked(&mut peers, 0, OUTCOME)?.as_slice(), outcome);
     }
     Ok(())
 }
@@ -504,11 +542,11 @@ fn one_node_settles_in_four_rounds(rt: HostRuntime) -> Result<(), Fail> {
 fn three_nodes_settle(rt: HostRuntime) -> Result<(), Fail> {
     let alloc = rt.alloc();
     let mut peers = [peer(alloc, 1, 3)?, peer(alloc, 2, 3)?, peer(alloc, 3, 3)?];
-    assert_eq!(rt; asked(alloc, &mut peers, 0, SUBMIT).as_slice(), STARTED);
+    assert_eq!(rt; asked(&mut peers, 0, SUBMIT)?.as_slice(), STARTED);
     // Three of Prepare, three of Promise, three of Accept, and three of Accepted from each.
-    assert_eq!(rt; carry(alloc, &mut peers, 5)?, 18);
-    assert_eq!(rt; asked(alloc, &mut peers, 1, OUTCOME).as_slice(), SETTLED);
-    assert_eq!(rt; asked(alloc, &mut peers, 2, OUTCOME).as_slice(), SETTLED);
+    assert_eq!(rt; carried(alloc, &mut peers, 5, 18)?, 18);
+    assert_eq!(rt; asked(&mut peers, 1, OUTCOME)?.as_slice(), SETTLED);
+    assert_eq!(rt; asked(&mut peers, 2, OUTCOME)?.as_slice(), SETTLED);
     Ok(())
 }
 
@@ -516,9 +554,9 @@ fn three_nodes_settle(rt: HostRuntime) -> Result<(), Fail> {
 fn a_message_without_a_peer_does_not_count(rt: HostRuntime) -> Result<(), Fail> {
     let alloc = rt.alloc();
     let mut peers = [peer(alloc, 1, 3)?];
-    assert_eq!(rt; asked(alloc, &mut peers, 0, SUBMIT).as_slice(), STARTED);
+    assert_eq!(rt; asked(&mut peers, 0, SUBMIT)?.as_slice(), STARTED);
     // Prepare and Promise of node 1 with itself; no majority answers.
-    assert_eq!(rt; carry(alloc, &mut peers, 5)?, 2);
+    assert_eq!(rt; carried(alloc, &mut peers, 5, 2)?, 2);
     Ok(())
 }
 
@@ -538,6 +576,10 @@ fn a_connection_is_served(rt: HostRuntime) -> Result<(), Fail> {
     assert_eq!(rt; listen(&mut server, &listener, 1), Ok(()));
     let mut answer = Vec::new(alloc);
     stream.read_to_end(&mut answer)?;
+    // A connection that memory is refused to ends without an answer.
+    if answer.is_empty() {
+        return Err(Fail::from(AllocError));
+    }
     assert_eq!(rt; answer.as_slice(), PREFIX_0);
     Ok(())
 }
@@ -562,7 +604,7 @@ const OWN_ROWS: &[(&[u8], &[u8])] = &[
 fn a_turn_takes_its_own_messages(rt: HostRuntime) -> Result<(), Fail> {
     let alloc = rt.alloc();
     let Some(mut server) = server(alloc, 1, 1, u64::MAX)? else {
-        panic!(&rt; "no server");
+        return Err(Fail::from(AllocError));
     };
     server.take_own();
     assert!(rt; rows_hold(alloc, &mut server, OWN_ROWS)?);
@@ -572,12 +614,12 @@ fn a_turn_takes_its_own_messages(rt: HostRuntime) -> Result<(), Fail> {
 /// Whether single frames are answered by node 2 of 3, and what is no request is not.
 fn are_frames_answered(alloc: Global) -> Result<bool, AllocError> {
     let Some(mut server) = server(alloc, 2, 3, u64::MAX)? else {
-        return Ok(false);
+        return Err(AllocError);
     };
     let identity = server.identity();
     let is_second = (identity.node, identity.nodes, identity.group) == (2, 3, 0);
     let Ok(said) = server.answer_frame(Frame::Status) else {
-        return Ok(false);
+        return Err(AllocError);
     };
     let other = server.answer_frame(Frame::Unknown);
     let refused = refusal(alloc, FrameFault::Kind)?;
