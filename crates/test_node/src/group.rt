@@ -393,6 +393,11 @@ struct Settled {
 }
 
 impl Settled {
+    /// Whether two of these are the same, or of two commands at two positions.
+    fn agrees(self, other: Settled) -> bool {
+        (self.command == other.command) == (self.position == other.position)
+    }
+
     /// What a node answers to a command, where it is settled.
     fn of(command: Number, handled: &Handled) -> Option<Settled> {
         match handled {
@@ -460,15 +465,16 @@ impl Group {
         Ok(())
     }
 
-    /// Whether no node has learned another command where one was answered as settled, and whether
-    /// each command was settled at one position.
+    /// Whether each command that was answered as settled stays at its one position.
     fn are_settled_kept(&self) -> bool {
-        self.settled.iter().all(|settled| {
-            self.agrees_on(settled.position, settled.command)
-                && self.settled.iter().all(|other| {
-                    (other.command == settled.command) == (other.position == settled.position)
-                })
-        })
+        self.settled.iter().all(|settled| self.is_kept(*settled))
+    }
+
+    /// Whether no node has learned another command where this one was answered as settled, and it
+    /// alone was settled there, and there alone.
+    fn is_kept(&self, settled: Settled) -> bool {
+        self.agrees_on(settled.position, settled.command)
+            && self.settled.iter().all(|other| settled.agrees(*other))
     }
 
     /// Keeps messages that were sent.
