@@ -188,18 +188,19 @@ fn behind_made(written: &[u8]) -> Option<&[u8]> {
     Some(rest)
 }
 
-/// Whether a line says that memory was refused, or that a device failed, as a disk in memory does
-/// where it has none.
+/// Whether a line says that memory was refused to a node, or that its device failed, as a disk in
+/// memory does where it has none.
 fn says_refused(line: &str) -> bool {
-    line.ends_with(": memory") || line == "fault Memory" || line == "fault DiskFailed"
+    line == "fault Memory" || line == "fault DiskFailed"
 }
 
-/// Whether the first line says so that is not the one that is to stand there, behind the lines that
-/// make certificates and lists, or the last one where those end early.
+/// Whether the last line says that memory was refused, or the first line that is not the one that
+/// is to stand there, behind the lines that make certificates and lists.
 fn was_refused(written: &[u8], text: &str) -> bool {
-    let Some(behind) = behind_made(written) else {
-        return written.ends_with(b": memory\n");
-    };
+    if written.ends_with(b": memory\n") {
+        return true;
+    }
+    let behind = behind_made(written).unwrap_or(b"");
     let mut wanted = text.lines();
     for line in str::from_utf8(behind).unwrap_or("").lines() {
         if wanted.next() != Some(line) {

@@ -208,19 +208,6 @@ impl Member {
         }
     }
 
-    /// The node whose record is these octets on two disks.
-    pub fn on(alloc: Global, first: Vec<u8>, second: Vec<u8>) -> Result<Member, AllocError> {
-        let a = MemDisk::new(alloc, first)?;
-        let b = MemDisk::new(alloc, second)?;
-        match opened(alloc, a, b) {
-            Ok(node) => Ok(Member {
-                node,
-                learned: Vec::new(alloc),
-            }),
-            Err(_) => Err(AllocError),
-        }
-    }
-
     /// The node on two disks, or where a device fails the one after a crash, and then true. Where
     /// memory is refused it is opened again.
     fn open(
