@@ -9,7 +9,7 @@ use ts_render::{answer_fields, chain_fields, is_final, moment_text, outcome_text
 use ts_store::{Outcome, Refusal};
 use ts_sync::{Holding, Kind, Step, plan, plan_named};
 
-/// A question about a chain of two certificates, each of one octet, at 1970-01-01, and its octets in
+/// A question about a chain of two certificates, each of one octet, at 1970-01-01; its octets in
 /// base64.
 const QUESTION: &[u8] =
     b"\x01\0\0\0\0\0\0\0\0\x08\0\0\0\0\0dddddddddddddddddddddddddddddddd\x02\0\0\0\x01\x01\0\0\0\x01\x02";
