@@ -15,7 +15,7 @@ const AT: Moment = Moment(1_798_761_600);
 
 /// Whether a certificate is valid under its own key; `None` where something else than its signature
 /// is wrong.
-fn is_good(alloc: Global, octets: &[u8]) -> Option<bool> {
+pub(crate) fn is_good(alloc: Global, octets: &[u8]) -> Option<bool> {
     let cert = Cert::read(octets).ok()?;
     let chain = [cert];
     let verdict = validate(

@@ -4,4 +4,6 @@
 #[cfg(test)]
 mod check_tests;
 #[cfg(test)]
+mod nested_tests;
+#[cfg(test)]
 mod rows;

@@ -1,10 +1,11 @@
 //! A record of version 1 is written again as one of version 2.
 
-use crate::record_tests::Word;
+use crate::record_tests::{Word, are_three};
 use std::alloc::{AllocError, Global};
 use std::test::Fail;
-use ts_disk::MemDisk;
-use ts_record::{Fault, Record};
+use ts_disk::{DiskCall, MemDisk, Torn};
+use ts_record::{Fault, Record, Refused};
+use ts_synod::Fact;
 
 /// A record of version 1: the header of node 1 of 3, a body with the fact that round 1 was used,
 /// and a closed gate.
@@ -58,6 +59,136 @@ fn what_is_no_old_record_has_its_fault(rt: HostRuntime) -> Result<(), Fail> {
     for (octets, fault) in rows {
         let (answer, a, _) = migrated(rt.alloc(), octets)?;
         assert_eq!(rt; (answer, a.octets().len()), (Err(fault), 0));
+    }
+    Ok(())
+}
+
+/// A record of version 1 with two bodies: that round 1 was used; and a promise, a vote for the
+/// command 7 8, and that the command 9 is chosen.
+const FOUR_FACTS: [u8; 74] = [
+    0x54, 0x53, 0x52, 0x45, 0x43, 0, 0, 1, 1, 3, 0, 0, 0, 0, 0, 0, 1, 0, 0, 0, 5, 1, 0, 0, 0, 1, 1,
+    0, 0, 0, 42, 2, 0, 0, 0, 1, 0, 0, 0, 0, 0, 0, 0, 17, 3, 0, 0, 0, 1, 0, 0, 0, 0, 0, 0, 0, 17, 0,
+    0, 0, 2, 7, 8, 4, 0, 0, 0, 1, 0, 0, 0, 1, 9, 0,
+];
+
+/// A call that fails, of the old disk or one of the two others, alone or with all behind it.
+#[derive(Clone, Copy, Debug)]
+struct Stop {
+    disk: u8,
+    before: u64,
+    is_alone: bool,
+}
+
+/// A fresh disk of this number, or one with octets for 0.
+fn disk(alloc: Global, number: u8, stop: Stop) -> Result<MemDisk, AllocError> {
+    let octets: &[u8] = if number == 0 { &FOUR_FACTS } else { &[] };
+    let mut disk = MemDisk::new(alloc, octets.to_vec(alloc)?)?;
+    if stop.disk == number && stop.is_alone {
+        disk.fail_at(stop.before.saturating_add(1));
+    } else if stop.disk == number {
+        disk.set_fuse(stop.before);
+    }
+    Ok(disk)
+}
+
+/// What a migration answers, and the three disks.
+#[derive(Drop)]
+struct Ended {
+    answer: Result<u32, Fault>,
+    old: MemDisk,
+    a: MemDisk,
+    b: MemDisk,
+}
+
+fn stopped(alloc: Global, stop: Stop) -> Result<Ended, AllocError> {
+    let mut old = disk(alloc, 0, stop)?;
+    let mut a = disk(alloc, 1, stop)?;
+    let mut b = disk(alloc, 2, stop)?;
+    let answer = Record::<MemDisk, Word>::migrate(alloc, &mut old, &mut a, &mut b);
+    Ok(Ended { answer, old, a, b })
+}
+
+/// Whether two disks open to all four facts, for true, or are no record. `None` for anything else.
+fn opens(alloc: Global, a: MemDisk, b: MemDisk) -> Option<bool> {
+    match Record::<MemDisk, Word>::open(alloc, a, b) {
+        Ok(record) => match record.facts() {
+            [Fact::Used { round: 1 }, others @ ..] if are_three(others) => Some(true),
+            _ => None,
+        },
+        Err(
+            Refused {
+                fault: Fault::NotFormatted | Fault::Damaged(_),
+                a: _,
+                b: _,
+            },
+        ) => Some(false),
+        Err(_) => None,
+    }
+}
+
+const TORN: [Torn; 4] = [Torn::Old, Torn::New, Torn::Byte(0), Torn::Byte(0xff)];
+
+/// Whether the old disk is what it was, and whatever a crash leaves of the two others opens to all
+/// facts where the migration ended well, and else to all of them or to no record. The second
+/// answer: whether it stopped.
+fn is_kept(alloc: Global, stop: Stop) -> Result<(bool, bool), AllocError> {
+    let Ended { answer, old, a, b } = stopped(alloc, stop)?;
+    let has_stopped = answer == Err(Fault::DiskFailed);
+    let mut is_good = has_stopped || answer == Ok(4);
+    is_good &= old.octets() == FOUR_FACTS.as_slice();
+    is_good &= matches!(old.calls(), [] | [DiskCall::Read]);
+    for first in TORN {
+        for second in TORN {
+            let found = opens(alloc, a.crash(first)?, b.crash(second)?);
+            is_good &= found == Some(true) || (has_stopped && found == Some(false));
+        }
+    }
+    Ok((is_good, has_stopped))
+}
+
+/// How often a migration stops where each call of a disk fails in turn; `None` where facts are
+/// lost.
+fn stops(alloc: Global, disk: u8, is_alone: bool) -> Result<Option<usize>, AllocError> {
+    let mut count = 0usize;
+    for before in 0..20 {
+        let stop = Stop {
+            disk,
+            before,
+            is_alone,
+        };
+        match is_kept(alloc, stop)? {
+            (true, true) => count = count.saturating_add(1),
+            (true, false) => {}
+            (false, _) => return Ok(None),
+        }
+    }
+    Ok(Some(count))
+}
+
+/// How many calls each disk is given where none fails.
+fn calls(alloc: Global) -> Result<[usize; 3], AllocError> {
+    let none = Stop {
+        disk: 3,
+        before: 0,
+        is_alone: false,
+    };
+    let Ended {
+        answer: _,
+        old,
+        a,
+        b,
+    } = stopped(alloc, none)?;
+    Ok([old.calls().len(), a.calls().len(), b.calls().len()])
+}
+
+#[test]
+fn a_migration_may_stop_at_each_call(rt: HostRuntime) -> Result<(), Fail> {
+    let alloc = rt.alloc();
+    for (disk, calls) in [0, 1, 2].into_iter().zip(calls(alloc)?) {
+        assert!(rt; 0 < calls && calls < 20);
+        for is_alone in [false, true] {
+            assert_eq!(rt; stops(alloc, disk, is_alone)?, Some(calls), "{disk}");
+        }
     }
     Ok(())
 }

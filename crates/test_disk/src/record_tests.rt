@@ -172,7 +172,7 @@ fn with_three_facts(alloc: Global) -> Result<Option<(MemDisk, MemDisk)>, Fail> {
 }
 
 /// Whether these are the three facts.
-fn are_three(facts: &[Fact<Word>]) -> bool {
+pub(crate) fn are_three(facts: &[Fact<Word>]) -> bool {
     match facts {
         [
             Fact::Promised {

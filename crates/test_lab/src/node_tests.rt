@@ -1,6 +1,8 @@
 //! Scripts with nodes, and what they print.
 
 use std::alloc::{AllocError, Global};
+use ts_script::LINE_FEED;
+use ts_script::words::first_piece;
 
 /// Certificates and lists that the scripts name, all current at 2026-06-01.
 const MADE: &str = "\
@@ -158,6 +160,7 @@ cert S 138
 ";
 
 /// Whether lines after those that make certificates and lists print this, and end with this status.
+/// An error where memory was refused.
 fn prints(alloc: Global, parts: &[&str], text: &str, status: u8) -> Result<bool, AllocError> {
     let mut script = String::from_str(alloc, MADE)?;
     for part in parts {
@@ -165,19 +168,46 @@ fn prints(alloc: Global, parts: &[&str], text: &str, status: u8) -> Result<bool,
     }
     let mut written = Vec::new(alloc);
     let ended = ts_lab::lab(alloc, &mut script.as_bytes(), &mut written);
-    Ok(ended == status && is_behind_made(&written, text.as_bytes()))
+    // A vector takes all that is written, unless memory is refused.
+    if ended == 1 || was_refused(&written, text) {
+        return Err(AllocError);
+    }
+    Ok(ended == status && behind_made(&written) == Some(text.as_bytes()))
 }
 
-/// Whether the text after what the lines that make certificates and lists print is this.
-fn is_behind_made(written: &[u8], text: &[u8]) -> bool {
+/// The text after what the lines that make certificates and lists print.
+fn behind_made(written: &[u8]) -> Option<&[u8]> {
+    if !written.starts_with(PRINTED.as_bytes()) {
+        return None;
+    }
     let mut rest = written;
     for _ in 0..MADE_LINES {
-        match ts_script::words::first_piece(rest, b'\n') {
-            (_line, Some(behind)) => rest = behind,
-            _ => return false,
+        let (_line, behind) = first_piece(rest, LINE_FEED);
+        rest = behind?;
+    }
+    Some(rest)
+}
+
+/// Whether a line says that memory was refused to a node, or that its device failed, as a disk in
+/// memory does where it has none.
+fn says_refused(line: &str) -> bool {
+    line == "fault Memory" || line == "fault DiskFailed"
+}
+
+/// Whether the last line says that memory was refused, or the first line that is not the one that
+/// is to stand there, behind the lines that make certificates and lists.
+fn was_refused(written: &[u8], text: &str) -> bool {
+    if written.ends_with(b": memory\n") {
+        return true;
+    }
+    let behind = behind_made(written).unwrap_or(b"");
+    let mut wanted = text.lines();
+    for line in str::from_utf8(behind).unwrap_or("").lines() {
+        if wanted.next() != Some(line) {
+            return says_refused(line);
         }
     }
-    rest == text && written.starts_with(PRINTED.as_bytes())
+    false
 }
 
 #[test]

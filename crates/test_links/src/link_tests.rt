@@ -3,7 +3,7 @@
 use crate::numbers::Numbers;
 use std::alloc::{AllocError, Global};
 use std::test::Fail;
-use ts_links::reaching::take_some;
+use ts_links::reaching::{arrive, close, leave, open, take_some};
 use ts_links::{ArriveFault, Connections, Deadlines, Stage, Taken};
 
 const STATUS: &[u8] = b"\x00\x00\x00\x02\x02\x15";
@@ -23,10 +23,19 @@ const PREFIX_1: &[u8] = b"\x00\x00\x00\x06\x02\x27\x00\x00\x00\x01";
 /// FrameFault Kind.
 const KIND: &[u8] = b"\x00\x00\x00\x03\x02\x26\x03";
 
-/// Has a piece come on a slot, and takes what is whole.
-fn feed(table: &mut Connections, service: &mut Numbers, slot: usize, piece: &[u8], now: u64) {
-    let _came = table.arrive(slot, piece, now);
-    let _taken = take_some(table, slot, service, 64, now);
+/// Has a piece come on a slot, and takes what is whole. An error where memory was refused.
+fn feed(
+    table: &mut Connections,
+    service: &mut Numbers,
+    slot: usize,
+    piece: &[u8],
+    now: u64,
+) -> Result<(), AllocError> {
+    if table.arrive(slot, piece, now) == Err(ArriveFault::Memory) {
+        return Err(AllocError);
+    }
+    let (_taken, had_memory) = take_some(table, slot, service, 64, now);
+    if had_memory { Ok(()) } else { Err(AllocError) }
 }
 
 /// What waits after the three requests came in pieces that begin at these places.
@@ -41,9 +50,9 @@ fn cut(alloc: Global, one: usize, two: usize) -> Result<bool, AllocError> {
     ) else {
         return Ok(true);
     };
-    feed(&mut table, &mut service, 0, first, 0);
-    feed(&mut table, &mut service, 0, second, 0);
-    feed(&mut table, &mut service, 0, third, 0);
+    feed(&mut table, &mut service, 0, first, 0)?;
+    feed(&mut table, &mut service, 0, second, 0)?;
+    feed(&mut table, &mut service, 0, third, 0)?;
     Ok(table.waiting(0) == ANSWERS)
 }
 
@@ -66,8 +75,8 @@ fn interleaved(alloc: Global) -> Result<bool, AllocError> {
     let a = table.open(0);
     let b = table.open(0);
     for octet in STATUS {
-        feed(&mut table, &mut service, 0, &[*octet], 0);
-        feed(&mut table, &mut service, 1, &[*octet], 0);
+        feed(&mut table, &mut service, 0, &[*octet], 0)?;
+        feed(&mut table, &mut service, 1, &[*octet], 0)?;
     }
     let first = table.waiting(0) == PREFIX_0;
     let second = table.waiting(1) == PREFIX_1;
@@ -86,11 +95,11 @@ fn faulty(alloc: Global) -> Result<bool, AllocError> {
     let mut service = Numbers::new(alloc);
     let _a = table.open(0);
     let _b = table.open(0);
-    feed(&mut table, &mut service, 0, b"\x00\x00\x00\x02\x02\x24", 0);
+    feed(&mut table, &mut service, 0, b"\x00\x00\x00\x02\x02\x24", 0)?;
     let refused = table.arrive(0, STATUS, 0) == Err(ArriveFault::NotOpen);
-    let nothing = table.take(0, &mut service, 0) == Ok(Taken::Nothing);
+    let nothing = table.take(0, &mut service, 0)? == Taken::Nothing;
     let said = table.waiting(0) == KIND && table.stage(0) == Stage::Refused;
-    feed(&mut table, &mut service, 1, STATUS, 0);
+    feed(&mut table, &mut service, 1, STATUS, 0)?;
     let other = table.waiting(1) == PREFIX_0;
     Ok(refused && nothing && said && other && service.next == 1)
 }
@@ -107,12 +116,12 @@ fn bounded(alloc: Global) -> Result<bool, AllocError> {
     let mut service = Numbers::new(alloc);
     let _slot = table.open(0);
     for _piece in 0..40_000 {
-        feed(&mut table, &mut service, 0, STATUS, 0);
+        feed(&mut table, &mut service, 0, STATUS, 0)?;
     }
     let full = table.arrive(0, STATUS, 0) == Err(ArriveFault::Full) && !table.reads(0);
     let waits = table.waiting(0).len() == 65_540;
     let left = table.leave(0, 10, 0) && !table.leave(0, 65_531, 0);
-    let takes = table.take(0, &mut service, 0) == Ok(Taken::Request);
+    let takes = table.take(0, &mut service, 0)? == Taken::Request;
     Ok(full && waits && left && takes && table.waiting(0).len() == 65_540)
 }
 
@@ -129,13 +138,13 @@ fn timely(alloc: Global) -> Result<bool, AllocError> {
     let mut service = Numbers::new(alloc);
     let _slot = table.open(0);
     let silent = !table.is_late(0, &times, 29_999) && table.is_late(0, &times, 30_000);
-    feed(&mut table, &mut service, 0, b"\x00\x20\x00\x02\x02", 1000);
-    feed(&mut table, &mut service, 0, b"\x11", 5000);
+    feed(&mut table, &mut service, 0, b"\x00\x20\x00\x02\x02", 1000)?;
+    feed(&mut table, &mut service, 0, b"\x11", 5000)?;
     // Two mebibytes are announced: two seconds more, and none for the second piece.
     let slow = !table.is_late(0, &times, 7999) && table.is_late(0, &times, 8000);
     let _closed = table.close(0);
     let _slot = table.open(10_000);
-    feed(&mut table, &mut service, 0, STATUS, 11_000);
+    feed(&mut table, &mut service, 0, STATUS, 11_000)?;
     let unread = !table.is_late(0, &times, 15_999) && table.is_late(0, &times, 16_000);
     let left = table.leave(0, 10, 15_000);
     let idle = !table.is_late(0, &times, 44_999) && table.is_late(0, &times, 45_000);
@@ -156,16 +165,50 @@ fn roomy(alloc: Global) -> Result<bool, AllocError> {
         let _slot = table.open(moment);
     }
     let full = table.open(9).is_none();
-    feed(&mut table, &mut service, 0, b"\x00", 9);
+    feed(&mut table, &mut service, 0, b"\x00", 9)?;
     let second = table.idlest() == Some(1);
-    feed(&mut table, &mut service, 1, STATUS, 9);
+    feed(&mut table, &mut service, 1, STATUS, 9)?;
     let third = table.idlest() == Some(2);
-    feed(&mut table, &mut service, 2, b"\x00", 9);
+    feed(&mut table, &mut service, 2, b"\x00", 9)?;
     Ok(full && second && third && table.idlest().is_none())
 }
 
 #[test]
 fn the_idlest_makes_room(rt: HostRuntime) -> Result<(), Fail> {
     assert!(rt; roomy(rt.alloc())?);
+    Ok(())
+}
+
+/// Has a piece come on a slot that takes it. An error where memory was refused.
+fn reach(table: &mut Connections, piece: &[u8]) -> Result<(), AllocError> {
+    if arrive(table, 0, piece, 0) {
+        Ok(())
+    } else {
+        Err(AllocError)
+    }
+}
+
+/// A connection is opened, asks, is answered and closed, by the calls that a loop keeps.
+fn reached(alloc: Global) -> Result<bool, AllocError> {
+    let mut table = Connections::new(alloc, 2)?;
+    let mut service = Numbers::new(alloc);
+    let opened = open(&mut table, 0) == Some(0) && table.slots() == 2;
+    reach(&mut table, b"\x00\x00\x00\x02")?;
+    let held = table.held(0).len() == 4 && table.waiting(0).is_empty();
+    reach(&mut table, b"\x02\x15")?;
+    let (taken, had_memory) = take_some(&mut table, 0, &mut service, 64, 0);
+    if !had_memory {
+        return Err(AllocError);
+    }
+    let said = taken == 1 && table.waiting(0) == PREFIX_0 && table.held(0).is_empty();
+    let left = leave(&mut table, 0, PREFIX_0.len(), 0) && table.waiting(0).is_empty();
+    let closed = close(&mut table, 0) && !close(&mut table, 2);
+    let refused = !arrive(&mut table, 0, STATUS, 0) && !arrive(&mut table, 1, STATUS, 0);
+    Ok(opened && held && said && left && closed && refused)
+}
+
+#[test]
+fn a_loop_serves_a_connection(rt: HostRuntime) -> Result<(), Fail> {
+    assert!(rt; reached(rt.alloc())?);
     Ok(())
 }

@@ -321,6 +321,11 @@ impl Member {
         }
     }
 
+    /// Whether this command is learned at a position.
+    fn has(&self, position: u32, command: Number) -> bool {
+        self.learned.get((position as usize).wrapping_sub(1)) == Some(&command)
+    }
+
     /// Whether another command than this is learned at a position.
     fn contradicts(&self, position: u32, command: Number) -> bool {
         match self.learned.get((position as usize).wrapping_sub(1)) {
@@ -367,6 +372,31 @@ impl Voted {
     }
 }
 
+/// A command that a node has answered as settled at a position.
+#[derive(Clone, Copy, Debug, PartialEq, Eq)]
+struct Settled {
+    command: Number,
+    position: u32,
+}
+
+impl Settled {
+    /// Whether two of these are the same, or of two commands at two positions.
+    fn agrees(self, other: Settled) -> bool {
+        (self.command == other.command) == (self.position == other.position)
+    }
+
+    /// What a node answers to a command, where it is settled.
+    fn of(command: Number, handled: &Handled) -> Option<Settled> {
+        match handled {
+            Ok(output) => match output.reply {
+                Reply::Settled { position, .. } => Some(Settled { command, position }),
+                _ => None,
+            },
+            Err(_) => None,
+        }
+    }
+}
+
 /// Three nodes, the messages that they have sent, in their order, and the votes among these.
 #[derive(Drop)]
 pub(crate) struct Group {
@@ -375,6 +405,8 @@ pub(crate) struct Group {
     members: Vec<Member>,
     sent: Vec<Sent>,
     votes: Vec<Voted>,
+    /// What was answered as settled.
+    settled: Vec<Settled>,
     /// How often a device failed.
     pub stops: u32,
     /// How often a node answered that memory was refused.
@@ -399,6 +431,7 @@ impl Group {
             members,
             sent: Vec::new(alloc),
             votes: Vec::new(alloc),
+            settled: Vec::new(alloc),
             stops,
             refusals: 0,
             agrees: true,
@@ -415,8 +448,20 @@ impl Group {
             Err(_) => return Err(AllocError),
         }
         let is_kept = self.ask_all()?;
-        self.agrees = self.agrees && is_kept && self.is_choice_kept();
+        self.agrees = self.agrees && is_kept && self.is_choice_kept() && self.are_settled_kept();
         Ok(())
+    }
+
+    /// Whether each command that was answered as settled stays at its one position.
+    fn are_settled_kept(&self) -> bool {
+        self.settled.iter().all(|settled| self.is_kept(*settled))
+    }
+
+    /// Whether no node has learned another command where this one was answered as settled, and it
+    /// alone was settled there, and there alone.
+    fn is_kept(&self, settled: Settled) -> bool {
+        self.agrees_on(settled.position, settled.command)
+            && self.settled.iter().all(|other| settled.agrees(*other))
     }
 
     /// Keeps messages that were sent.
@@ -466,19 +511,19 @@ impl Group {
     /// Whether no node has learned another command where a majority has voted for one in one
     /// ballot.
     fn is_choice_kept(&self) -> bool {
-        self.votes
-            .iter()
-            .all(|vote| !self.is_chosen(*vote) || self.agrees_with(*vote))
+        self.votes.iter().all(|vote| {
+            !self.is_chosen(*vote) || self.agrees_on(vote.position, vote.command)
+        })
     }
 
     fn is_chosen(&self, vote: Voted) -> bool {
         self.votes.iter().any(|other| vote.is_majority(*other))
     }
 
-    fn agrees_with(&self, vote: Voted) -> bool {
+    fn agrees_on(&self, position: u32, command: Number) -> bool {
         self.members
             .iter()
-            .all(|member| !member.contradicts(vote.position, vote.command))
+            .all(|member| !member.contradicts(position, command))
     }
 
     /// Submits a command to a node.
@@ -486,8 +531,24 @@ impl Group {
         let Some(member) = self.members.get_mut(place) else {
             return Err(AllocError);
         };
-        let handled = member.handle(&Input::Submit(Number { value }));
+        let command = Number { value };
+        let handled = member.handle(&Input::Submit(command));
+        if let Some(settled) = Settled::of(command, &handled.0) {
+            self.settled.push(settled)?;
+        }
         self.take(place, handled)
+    }
+
+    /// Lets each node make a step of a rewrite of its record.
+    pub fn compact(&mut self) -> Result<(), AllocError> {
+        for place in 0..self.members.len() {
+            let Some(member) = self.members.get_mut(place) else {
+                return Err(AllocError);
+            };
+            let handled = member.handle(&Input::Compact);
+            self.take(place, handled)?;
+        }
+        Ok(())
     }
 
     /// Lets each node ask the others for what it has not learned.
@@ -542,10 +603,18 @@ impl Group {
         Err(AllocError)
     }
 
-    /// Whether all nodes have learned the same two commands.
-    pub fn have_same_two(&self) -> bool {
+    /// Whether all nodes have learned the same commands, so many, and each that was answered as
+    /// settled is at its position.
+    pub fn have_same(&self, count: usize) -> bool {
         match self.members.first() {
-            Some(member) => member.learned.len() == 2 && self.have_learned(&member.learned),
+            Some(member) => {
+                member.learned.len() == count
+                    && self.have_learned(&member.learned)
+                    && self
+                        .settled
+                        .iter()
+                        .all(|settled| member.has(settled.position, settled.command))
+            }
             None => false,
         }
     }

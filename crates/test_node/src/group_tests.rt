@@ -1,5 +1,6 @@
-//! The classic run of three nodes, in which devices stop and fail: the nodes that learn a command
-//! learn the same one, and what was chosen stays chosen.
+//! The classic run of three nodes, and a longer one with rewrites of their records, in which
+//! devices stop and fail: the nodes that learn a command learn the same one, what was chosen stays
+//! chosen, and what was answered as settled stays settled.
 
 use crate::group::{Failing, Group, NO_TROUBLE, Trouble};
 use crate::group_machine::Number;
@@ -58,7 +59,7 @@ fn ended(alloc: Global, trouble: Trouble) -> Result<(u32, bool), AllocError> {
     }
     group.catch_up()?;
     let _left = group.settle()?;
-    let is_well = group.agrees && group.refusals == 0 && group.have_same_two();
+    let is_well = group.agrees && group.refusals == 0 && group.have_same(2);
     Ok((group.stops, is_well))
 }
 
@@ -103,7 +104,86 @@ fn devices_stop_at_each_call(rt: HostRuntime) -> Result<(), Fail> {
 #[test]
 fn each_call_fails_once(rt: HostRuntime) -> Result<(), Fail> {
     for disk in DISKS {
-        assert!(rt; agree(rt.alloc(), disk, Torn::Old, true)?, "{disk:?}");
+        for torn in TORN {
+            assert!(rt; agree(rt.alloc(), disk, torn, true)?, "{disk:?} {torn:?}");
+        }
+    }
+    Ok(())
+}
+
+/// A longer run: commands are settled and answered so; then each record is rewritten while another
+/// command is under way; nodes restart, and one catches up.
+fn long_run(group: &mut Group) -> Result<(), AllocError> {
+    group.submit(0, 1)?;
+    let _left = group.settle()?;
+    group.submit(0, 1)?;
+    group.compact()?;
+    group.submit(1, 2)?;
+    group.compact()?;
+    let _left = group.settle()?;
+    group.submit(2, 2)?;
+    for _step in 0..3 {
+        group.compact()?;
+    }
+    group.restart(2)?;
+    group.submit(2, 3)?;
+    group.compact()?;
+    group.restart(0)?;
+    let _left = group.settle()?;
+    group.submit(1, 3)?;
+    group.catch_up()?;
+    let _left = group.settle()?;
+    Ok(())
+}
+
+/// The longer run, in which devices fail; then its commands are submitted again until they are
+/// learned, and the nodes catch up.
+fn long_ended(alloc: Global, trouble: Trouble) -> Result<(u32, bool), AllocError> {
+    let mut group = Group::new(alloc, trouble)?;
+    long_run(&mut group)?;
+    for (place, value) in [(0, 1), (1, 2), (2, 3), (0, 1), (1, 2), (2, 3)] {
+        group.submit(place, value)?;
+        let _left = group.settle()?;
+    }
+    group.catch_up()?;
+    let _left = group.settle()?;
+    let is_well = group.agrees && group.refusals == 0 && group.have_same(3);
+    Ok((group.stops, is_well))
+}
+
+/// How many calls of a disk there are, each of which fails once; `None` where the nodes do not
+/// agree.
+fn calls_of(
+    alloc: Global,
+    node: u8,
+    is_second: bool,
+    torn: Torn,
+) -> Result<Option<u64>, AllocError> {
+    for before in 0..1000 {
+        let trouble = Trouble {
+            node,
+            is_second,
+            failing: Failing::Once(before + 1),
+            torn,
+        };
+        match long_ended(alloc, trouble)? {
+            (1, true) => {}
+            (0, true) => return Ok(Some(before)),
+            _ => return Ok(None),
+        }
+    }
+    Ok(None)
+}
+
+#[test]
+fn each_call_fails_once_in_a_longer_run(rt: HostRuntime) -> Result<(), Fail> {
+    for node in 1..=3 {
+        for is_second in [false, true] {
+            for torn in TORN {
+                let calls = calls_of(rt.alloc(), node, is_second, torn)?;
+                assert!(rt; calls.is_some(), "{node} {is_second} {torn:?}");
+            }
+        }
     }
     Ok(())
 }

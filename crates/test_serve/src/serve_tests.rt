@@ -9,13 +9,17 @@ use crate::test_machine::Applies;
 use std::alloc::{AllocError, Global};
 use std::io;
 use std::io::{ErrorKind, Read, Write};
-use std::net::{Shutdown, TcpListener, TcpStream};
+use std::net::{Shutdown, TcpListener};
 use std::test::Fail;
 use ts_disk::MemDisk;
 use ts_node::{Machine, Node};
 use ts_record::Record;
-use ts_serve::{Peer, READ_LIMIT, ServeFault, Server, ServerPeer, TcpPeer, carry, listen, serve};
+use ts_serve::{
+    AnswerFault, MAX_WAITING, Peer, READ_LIMIT, ServeFault, Server, ServerPeer, TcpPeer, carry,
+    connect, is_request, listen, refusal, serve, set_up, write_octets,
+};
 use ts_store::Command;
+use ts_wire::{Frame, FrameFault};
 
 type Served = Server<MemDisk, Applies>;
 
@@ -24,6 +28,10 @@ const STATUS: &[u8] = b"\x00\x00\x00\x02\x02\x15";
 const PREFIX_0: &[u8] = b"\x00\x00\x00\x06\x02\x27\x00\x00\x00\x00";
 
 const TAKE: &[u8] = b"\x00\x00\x00\x02\x02\x12";
+
+/// The Prepare of node 1 of 1 to itself, and that it was the only message.
+const GIVEN: &[u8] =
+    b"\x00\x00\x00\x10\x02\x01\x01\x01\x00\x00\x00\x01\x00\x00\x00\x00\x00\x00\x00\x11\x00\x00\x00\x06\x02\x20\x00\x00\x00\x01";
 
 /// The Noop of the id 01.
 const SUBMIT: &[u8] =
@@ -56,10 +64,7 @@ const ROWS: &[(&[u8], &[u8])] = &[
     ),
     (SUBMIT, STARTED),
     (OUTCOME, UNKNOWN),
-    (
-        TAKE,
-        b"\x00\x00\x00\x10\x02\x01\x01\x01\x00\x00\x00\x01\x00\x00\x00\x00\x00\x00\x00\x11\x00\x00\x00\x06\x02\x20\x00\x00\x00\x01",
-    ),
+    (TAKE, GIVEN),
     (TAKE, b"\x00\x00\x00\x06\x02\x20\x00\x00\x00\x00"),
     // Catch up: there is no other node to ask.
     (
@@ -121,7 +126,11 @@ fn server(alloc: Global, me: u8, nodes: u8, passing: u64) -> Result<Option<Serve
 }
 
 /// What a server answers to a stream, and how it ends.
-fn answers(alloc: Global, server: &mut Served, stream: &[u8]) -> (Vec<u8>, Result<(), ServeFault>)
+fn answers_of(
+    alloc: Global,
+    server: &mut Served,
+    stream: &[u8],
+) -> (Vec<u8>, Result<(), ServeFault>)
     requires { IsSound state_of octets_of ⟦<Applies as Machine<Command>>⟧.commands server.old.node }
     ensures { IsSound state_of octets_of ⟦<Applies as Machine<Command>>⟧.commands server.new.node }
 {
@@ -131,26 +140,56 @@ fn answers(alloc: Global, server: &mut Served, stream: &[u8]) -> (Vec<u8>, Resul
     (writer, end)
 }
 
+/// Whether memory was refused: to the server or to what it writes to, or a frame says that the node
+/// has none or that its device failed, which a disk in memory does where it has none.
+fn was_refused(said: &[u8], end: Result<(), ServeFault>) -> bool {
+    matches!(end, Err(ServeFault::Memory | ServeFault::Write))
+        || said
+            .windows(7)
+            .any(|frame| matches!(frame, [0, 0, 0, 3, 2, 0x25, 1..=3]))
+}
+
+/// What a server whose disks do not fail answers to a stream, and how it ends. An error where memory
+/// was refused.
+fn answers(
+    alloc: Global,
+    server: &mut Served,
+    stream: &[u8],
+) -> Result<(Vec<u8>, Result<(), ServeFault>), AllocError>
+    requires { IsSound state_of octets_of ⟦<Applies as Machine<Command>>⟧.commands server.old.node }
+    ensures { IsSound state_of octets_of ⟦<Applies as Machine<Command>>⟧.commands server.new.node }
+{
+    let (said, end) = answers_of(alloc, server, stream);
+    if was_refused(&said, end) {
+        return Err(AllocError);
+    }
+    Ok((said, end))
+}
+
 /// Whether each stream in turn is answered so, without a fault.
-fn rows_hold(alloc: Global, server: &mut Served, rows: &[(&[u8], &[u8])]) -> bool
+fn rows_hold(
+    alloc: Global,
+    server: &mut Served,
+    rows: &[(&[u8], &[u8])],
+) -> Result<bool, AllocError>
     requires { IsSound state_of octets_of ⟦<Applies as Machine<Command>>⟧.commands server.old.node }
 {
     for (stream, expected) in rows {
-        let (said, end) = answers(alloc, server, stream);
+        let (said, end) = answers(alloc, server, stream)?;
         if said.as_slice() != *expected || end != Ok(()) {
-            return false;
+            return Ok(false);
         }
     }
-    true
+    Ok(true)
 }
 
 #[test]
 fn streams_are_answered(rt: HostRuntime) -> Result<(), Fail> {
     let alloc = rt.alloc();
     let Some(mut server) = server(alloc, 1, 1, u64::MAX)? else {
-        panic!(&rt; "no server");
+        return Err(Fail::from(AllocError));
     };
-    assert!(rt; rows_hold(alloc, &mut server, ROWS));
+    assert!(rt; rows_hold(alloc, &mut server, ROWS)?);
     Ok(())
 }
 
@@ -163,7 +202,7 @@ fn end_behind_status(
     whole.extend_from_slice(stream)?;
     match server(alloc, 1, 1, u64::MAX)? {
         Some(mut server) => {
-            let (said, end) = answers(alloc, &mut server, &whole);
+            let (said, end) = answers(alloc, &mut server, &whole)?;
             Ok((said, end.err()))
         }
         None => Err(AllocError),
@@ -200,6 +239,59 @@ fn a_stream_may_end_anywhere(rt: HostRuntime) -> Result<(), Fail> {
         );
         assert!(rt; said.starts_with(PREFIX_0));
         assert_eq!(rt; said.len(), if cut == SUBMIT.len() { 28 } else { 10 });
+    }
+    Ok(())
+}
+
+/// Gives octets in two pieces.
+#[derive(Drop)]
+struct TwoPieces<'a> {
+    first: &'a [u8],
+    second: &'a [u8],
+}
+
+impl Read for TwoPieces<'_> {
+    fn read(&mut self, buf: &mut [u8]) -> io::Result<usize> {
+        if self.first.is_empty() {
+            self.first = self.second;
+            self.second = &[];
+        }
+        self.first.read(buf)
+    }
+}
+
+/// What Submit and then Take are answered where the two come in two pieces, of which the first has
+/// so many octets.
+fn in_two_pieces(alloc: Global, cut: usize) -> Result<Option<Vec<u8>>, AllocError> {
+    let mut stream = Vec::from_slice(alloc, SUBMIT)?;
+    stream.extend_from_slice(TAKE)?;
+    let (Some(first), Some(second)) = (stream.get(..cut), stream.get(cut..)) else {
+        return Ok(None);
+    };
+    let mut reader = TwoPieces { first, second };
+    let mut writer = Vec::new(alloc);
+    match server(alloc, 1, 1, u64::MAX)? {
+        Some(mut server) => {
+            let end = serve(&mut server, &mut reader, &mut writer);
+            if was_refused(&writer, end) {
+                return Err(AllocError);
+            }
+            Ok(end.is_ok().then_some(writer))
+        }
+        None => Err(AllocError),
+    }
+}
+
+#[test]
+fn a_take_may_be_cut_anywhere(rt: HostRuntime) -> Result<(), Fail> {
+    let alloc = rt.alloc();
+    let mut expected = Vec::from_slice(alloc, STARTED)?;
+    expected.extend_from_slice(GIVEN)?;
+    for cut in 0..=SUBMIT.len() + TAKE.len() {
+        let Some(said) = in_two_pieces(alloc, cut)? else {
+            panic!(&rt; "not answered at {cut}");
+        };
+        assert!(rt; said.as_slice() == expected.as_slice(), "{cut}");
     }
     Ok(())
 }
@@ -272,6 +364,10 @@ fn narrowed(
         Some(mut server) => {
             let end = serve(&mut server, &mut reader, &mut writer).err();
             let Narrow { taken, .. } = writer;
+            let was_full = end == Some(ServeFault::Write) && taken.len() >= room;
+            if !was_full && was_refused(&taken, end.map_or(Ok(()), Err)) {
+                return Err(AllocError);
+            }
             Ok((taken, end))
         }
         None => Err(AllocError),
@@ -356,19 +452,31 @@ fn reads_are_limited(rt: HostRuntime) -> Result<(), Fail> {
     Ok(())
 }
 
+/// Whether a node whose disk fails says so, and then that it is broken. An error where memory was
+/// refused before that.
+fn is_failure_answered(alloc: Global) -> Result<bool, AllocError> {
+    let Some(mut server) = server(alloc, 1, 1, 2)? else {
+        return Err(AllocError);
+    };
+    let (said, end) = answers_of(alloc, &mut server, SUBMIT);
+    let (again, end_again) = answers_of(alloc, &mut server, STATUS);
+    let has_failed = server.has_failed();
+    let _node = server.close();
+    if said.ends_with(b"\x25\x01") || was_refused(b"", end) || was_refused(b"", end_again) {
+        return Err(AllocError);
+    }
+    Ok(
+        said.as_slice() == b"\x00\x00\x00\x03\x02\x25\x02".as_slice()
+            && again.as_slice() == b"\x00\x00\x00\x03\x02\x25\x03".as_slice()
+            && has_failed
+            && end == Ok(())
+            && end_again == Ok(()),
+    )
+}
+
 #[test]
 fn a_failed_disk_is_answered(rt: HostRuntime) -> Result<(), Fail> {
-    let alloc = rt.alloc();
-    let Some(mut server) = server(alloc, 1, 1, 2)? else {
-        panic!(&rt; "no server");
-    };
-    let (said, end) = answers(alloc, &mut server, SUBMIT);
-    assert_eq!(rt; said.as_slice(), b"\x00\x00\x00\x03\x02\x25\x02".as_slice());
-    assert_eq!(rt; end, Ok(()));
-    let (said, end) = answers(alloc, &mut server, STATUS);
-    assert_eq!(rt; said.as_slice(), b"\x00\x00\x00\x03\x02\x25\x03".as_slice());
-    assert_eq!(rt; end, Ok(()));
-    let _node = server.close();
+    assert!(rt; is_failure_answered(rt.alloc())?);
     Ok(())
 }
 
@@ -384,27 +492,61 @@ fn peer(alloc: Global, me: u8, nodes: u8) -> Result<ServerPeer<MemDisk, Applies>
     }
 }
 
-/// What the peer at a place answers, or nothing where it fails.
-fn asked<P: Peer>(alloc: Global, peers: &mut [P], place: usize, stream: &[u8]) -> Vec<u8>
+/// What the peer at a place answers. An error where memory was refused, without which it fails not.
+fn asked<P: Peer>(peers: &mut [P], place: usize, stream: &[u8]) -> Result<Vec<u8>, AllocError>
     requires ready { All P.is_ready peers.old }
     requires within { place < length peers.old }
     ensures { All P.is_ready peers.new }
 {
     match peers[place].exchange(stream) {
-        Ok(answers) => answers,
-        Err(_) => Vec::new(alloc),
+        Ok(said) if !was_refused(&said, Ok(())) => Ok(said),
+        _ => Err(AllocError),
+    }
+}
+
+/// How many messages are delivered in so many rounds. An error where they are fewer than wanted, as
+/// where memory is refused to an exchange.
+fn carried<P: Peer>(
+    alloc: Global,
+    peers: &mut [P],
+    rounds: u32,
+    wanted: u64,
+) -> Result<u64, AllocError>
+    requires { All P.is_ready peers.old }
+    ensures { All P.is_ready peers.new }
+{
+    let count = carry(alloc, peers, rounds)?;
+    if count < wanted {
+        Err(AllocError)
+    } else {
+        Ok(count)
+    }
+}
+
+/// Whether the peer at a place knows what became of the command. An error where it does not, as
+/// where memory was refused to a node that a message was delivered to.
+fn is_settled<P: Peer>(peers: &mut [P], place: usize) -> Result<bool, AllocError>
+    requires ready { All P.is_ready peers.old }
+    requires within { place < length peers.old }
+    ensures { All P.is_ready peers.new }
+{
+    let said = asked(peers, place, OUTCOME)?;
+    if said.as_slice() == UNKNOWN {
+        Err(AllocError)
+    } else {
+        Ok(said.as_slice() == SETTLED)
     }
 }
 
 #[test]
 fn one_node_settles_in_four_rounds(rt: HostRuntime) -> Result<(), Fail> {
     let alloc = rt.alloc();
-    for (rounds, outcome) in [(3, UNKNOWN), (4, SETTLED)] {
-        let mut peers = [peer(alloc, 1, 1)?];
-        assert_eq!(rt; asked(alloc, &mut peers, 0, SUBMIT).as_slice(), STARTED);
-        assert_eq!(rt; carry(alloc, &mut peers, rounds)?, u64::from(rounds));
-        assert_eq!(rt; asked(alloc, &mut peers, 0, OUTCOME).as_slice(), outcome);
-    }
+    let mut peers = [peer(alloc, 1, 1)?];
+    assert_eq!(rt; asked(&mut peers, 0, SUBMIT)?.as_slice(), STARTED);
+    assert_eq!(rt; carried(alloc, &mut peers, 3, 3)?, 3);
+    assert_eq!(rt; asked(&mut peers, 0, OUTCOME)?.as_slice(), UNKNOWN);
+    assert_eq!(rt; carried(alloc, &mut peers, 1, 1)?, 1);
+    assert!(rt; is_settled(&mut peers, 0)?);
     Ok(())
 }
 
@@ -412,11 +554,10 @@ fn one_node_settles_in_four_rounds(rt: HostRuntime) -> Result<(), Fail> {
 fn three_nodes_settle(rt: HostRuntime) -> Result<(), Fail> {
     let alloc = rt.alloc();
     let mut peers = [peer(alloc, 1, 3)?, peer(alloc, 2, 3)?, peer(alloc, 3, 3)?];
-    assert_eq!(rt; asked(alloc, &mut peers, 0, SUBMIT).as_slice(), STARTED);
+    assert_eq!(rt; asked(&mut peers, 0, SUBMIT)?.as_slice(), STARTED);
     // Three of Prepare, three of Promise, three of Accept, and three of Accepted from each.
-    assert_eq!(rt; carry(alloc, &mut peers, 5)?, 18);
-    assert_eq!(rt; asked(alloc, &mut peers, 1, OUTCOME).as_slice(), SETTLED);
-    assert_eq!(rt; asked(alloc, &mut peers, 2, OUTCOME).as_slice(), SETTLED);
+    assert_eq!(rt; carried(alloc, &mut peers, 5, 18)?, 18);
+    assert!(rt; is_settled(&mut peers, 1)? && is_settled(&mut peers, 2)?);
     Ok(())
 }
 
@@ -424,9 +565,9 @@ fn three_nodes_settle(rt: HostRuntime) -> Result<(), Fail> {
 fn a_message_without_a_peer_does_not_count(rt: HostRuntime) -> Result<(), Fail> {
     let alloc = rt.alloc();
     let mut peers = [peer(alloc, 1, 3)?];
-    assert_eq!(rt; asked(alloc, &mut peers, 0, SUBMIT).as_slice(), STARTED);
+    assert_eq!(rt; asked(&mut peers, 0, SUBMIT)?.as_slice(), STARTED);
     // Prepare and Promise of node 1 with itself; no majority answers.
-    assert_eq!(rt; carry(alloc, &mut peers, 5)?, 2);
+    assert_eq!(rt; carried(alloc, &mut peers, 5, 2)?, 2);
     Ok(())
 }
 
@@ -435,13 +576,21 @@ fn a_connection_is_served(rt: HostRuntime) -> Result<(), Fail> {
     let alloc = rt.alloc();
     let listener = TcpListener::bind(&rt, "127.0.0.1:0")?;
     let address = listener.local_addr()?;
-    let mut stream = TcpStream::connect(&rt, address)?;
-    stream.write_all(STATUS)?;
+    let address = format!(in alloc; "{address}")?;
+    let Some(mut stream) = connect(&rt, address.as_str()) else {
+        panic!(&rt; "no connection");
+    };
+    set_up(&stream)?;
+    write_octets(&mut stream, STATUS)?;
     stream.shutdown(Shutdown::Write)?;
     let mut server = peer(alloc, 1, 1)?.close();
     assert_eq!(rt; listen(&mut server, &listener, 1), Ok(()));
     let mut answer = Vec::new(alloc);
-    stream.read_to_end(&mut answer)?;
+    let end = stream.read_to_end(&mut answer);
+    // A connection that memory is refused to ends without an answer, or is reset.
+    if end.is_err() || answer.is_empty() {
+        return Err(Fail::from(AllocError));
+    }
     assert_eq!(rt; answer.as_slice(), PREFIX_0);
     Ok(())
 }
@@ -452,5 +601,88 @@ fn a_connection_that_is_not_made_is_write(rt: HostRuntime) -> Result<(), Fail> {
     let address = String::from_str(alloc, "127.0.0.1:1")?;
     let mut peer = TcpPeer::new(alloc, &rt, address);
     assert!(rt; matches!(peer.exchange(STATUS), Err(ServeFault::Write)));
+    Ok(())
+}
+
+/// A server that takes its own messages settles a command of one node in the turn that it comes in.
+const OWN_ROWS: &[(&[u8], &[u8])] = &[
+    (SUBMIT, STARTED),
+    (OUTCOME, SETTLED),
+    (TAKE, b"\x00\x00\x00\x06\x02\x20\x00\x00\x00\x00"),
+];
+
+#[test]
+fn a_turn_takes_its_own_messages(rt: HostRuntime) -> Result<(), Fail> {
+    let alloc = rt.alloc();
+    let Some(mut server) = server(alloc, 1, 1, u64::MAX)? else {
+        return Err(Fail::from(AllocError));
+    };
+    server.take_own();
+    assert!(rt; rows_hold(alloc, &mut server, OWN_ROWS)?);
+    Ok(())
+}
+
+/// Whether single frames are answered by node 2 of 3, and what is no request is not.
+fn are_frames_answered(alloc: Global) -> Result<bool, AllocError> {
+    let Some(mut server) = server(alloc, 2, 3, u64::MAX)? else {
+        return Err(AllocError);
+    };
+    let identity = server.identity();
+    let is_second = (identity.node, identity.nodes, identity.group) == (2, 3, 0);
+    let Ok(said) = server.answer_frame(Frame::Status) else {
+        return Err(AllocError);
+    };
+    let other = server.answer_frame(Frame::Unknown);
+    let refused = refusal(alloc, FrameFault::Kind)?;
+    Ok(
+        is_second
+            && said.as_slice() == PREFIX_0
+            && matches!(other, Err(AnswerFault::NoRequest))
+            && is_request(&Frame::Take)
+            && !is_request(&Frame::Unknown)
+            && refused.as_slice() == b"\x00\x00\x00\x03\x02\x26\x03".as_slice()
+            && !server.has_failed(),
+    )
+}
+
+#[test]
+fn frames_are_answered_one_by_one(rt: HostRuntime) -> Result<(), Fail> {
+    assert!(rt; are_frames_answered(rt.alloc())?);
+    Ok(())
+}
+
+/// What Take is answered behind so many commands, each of which makes node 1 of 3 send a Prepare to
+/// each node: how many octets, and the last four.
+fn given_after(alloc: Global, commands: u8) -> Result<(usize, Option<[u8; 4]>), AllocError> {
+    let mut stream = Vec::new(alloc);
+    for command in 0..commands {
+        stream.extend_from_slice(&SUBMIT[..25])?;
+        stream.extend_from_slice(&[command, 6])?;
+    }
+    stream.extend_from_slice(TAKE)?;
+    let Some(mut server) = server(alloc, 1, 3, u64::MAX)? else {
+        return Err(AllocError);
+    };
+    let (said, _end) = answers(alloc, &mut server, &stream)?;
+    let started = usize::from(commands) * STARTED.len();
+    Ok((
+        said.len().saturating_sub(started),
+        said.last_chunk().copied(),
+    ))
+}
+
+#[test]
+fn the_first_messages_wait(rt: HostRuntime) -> Result<(), Fail> {
+    assert_eq!(rt; MAX_WAITING, 256);
+    // A Prepare has 20 octets, and Done 10.
+    for (commands, size, count) in [
+        (0, 10, 0),
+        (85, 5110, 255),
+        (86, 5130, 256),
+        (99, 5130, 256),
+    ] {
+        let found = given_after(rt.alloc(), commands)?;
+        assert_eq!(rt; found, (size, Some(u32::to_be_bytes(count))), "{commands}");
+    }
     Ok(())
 }
