@@ -6,6 +6,7 @@ use sha2::{Digest, Sha256};
 use std::alloc::Global;
 use std::test::Fail;
 use ts_answer::Answers;
+use ts_octets::Octets;
 use ts_question::{Flags, OctetStrings, Oids, Question, Terms};
 use ts_script::words::{SPACE, first_piece};
 use ts_script::{LineFault, Options, Symbols, answer_cert, answer_crl, oid_in};
@@ -229,14 +230,14 @@ fn store(alloc: Global, known: &Symbols) -> Result<Answers<DigestCheck>, Fail> {
     let anchor = digest(&second);
     let list = known.find_crl(b"Revoked").ok_or(LineFault::Name)?;
     let commands = [
-        Command::add_anchor([1; 16], first)?,
-        Command::add_anchor([2; 16], second)?,
+        Command::add_anchor([1; 16], Octets::of(alloc, first)?)?,
+        Command::add_anchor([2; 16], Octets::of(alloc, second)?)?,
         Command::SetPurposes {
             id: [3; 16],
             anchor,
             purposes: purposes(alloc)?,
         },
-        Command::load_crl([4; 16], list.to_vec(alloc)?)?,
+        Command::load_crl([4; 16], Octets::copy_of(alloc, list)?)?,
     ];
     let mut answers = Answers::new(alloc, DigestCheck);
     for command in &commands {
