@@ -122,10 +122,13 @@ impl<F: Read + Write + Seek + OpenFile + Drop> Disk for FileDisk<F> {
         ensures cause { HasCause (state_of self.old) (state_of self.new) result }
         ensures stays { 0 < (state_of self.old).failures → result ≡ Err Failed }
     {
-        if self.failures > 0 || self.file.sync().is_err() {
+        if self.failures > 0 {
             return Err(counted(&mut self.failures));
         }
-        Ok(())
+        match self.file.sync() {
+            Ok(()) => Ok(()),
+            Err(_) => Err(counted(&mut self.failures)),
+        }
     }
 
     fn failures(&self) -> u64 {
