@@ -2,6 +2,7 @@
 
 use std::alloc::{AllocError, Global};
 use std::test::Fail;
+use ts_octets::Octets;
 use ts_store::{Anchors, Purposes, Refusal};
 
 /// Serial number 2, issuer CN=R, subject CN=L.
@@ -12,9 +13,10 @@ const L: &[u8] =
 /// certificate, twice; an id that is not there.
 fn outcomes(alloc: Global) -> Result<[Option<Refusal>; 7], AllocError> {
     let mut anchors = Anchors::new(alloc);
-    let cut = anchors.add(alloc, &L[..137])?;
-    let added = anchors.add(alloc, L)?;
-    let again = anchors.add(alloc, L)?;
+    let cut = anchors.add(&Octets::copy_of(alloc, &L[..137])?)?;
+    let certificate = Octets::copy_of(alloc, L)?;
+    let added = anchors.add(&certificate)?;
+    let again = anchors.add(&certificate)?;
     let none = Purposes::any();
     let of_none = anchors.set_purposes(alloc, &[0; 32], &none)?;
     let id = match anchors.as_slice() {
