@@ -7,5 +7,3 @@
 mod answer_tests;
 #[cfg(test)]
 mod page_tests;
-#[cfg(test)]
-mod reply_tests;
