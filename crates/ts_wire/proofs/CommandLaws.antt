@@ -6,7 +6,8 @@ use Rattle.std.specs.Int.{w32, to_be_bytes}
 use Rattle.std.proofs.lemmas.Bool.{eqb-true, ltb-true, lt-ltb, leb-true, le-leb}
 use Rattle.ts_der.specs.ObjectIdentifier.{is_oid}
 use Rattle.ts_store.specs.Purposes.{is_ascending, is_listed, ArePurposes}
-use Rattle.ts_store.specs.Commands.{blob8, blob32, purposes_encoding, fields, id_of, encoding, FieldsFit, Fits}
+use Rattle.ts_codec.specs.Parts.{blob8, blob32}
+use Rattle.ts_store.specs.Commands.{purposes_encoding, fields, id_of, encoding, FieldsFit, Fits}
 use Rattle.ts_store.specs.declared.command.Command.{Command}
 use Rattle.ts_store.specs.declared.command.Command.TheVariants.{AddAnchor, WithdrawAnchor, LoadCrl, DropCrl, SetPurposes, Noop}
 use Rattle.ts_question.specs.Reading.{◌>>=◌, provided, octet_at, number_at, octets_at, blob32_at, many_at, whole, lookup}

@@ -7,7 +7,8 @@ use Rattle.std.proofs.lemmas.Bool.{leb-true}
 use Rattle.std.proofs.lemmas.List.Concat.{flat_map-cons}
 use Rattle.ts_der.specs.ObjectIdentifier.{is_oid}
 use Rattle.ts_store.specs.Purposes.{is_ascending, ArePurposes}
-use Rattle.ts_store.specs.Commands.{blob8, purposes_encoding, fields, id_of, encoding, FieldsFit, Fits}
+use Rattle.ts_codec.specs.Parts.{blob8}
+use Rattle.ts_store.specs.Commands.{purposes_encoding, fields, id_of, encoding, FieldsFit, Fits}
 use Rattle.ts_store.specs.declared.command.Command.{Command}
 use Rattle.ts_store.specs.declared.command.Command.TheVariants.{AddAnchor, WithdrawAnchor, LoadCrl, DropCrl, SetPurposes, Noop}
 use Rattle.ts_question.specs.declared.question.Target.{Target}
