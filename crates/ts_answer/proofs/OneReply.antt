@@ -27,7 +27,7 @@ use Rattle.ts_question.specs.declared.question.Target.{Target}
 use Rattle.ts_question.specs.declared.question.Target.TheVariants as target
 use Rattle.ts_question.specs.Question.{Asked, Fits, are_certificates, are_terms, is_target}
 use Rattle.ts_question.specs.Reply.{Answered}
-use Rattle.ts_question.proofs.Lengths.{first_true, second_true}
+use Rattle.ts_codec.proofs.Truths.{first_true, second_true}
 use Rattle.std.proofs.lemmas.Bool.{leb-true}
 use Rattle.ts_search.proofs.Takes.{length_map}
 use Rattle.ts_answer.specs.Asked.{chain_of, question_of, search_of}

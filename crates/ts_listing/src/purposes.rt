@@ -4,7 +4,7 @@ ghost use Rattle.std.specs.Prelude.{◌≡◌, IfOk};
 ghost use Rattle.ts_store.specs.Commands.{purposes_encoding};
 
 use std::alloc::{AllocError, Global};
-use ts_question::push_oids;
+use ts_codec::writing::push_oids;
 use ts_store::Purposes;
 
 /// The octets of purposes, as a command writes them.

@@ -1,22 +1,9 @@
 -- Lengths that their octets hold.
-use Rattle.std.proofs.Common.{◌≡◌, ◌<◌, ◌≤◌, ◌&&◌, ℕ, zero, suc, Bool, true, false, List, [], ◌∷◌, length, get_or, map, refl, ap, ◌∙◌, arith}
+use Rattle.std.proofs.Common.{◌≡◌, ◌<◌, ◌≤◌, ℕ, zero, suc, true, List, [], ◌∷◌, length, get_or, map, ap, ◌∙◌, arith}
 use Rattle.std.specs.List.{list_all}
-use Rattle.std.specs.Prelude.{nat_lt, nat_le}
-use Rattle.std.proofs.lemmas.Bool.{ltb-true, leb-true}
-use Rattle.ts_der.specs.ObjectIdentifier.{is_oid}
-
-pub first_true : (a b : Bool) → a && b ≡ true → a ≡ true
-first_true true b h = refl
-first_true false b h = absurd (cc h)
-
-pub second_true : (a b : Bool) → a && b ≡ true → b ≡ true
-second_true true b h = h
-second_true false b h = absurd (cc h)
-
--- an octet holds the length of an object identifier
-pub is_short : (content : List ℕ) → is_oid content ≡ true → length content < 129
-unfolding is_oid
-is_short content is = ltb-true (length content) 129 (second_true (nat_lt 0 (length content)) (nat_lt (length content) 129) (first_true _ _ is))
+use Rattle.std.specs.Prelude.{nat_le}
+use Rattle.std.proofs.lemmas.Bool.{leb-true}
+use Rattle.ts_codec.proofs.Truths.{first_true, second_true}
 
 -- where all strings are short, each is
 pub short_at : {A : Type 0} (f : A → List ℕ) (most : ℕ) (xs : List A) (i : ℕ) (x : A) → list_all (λ s. nat_le (length s) most) (map f xs) ≡ true → i < length xs → x ≡ get_or xs i x → length (f x) ≤ most

@@ -1,6 +1,4 @@
-pub mod PartLaws
-pub mod Lengths
+mod Lengths
 pub mod Fields
-pub mod Loop
 pub mod Replies
-pub mod RowLaws
+mod RowLaws

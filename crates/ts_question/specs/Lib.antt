@@ -1,5 +1,3 @@
-pub mod Parts
-pub mod Reading
 pub mod Question
 pub mod QuestionReading
 pub mod Reply

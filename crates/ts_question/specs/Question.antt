@@ -10,7 +10,7 @@ use Rattle.ts_question.specs.declared.terms.Flags.{Flags}
 use Rattle.ts_question.specs.declared.terms.Terms.{Terms}
 use Rattle.ts_question.specs.declared.question.Target.{Target}
 use Rattle.ts_question.specs.declared.question.Target.TheVariants.{Chain, Search, Store, Log}
-use Rattle.ts_question.specs.Parts.{bits, blob8, blob16, blob32, optional}
+use Rattle.ts_codec.specs.Parts.{bits, blob8, blob16, blob32, optional}
 
 -- what is asked
 pub record Asked : Type 0 where

@@ -17,7 +17,7 @@ use Rattle.ts_question.specs.declared.reply.Reply.{Reply}
 use Rattle.ts_question.specs.declared.reply.Reply.TheVariants.{Valid, Invalid, Found, NoPath}
 use Rattle.ts_question.specs.declared.reply.Reply.TheVariants.{SearchLimit, NotYet, Malformed}
 use Rattle.ts_question.specs.declared.reply.Reply.TheVariants.{NoAnchor, Limit, Page}
-use Rattle.ts_question.specs.Parts.{blob8}
+use Rattle.ts_codec.specs.Parts.{blob8}
 use Rattle.ts_question.specs.Question.{are_subtrees, subtrees_encoding}
 
 -- a reply, and the number of commands after which the store was looked at

@@ -1,74 +1,45 @@
 -- A row read from front to back.
-use Rattle.std.specs.Prelude.{ℕ, ℤ, ◌==◌, List, Option, Some}
-use Rattle.std.specs.Int.{w32, w64, cast_signed}
-use Rattle.ts_question.specs.Reading.{◌>>=◌, provided, octet_at, number_at, octets_at, blob16_at}
+use Rattle.std.specs.Prelude.{ℕ, ℤ, List, Option, Some}
+use Rattle.std.specs.Int.{w32}
+use Rattle.ts_codec.specs.Reading.{Reader, ◌and◌, ◌into◌, marked, octet_at, number_at, signed_at}
+use Rattle.ts_codec.specs.Reading.{octets_at, blob16_at}
 use Rattle.ts_question.specs.Rows.{AnchorLine, CrlLine, CommandLine}
 
--- the octet that a row begins with
-unfoldable pub tag_at : ℕ → List ℕ → Option (ℕ × List ℕ)
-tag_at tag octets = do
-  o ← octet_at octets
-  provided (o.0 == tag) o
+abbrev pub anchor_of : List ℕ × (List ℕ × List ℕ) → AnchorLine
+anchor_of x = record { id = x.0; subject = x.1.0; purposes = x.1.1 }
 
-unfoldable pub moment_at : List ℕ → Option (ℤ × List ℕ)
-moment_at octets = do
-  n ← number_at w64 octets
-  Some (cast_signed w64 n.0, n.1)
+unfoldable pub anchor_at : Reader AnchorLine
+anchor_at = marked 1 (octets_at 32 and blob16_at and blob16_at into anchor_of)
 
-unfoldable pub anchor_at : List ℕ → Option (AnchorLine × List ℕ)
-anchor_at octets = do
-  tag ← tag_at 1 octets
-  id ← octets_at 32 tag.1
-  subject ← blob16_at id.1
-  purposes ← blob16_at subject.1
-  Some (record { id = id.0; subject = subject.0; purposes = purposes.0 }, purposes.1)
+abbrev pub crl_of : List ℕ × (List ℕ × (List ℕ × (List ℕ × (List ℕ × (ℤ × (ℤ × (ℕ × ℕ)))))))
+    → CrlLine
+crl_of x = record {
+  id = x.0;
+  issuer = x.1.0;
+  number = x.1.1.0;
+  base = x.1.1.1.0;
+  scope = x.1.1.1.1.0;
+  this_update = x.1.1.1.1.1.0;
+  next_update = x.1.1.1.1.1.1.0;
+  entries = x.1.1.1.1.1.1.1.0;
+  size = x.1.1.1.1.1.1.1.1;
+}
 
-unfoldable pub crl_at : List ℕ → Option (CrlLine × List ℕ)
-crl_at octets = do
-  tag ← tag_at 2 octets
-  id ← octets_at 32 tag.1
-  issuer ← blob16_at id.1
-  number ← blob16_at issuer.1
-  base ← blob16_at number.1
-  scope ← blob16_at base.1
-  this_update ← moment_at scope.1
-  next_update ← moment_at this_update.1
-  entries ← number_at w32 next_update.1
-  size ← number_at w32 entries.1
-  Some (
-    record {
-      id = id.0;
-      issuer = issuer.0;
-      number = number.0;
-      base = base.0;
-      scope = scope.0;
-      this_update = this_update.0;
-      next_update = next_update.0;
-      entries = entries.0;
-      size = size.0;
-    },
-    size.1,
-  )
+unfoldable pub crl_at : Reader CrlLine
+crl_at = marked 2 (octets_at 32 and blob16_at and blob16_at and blob16_at and blob16_at
+    and signed_at and signed_at and number_at w32 and number_at w32 into crl_of)
 
-unfoldable pub command_at : List ℕ → Option (CommandLine × List ℕ)
-command_at octets = do
-  tag ← tag_at 3 octets
-  id ← octets_at 16 tag.1
-  kind ← octet_at id.1
-  size ← number_at w32 kind.1
-  about ← blob16_at size.1
-  purposes ← blob16_at about.1
-  outcome ← octet_at purposes.1
-  detail ← number_at w32 outcome.1
-  Some (
-    record {
-      id = id.0;
-      kind = kind.0;
-      size = size.0;
-      about = about.0;
-      purposes = purposes.0;
-      outcome = outcome.0;
-      detail = detail.0;
-    },
-    detail.1,
-  )
+abbrev pub command_of : List ℕ × (ℕ × (ℕ × (List ℕ × (List ℕ × (ℕ × ℕ))))) → CommandLine
+command_of x = record {
+  id = x.0;
+  kind = x.1.0;
+  size = x.1.1.0;
+  about = x.1.1.1.0;
+  purposes = x.1.1.1.1.0;
+  outcome = x.1.1.1.1.1.0;
+  detail = x.1.1.1.1.1.1;
+}
+
+unfoldable pub command_at : Reader CommandLine
+command_at = marked 3 (octets_at 16 and octet_at and number_at w32 and blob16_at and blob16_at
+    and octet_at and number_at w32 into command_of)

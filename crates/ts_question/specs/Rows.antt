@@ -3,7 +3,7 @@
 use Rattle.std.specs.Prelude.{◌≡◌, ◌<◌, ◌^◌, ℕ, ℤ, List, ◌∷◌, ◌++◌, length}
 use Rattle.std.specs.Int.{to_be_bytes, w32, w64, cast_unsigned}
 use Rattle.std.specs.Int.RustNames.{FitsSigned}
-use Rattle.ts_question.specs.Parts.{blob16}
+use Rattle.ts_codec.specs.Parts.{blob16}
 
 -- the SHA-256 of its certificate, the content of its subject, and its purposes
 pub record AnchorLine : Type 0 where

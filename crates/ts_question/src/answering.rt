@@ -1,18 +1,17 @@
 //! Answers are made, read and written.
 
 ghost use Rattle.std.specs.Prelude.{◌≡◌, ◌++◌, true, false, Some, IfOk, IfSome, OnOk, MatchResult};
-ghost use Rattle.ts_question.specs.Reading.{Gives};
+ghost use Rattle.ts_codec.specs.Reading.{Gives};
 ghost use Rattle.ts_question.specs.ReplyReading.{answer_at};
 ghost use Rattle.ts_question.specs.Reply.{Answered, is_answer, encoding, Fits};
 
-use crate::fault::ReadFault;
 use crate::question::OutOfLimits;
 use crate::ranges::{fields_fit, is_reply};
-use crate::reading::MAX_POSITION;
 use crate::reply::{Answer, Reply};
 use crate::reply_reading;
 use crate::reply_writing::{push_fields, tag_of};
 use std::alloc::{AllocError, Global};
+use ts_codec::{MAX_POSITION, ReadFault};
 
 impl Answer {
     /// This reply, after so many commands.

@@ -2,10 +2,11 @@
 
 ghost use Rattle.std.specs.Prelude.{◌≡◌, ◌++◌, ◌∷◌, true, false, map, Some, Ok, IfOk, IfSome, OnOk};
 ghost use Rattle.std.specs.Prelude.{MatchResult};
+ghost use Rattle.ts_codec.specs.Reading.{whole};
 ghost use Rattle.ts_question.specs.Question.{Asked, is_within, encoding, Fits};
+ghost use Rattle.ts_question.specs.QuestionReading.{question_at};
 ghost use Rattle.ts_question.specs.declared.question.Target.TheVariants.{Chain, Search, Store, Log};
 
-use crate::fault::ReadFault;
 use crate::limits::{are_terms, is_target, target_fits, terms_fit};
 use crate::lists::OctetStrings;
 use crate::question::{OutOfLimits, Question, Target};
@@ -13,6 +14,7 @@ use crate::reading;
 use crate::terms::Terms;
 use crate::writing::{kind_of, push_target, push_terms};
 use std::alloc::{AllocError, Global};
+use ts_codec::ReadFault;
 
 /// The question, if it is within its limits.
 fn checked(terms: Terms, target: Target) -> Result<Question, OutOfLimits>
@@ -103,6 +105,8 @@ impl Question {
     ///
     /// Out of memory.
     pub fn read(alloc: Global, octets: &[u8]) -> Result<Option<Question>, AllocError>
+        // What is read, by the definition of reading.
+        ensures exact { IfOk result (λ read. read ≡ whole (question_at octets.now)) }
         // What is read is encoded so.
         ensures found { IfOk result (λ read. IfSome read (λ q. Fits q × (octets.now ≡ encoding q))) }
         // What is encoded so is read.

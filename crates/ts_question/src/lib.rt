@@ -34,8 +34,6 @@
 //!   `found`, `only`, as of a question; `write`: the encoding, of what fits.
 //! - [`laws::one_question`], [`laws::one_answer`]: no two values have one encoding, and no two
 //!   lists of octets are one value's. [`laws::one_row`]: no two rows have one encoding.
-//! - [`parts`]: numbers and octets at the front of others, lent; each gives what its reading
-//!   (`specs/Reading`) gives.
 //!
 //! DER is not looked into, except that policies, purposes and extensions are object identifiers.
 //! Out of memory is answered as `AllocError`.
@@ -47,11 +45,9 @@
 
 mod answering;
 mod asking;
-mod fault;
 pub mod laws;
 mod limits;
 mod lists;
-pub mod parts;
 mod question;
 mod ranges;
 mod reading;
@@ -65,14 +61,11 @@ mod rows;
 mod terms;
 mod writing;
 
-pub use fault::ReadFault;
 pub use lists::{OctetStrings, Oids, Places};
 pub use question::{OutOfLimits, Question, Target};
-pub use reading::{
-    MAX_CERTIFICATE, MAX_CHAIN, MAX_POLICIES, MAX_POSITION, MAX_SEARCH, MAX_SUBTREES,
-};
+pub use reading::{MAX_CERTIFICATE, MAX_CHAIN, MAX_POLICIES, MAX_SEARCH, MAX_SUBTREES};
 pub use reason::Reason;
 pub use reply::{Answer, Reply};
 pub use rows::{AnchorRow, CommandRow, CrlRow};
 pub use terms::{Flags, Terms};
-pub use writing::{push_blob16, push_blob32, push_oids};
+pub use ts_codec::MAX_POSITION;

@@ -1,25 +1,22 @@
 //! Questions are read.
 
-ghost use Rattle.std.specs.Prelude.{◌≡◌, ◌<◌, true, false, MatchOption};
-ghost use Rattle.ts_der.specs.ObjectIdentifier.{is_oid};
-ghost use Rattle.ts_question.specs.Reading.{Gives, whole, octets_at, many_at, optional_at};
-ghost use Rattle.ts_question.specs.Reading.{blob16_at};
+ghost use Rattle.std.specs.Prelude.{◌≡◌, ◌<◌};
+ghost use Rattle.ts_codec.specs.Reading.{Gives, whole, many_at, optional_at, blob16_at};
+ghost use Rattle.ts_codec.specs.Reading.{short_blob_at, prefix_at, oid_at, of_kind};
 ghost use Rattle.ts_question.specs.Question.{Asked};
-ghost use Rattle.ts_question.specs.QuestionReading.{bit, position_at, oid_at, certificate_at};
-ghost use Rattle.ts_question.specs.QuestionReading.{presence_at, policies_at, subtrees_at};
-ghost use Rattle.ts_question.specs.QuestionReading.{certificates_at, terms_at, target_at};
+ghost use Rattle.ts_question.specs.QuestionReading.{bit, presence_at, policies_at, subtrees_at};
+ghost use Rattle.ts_question.specs.QuestionReading.{certificates_at, terms_at, targets};
 ghost use Rattle.ts_question.specs.QuestionReading.{question_at};
 
-use crate::fault::ReadFault;
 use crate::lists::{OctetStrings, Oids};
-use crate::parts::{blob8, blob16, blob32, number16, number32, number64, octet};
 use crate::question::Target;
 use crate::terms::{Flags, Presence, Terms};
 use std::alloc::Global;
-use ts_der::{Oid, OidRef};
+use ts_codec::ReadFault;
+use ts_codec::reading::{blob16, digest, number16, number32, octet, oid, oids, prefix, short_blob};
+use ts_codec::reading::{signed};
+use ts_der::Oid;
 
-/// The most commands that a store has taken.
-pub const MAX_POSITION: u32 = 1_000_000;
 /// The most octets of a certificate.
 pub const MAX_CERTIFICATE: usize = 65_536;
 /// The most certificates of a chain.
@@ -30,30 +27,6 @@ pub const MAX_SEARCH: usize = 33;
 pub const MAX_POLICIES: usize = 32;
 /// The most initial subtrees of a kind.
 pub const MAX_SUBTREES: usize = 64;
-
-/// A number of commands.
-#[tactic(auto, unfolding(crate::specs::QuestionReading::position_at))]
-pub(crate) fn position(octets: &[u8]) -> Result<(u32, &[u8]), ReadFault>
-    ensures { Gives (λ x. (x.0, x.1.now)) result (position_at octets.now) }
-{
-    let (k, rest) = number32(octets)?;
-    if k > MAX_POSITION {
-        return Err(ReadFault::Form);
-    }
-    Ok((k, rest))
-}
-
-/// The contents octets of an object identifier, after an octet of their length.
-#[tactic(auto, unfolding(crate::specs::QuestionReading::oid_at))]
-pub(crate) fn oid(alloc: Global, octets: &[u8]) -> Result<(Oid, &[u8]), ReadFault>
-    ensures { Gives (λ x. (x.0, x.1.now)) result (oid_at octets.now) }
-{
-    let (content, rest) = blob8(octets)?;
-    let Some(oid) = OidRef::from_content(content) else {
-        return Err(ReadFault::Form);
-    };
-    Ok((Oid::from_oid(alloc, oid)?, rest))
-}
 
 fn is_set(octet: u8, weight: u8) -> bool
     requires { 0 < weight }
@@ -85,18 +58,18 @@ fn presence(octets: &[u8]) -> Result<(Presence, &[u8]), ReadFault>
     Ok((presence, rest))
 }
 
-#[tactic(auto, unfolding(crate::specs::Reading::optional_at))]
+#[tactic(auto, unfolding(ts_codec::specs::Reading::optional_at))]
 fn optional_position(there: bool, octets: &[u8]) -> Result<(Option<u32>, &[u8]), ReadFault>
-    ensures { Gives (λ x. (x.0, x.1.now)) result (optional_at position_at there octets.now) }
+    ensures { Gives (λ x. (x.0, x.1.now)) result (optional_at prefix_at there octets.now) }
 {
     if !there {
         return Ok((None, octets));
     }
-    let (k, rest) = position(octets)?;
+    let (k, rest) = prefix(octets)?;
     Ok((Some(k), rest))
 }
 
-#[tactic(auto, unfolding(crate::specs::Reading::optional_at))]
+#[tactic(auto, unfolding(ts_codec::specs::Reading::optional_at))]
 fn optional_oid(
     alloc: Global,
     there: bool,
@@ -109,24 +82,6 @@ fn optional_oid(
     }
     let (oid, rest) = oid(alloc, octets)?;
     Ok((Some(oid), rest))
-}
-
-/// So many object identifiers.
-pub(crate) fn oids(
-    alloc: Global,
-    count: usize,
-    octets: &[u8],
-) -> Result<(Vec<Oid>, &[u8]), ReadFault>
-    ensures { Gives (λ x. (x.0.items, x.1.now)) result (many_at oid_at count octets.now) }
-{
-    let mut oids = Vec::new(alloc);
-    let mut rest = octets;
-    for _ in 0..count {
-        let (oid, after) = oid(alloc, rest)?;
-        oids.push(oid)?;
-        rest = after;
-    }
-    Ok((oids, rest))
 }
 
 #[tactic(auto, unfolding(crate::specs::QuestionReading::policies_at))]
@@ -172,29 +127,18 @@ pub(crate) fn subtrees(alloc: Global, octets: &[u8]) -> Result<(OctetStrings, &[
     subtrees_of(alloc, count, rest)
 }
 
-#[tactic(auto, unfolding(crate::specs::QuestionReading::certificate_at))]
-fn certificate(octets: &[u8]) -> Result<(&[u8], &[u8]), ReadFault>
-    ensures { Gives (λ x. (x.0.now, x.1.now)) result (certificate_at octets.now) }
-{
-    let (content, rest) = blob32(octets)?;
-    if content.len() > MAX_CERTIFICATE {
-        return Err(ReadFault::Form);
-    }
-    Ok((content, rest))
-}
-
 /// So many certificates.
 fn certificates_of(
     alloc: Global,
     count: usize,
     octets: &[u8],
 ) -> Result<(OctetStrings, &[u8]), ReadFault>
-    ensures { Gives (λ x. (x.0, x.1.now)) result (many_at certificate_at count octets.now) }
+    ensures { Gives (λ x. (x.0, x.1.now)) result (many_at (short_blob_at 65536) count octets.now) }
 {
     let mut strings = OctetStrings::empty(alloc);
     let mut rest = octets;
     for _ in 0..count {
-        let (content, after) = certificate(rest)?;
+        let (content, after) = short_blob(MAX_CERTIFICATE, rest)?;
         strings.push_copy(alloc, content)?;
         rest = after;
     }
@@ -221,7 +165,7 @@ fn certificates(
 fn terms(alloc: Global, octets: &[u8]) -> Result<(Terms, &[u8]), ReadFault>
     ensures { Gives (λ x. (x.0, x.1.now)) result (terms_at octets.now) }
 {
-    let (moment, rest) = number64(octets)?;
+    let (moment, rest) = signed(octets)?;
     let (presence, rest) = presence(rest)?;
     let (k, rest) = optional_position(presence.k, rest)?;
     let (purpose, rest) = optional_oid(alloc, presence.purpose, rest)?;
@@ -229,7 +173,7 @@ fn terms(alloc: Global, octets: &[u8]) -> Result<(Terms, &[u8]), ReadFault>
     let (permitted_subtrees, rest) = subtrees(alloc, rest)?;
     let (excluded_subtrees, rest) = subtrees(alloc, rest)?;
     let terms = Terms {
-        moment: moment.cast_signed(),
+        moment,
         flags: presence.flags,
         k,
         purpose,
@@ -240,23 +184,9 @@ fn terms(alloc: Global, octets: &[u8]) -> Result<(Terms, &[u8]), ReadFault>
     Ok((terms, rest))
 }
 
-/// The 32 octets of an anchor's id.
-pub(crate) fn digest(octets: &[u8]) -> Result<([u8; 32], &[u8]), ReadFault>
-    ensures { Gives (λ x. (x.0, x.1.now)) result (octets_at 32 octets.now) }
-{
-    if octets.len() < 32 {
-        return Err(ReadFault::Form);
-    }
-    let (front, rest) = octets.split_at(32);
-    match <[u8; 32]>::try_from(front) {
-        Ok(digest) => Ok((digest, rest)),
-        Err(_) => Err(ReadFault::Form),
-    }
-}
-
-#[tactic(auto, unfolding(crate::specs::QuestionReading::target_at))]
+#[tactic(auto, unfolding(ts_codec::specs::Reading::of_kind))]
 fn target(alloc: Global, kind: u8, octets: &[u8]) -> Result<(Target, &[u8]), ReadFault>
-    ensures { Gives (λ x. (x.0, x.1.now)) result (target_at kind octets.now) }
+    ensures { Gives (λ x. (x.0, x.1.now)) result (of_kind targets kind octets.now) }
 {
     match kind {
         1 => {

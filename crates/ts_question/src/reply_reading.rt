@@ -1,21 +1,20 @@
 //! Answers are read.
 
 ghost use Rattle.std.specs.Prelude.{◌≡◌};
-ghost use Rattle.ts_question.specs.Reading.{Gives, whole, lookup};
+ghost use Rattle.ts_codec.specs.Reading.{Gives, ◌into◌, whole, by_kind, of_kind};
 ghost use Rattle.ts_question.specs.Reply.{answered};
-ghost use Rattle.ts_question.specs.ReplyReading.{plain_reasons, accepted_at, detail_at, reason_at};
-ghost use Rattle.ts_question.specs.ReplyReading.{valid_at, invalid_at, found_at, not_yet_at};
-ghost use Rattle.ts_question.specs.ReplyReading.{malformed_at, limit_at, page_at, reply_at};
-ghost use Rattle.ts_question.specs.ReplyReading.{answer_at};
+ghost use Rattle.ts_question.specs.ReplyReading.{reasons, accepted_at, reason_at, valid_at};
+ghost use Rattle.ts_question.specs.ReplyReading.{invalid_at, found_at, not_yet_at, malformed_at};
+ghost use Rattle.ts_question.specs.ReplyReading.{page_at, replies, answer_at};
 
-use crate::fault::ReadFault;
 use crate::lists::{Oids, Places};
-use crate::parts::{blob8, number32, octet};
 use crate::ranges::{are_places, is_place};
-use crate::reading::{digest, oid, oids, position, subtrees};
+use crate::reading::subtrees;
 use crate::reason::Reason;
 use crate::reply::Reply;
 use std::alloc::Global;
+use ts_codec::ReadFault;
+use ts_codec::reading::{blob8, digest, number32, octet, oid, oids, prefix, tag};
 
 #[tactic(auto, unfolding(crate::specs::ReplyReading::accepted_at))]
 fn accepted(alloc: Global, octets: &[u8]) -> Result<(Oids, &[u8]), ReadFault>
@@ -26,46 +25,37 @@ fn accepted(alloc: Global, octets: &[u8]) -> Result<(Oids, &[u8]), ReadFault>
     Ok((Oids::new(oids), rest))
 }
 
-/// The reason of this number that says nothing beside it.
-fn plain_reason(number: u8) -> Option<Reason>
-    ensures { result ≡ lookup number plain_reasons }
-{
-    Some(match number {
-        1 => Reason::AnchorPurpose,
-        2 => Reason::Signature,
-        3 => Reason::TooEarly,
-        4 => Reason::Expired,
-        6 => Reason::Undetermined,
-        7 => Reason::IssuerName,
-        8 => Reason::UnsupportedConstraint,
-        9 => Reason::NotPermitted,
-        10 => Reason::Excluded,
-        11 => Reason::PolicyRequired,
-        12 => Reason::MapsAny,
-        13 => Reason::NotCa,
-        14 => Reason::PathLength,
-        15 => Reason::KeyUsage,
-        17 => Reason::FinalPolicy,
-        18 => Reason::Purpose,
-        _ => return None,
-    })
-}
-
-#[tactic(auto, unfolding(crate::specs::ReplyReading::detail_at))]
+/// The reason of this number.
+#[tactic(auto, unfolding(ts_codec::specs::Reading::of_kind))]
 fn detail(alloc: Global, number: u8, octets: &[u8]) -> Result<(Reason, &[u8]), ReadFault>
-    ensures { Gives (λ x. (x.0, x.1.now)) result (detail_at number octets.now) }
+    ensures { Gives (λ x. (x.0, x.1.now)) result (of_kind reasons number octets.now) }
 {
-    if number == 5 {
-        let (code, rest) = octet(octets)?;
-        return Ok((Reason::Revoked(code), rest));
-    }
-    if number == 16 {
-        let (oid, rest) = oid(alloc, octets)?;
-        return Ok((Reason::CriticalExtension(oid), rest));
-    }
-    match plain_reason(number) {
-        Some(reason) => Ok((reason, octets)),
-        None => Err(ReadFault::Form),
+    match number {
+        1 => Ok((Reason::AnchorPurpose, octets)),
+        2 => Ok((Reason::Signature, octets)),
+        3 => Ok((Reason::TooEarly, octets)),
+        4 => Ok((Reason::Expired, octets)),
+        5 => {
+            let (code, rest) = octet(octets)?;
+            Ok((Reason::Revoked(code), rest))
+        }
+        6 => Ok((Reason::Undetermined, octets)),
+        7 => Ok((Reason::IssuerName, octets)),
+        8 => Ok((Reason::UnsupportedConstraint, octets)),
+        9 => Ok((Reason::NotPermitted, octets)),
+        10 => Ok((Reason::Excluded, octets)),
+        11 => Ok((Reason::PolicyRequired, octets)),
+        12 => Ok((Reason::MapsAny, octets)),
+        13 => Ok((Reason::NotCa, octets)),
+        14 => Ok((Reason::PathLength, octets)),
+        15 => Ok((Reason::KeyUsage, octets)),
+        16 => {
+            let (oid, rest) = oid(alloc, octets)?;
+            Ok((Reason::CriticalExtension(oid), rest))
+        }
+        17 => Ok((Reason::FinalPolicy, octets)),
+        18 => Ok((Reason::Purpose, octets)),
+        _ => Err(ReadFault::Form),
     }
 }
 
@@ -144,17 +134,6 @@ fn malformed(octets: &[u8]) -> Result<(Reply, &[u8]), ReadFault>
     Ok((reply, rest))
 }
 
-#[tactic(auto, unfolding(crate::specs::ReplyReading::limit_at))]
-fn limit(octets: &[u8]) -> Result<(Reply, &[u8]), ReadFault>
-    ensures { Gives (λ x. (x.0, x.1.now)) result (limit_at octets.now) }
-{
-    let (kind, rest) = octet(octets)?;
-    if kind != 1 {
-        return Err(ReadFault::Form);
-    }
-    Ok((Reply::Limit, rest))
-}
-
 #[tactic(auto, unfolding(crate::specs::ReplyReading::page_at))]
 fn page(alloc: Global, octets: &[u8]) -> Result<(Reply, &[u8]), ReadFault>
     ensures { Gives (λ x. (x.0, x.1.now)) result (page_at octets.now) }
@@ -164,11 +143,12 @@ fn page(alloc: Global, octets: &[u8]) -> Result<(Reply, &[u8]), ReadFault>
     Ok((Reply::Page { total, rows }, rest))
 }
 
-#[tactic(auto, unfolding(crate::specs::ReplyReading::reply_at))]
-fn reply(alloc: Global, k: u32, tag: u8, octets: &[u8]) -> Result<(Reply, &[u8]), ReadFault>
-    ensures { Gives (λ x. (x.0, x.1.now)) result (reply_at k tag octets.now) }
+/// The reply of this tag, after k commands.
+#[tactic(auto, unfolding(ts_codec::specs::Reading::of_kind))]
+fn fields(alloc: Global, k: u32, kind: u8, octets: &[u8]) -> Result<(Reply, &[u8]), ReadFault>
+    ensures { Gives (λ x. (x.0, x.1.now)) result (of_kind (replies k) kind octets.now) }
 {
-    match tag {
+    match kind {
         1 => valid(alloc, octets),
         2 => invalid(alloc, octets),
         3 => found(alloc, octets),
@@ -177,7 +157,10 @@ fn reply(alloc: Global, k: u32, tag: u8, octets: &[u8]) -> Result<(Reply, &[u8])
         6 => not_yet(k, octets),
         7 => malformed(octets),
         8 => Ok((Reply::NoAnchor, octets)),
-        9 => limit(octets),
+        9 => {
+            let (_, rest) = tag(1, octets)?;
+            Ok((Reply::Limit, rest))
+        }
         10 => page(alloc, octets),
         _ => Err(ReadFault::Form),
     }
@@ -188,9 +171,9 @@ fn reply(alloc: Global, k: u32, tag: u8, octets: &[u8]) -> Result<(Reply, &[u8])
 pub(crate) fn answer(alloc: Global, octets: &[u8]) -> Result<(u32, Reply, &[u8]), ReadFault>
     ensures { Gives (λ x. (answered x.0 x.1, x.2.now)) result (answer_at octets.now) }
 {
-    let (k, rest) = position(octets)?;
-    let (tag, rest) = octet(rest)?;
-    let (reply, rest) = reply(alloc, k, tag, rest)?;
+    let (k, rest) = prefix(octets)?;
+    let (kind, rest) = octet(rest)?;
+    let (reply, rest) = fields(alloc, k, kind, rest)?;
     Ok((k, reply, rest))
 }
 

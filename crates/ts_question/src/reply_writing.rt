@@ -1,15 +1,16 @@
 //! Answers are written.
 
 ghost use Rattle.std.specs.Prelude.{◌≡◌, ◌++◌, true, ℕ, OnOk};
-ghost use Rattle.ts_question.specs.Parts.{blob8};
+ghost use Rattle.ts_codec.specs.Parts.{blob8};
 ghost use Rattle.ts_question.specs.Reply.{are_places, are_countable, is_reply, reason_encoding};
 ghost use Rattle.ts_question.specs.Reply.{accepted_encoding, tag_of, fields};
 
 use crate::lists::{Oids, Places};
 use crate::reason::Reason;
 use crate::reply::Reply;
-use crate::writing::{push_oid, push_oids, push_subtrees};
+use crate::writing::push_subtrees;
 use std::alloc::AllocError;
+use ts_codec::writing::{push_oid, push_oids};
 
 fn push_accepted(out: &mut Vec<u8>, policies: &Oids) -> Result<(), AllocError>
     requires { are_countable policies.now ≡ true }

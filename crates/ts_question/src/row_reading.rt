@@ -1,48 +1,13 @@
 //! The rows of a page are read.
 
 ghost use Rattle.std.specs.Prelude.{◌≡◌};
-ghost use Rattle.ts_question.specs.Reading.{Gives, whole, octets_at};
-ghost use Rattle.ts_question.specs.RowReading.{tag_at, moment_at, anchor_at, crl_at, command_at};
+ghost use Rattle.ts_codec.specs.Reading.{Gives, whole};
+ghost use Rattle.ts_question.specs.RowReading.{anchor_at, crl_at, command_at};
 ghost use Rattle.ts_question.specs.RowView.{anchor_line, crl_line, command_line};
 
-use crate::fault::ReadFault;
-use crate::parts::{blob16, number32, number64, octet};
-use crate::reading::digest;
 use crate::rows::{AnchorRow, CommandRow, CrlRow};
-
-/// The octet that a row of a kind begins with.
-#[tactic(auto, unfolding(crate::specs::RowReading::tag_at))]
-fn tag(kind: u8, octets: &[u8]) -> Result<(u8, &[u8]), ReadFault>
-    ensures { Gives (λ x. (x.0, x.1.now)) result (tag_at kind octets.now) }
-{
-    let (found, rest) = octet(octets)?;
-    if found != kind {
-        return Err(ReadFault::Form);
-    }
-    Ok((found, rest))
-}
-
-#[tactic(auto, unfolding(crate::specs::RowReading::moment_at))]
-fn moment(octets: &[u8]) -> Result<(i64, &[u8]), ReadFault>
-    ensures { Gives (λ x. (x.0, x.1.now)) result (moment_at octets.now) }
-{
-    let (number, rest) = number64(octets)?;
-    Ok((number.cast_signed(), rest))
-}
-
-/// The 16 octets of a command's id.
-fn command_id(octets: &[u8]) -> Result<([u8; 16], &[u8]), ReadFault>
-    ensures { Gives (λ x. (x.0, x.1.now)) result (octets_at 16 octets.now) }
-{
-    if octets.len() < 16 {
-        return Err(ReadFault::Form);
-    }
-    let (front, rest) = octets.split_at(16);
-    match <[u8; 16]>::try_from(front) {
-        Ok(id) => Ok((id, rest)),
-        Err(_) => Err(ReadFault::Form),
-    }
-}
+use ts_codec::ReadFault;
+use ts_codec::reading::{blob16, digest, id, number32, octet, signed, tag};
 
 #[tactic(auto, unfolding(crate::specs::RowReading::anchor_at))]
 fn anchor(octets: &[u8]) -> Result<(AnchorRow<'_>, &[u8]), ReadFault>
@@ -70,8 +35,8 @@ fn crl(octets: &[u8]) -> Result<(CrlRow<'_>, &[u8]), ReadFault>
     let (number, rest) = blob16(rest)?;
     let (base, rest) = blob16(rest)?;
     let (scope, rest) = blob16(rest)?;
-    let (this_update, rest) = moment(rest)?;
-    let (next_update, rest) = moment(rest)?;
+    let (this_update, rest) = signed(rest)?;
+    let (next_update, rest) = signed(rest)?;
     let (entries, rest) = number32(rest)?;
     let (size, rest) = number32(rest)?;
     let row = CrlRow {
@@ -93,7 +58,7 @@ fn command(octets: &[u8]) -> Result<(CommandRow<'_>, &[u8]), ReadFault>
     ensures { Gives (λ x. (command_line x.0, x.1.now)) result (command_at octets.now) }
 {
     let (_, rest) = tag(3, octets)?;
-    let (id, rest) = command_id(rest)?;
+    let (id, rest) = id(rest)?;
     let (kind, rest) = octet(rest)?;
     let (size, rest) = number32(rest)?;
     let (about, rest) = blob16(rest)?;

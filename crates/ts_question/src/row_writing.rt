@@ -7,8 +7,8 @@ ghost use Rattle.ts_question.specs.Rows.{anchor_encoding, crl_encoding, command_
 ghost use Rattle.ts_question.specs.RowView.{anchor_line, crl_line, command_line};
 
 use crate::rows::{AnchorRow, CommandRow, CrlRow};
-use crate::writing::push_blob16;
 use std::alloc::AllocError;
+use ts_codec::writing::push_blob16;
 
 #[tactic(auto, unfolding(crate::specs::Rows::moment_encoding))]
 fn push_moment(out: &mut Vec<u8>, moment: i64) -> Result<(), AllocError>

@@ -6,10 +6,10 @@ ghost use Rattle.ts_question.specs.Rows.{AnchorFits, CrlFits, CommandFits};
 ghost use Rattle.ts_question.specs.Rows.{anchor_encoding, crl_encoding, command_encoding};
 ghost use Rattle.ts_question.specs.RowView.{anchor_line, crl_line, command_line};
 
-use crate::fault::ReadFault;
 use crate::row_reading;
 use crate::row_writing::{push_anchor, push_command, push_crl};
 use std::alloc::AllocError;
+use ts_codec::ReadFault;
 
 /// A trust anchor of a store.
 #[derive(Clone, Copy, Debug, PartialEq, Eq)]

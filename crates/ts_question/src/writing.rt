@@ -3,7 +3,7 @@
 ghost use Rattle.std.specs.Prelude.{◌≡◌, ◌≤◌, ◌<◌, ◌^◌, ◌++◌, ◌∷◌, ◌+◌, ◌*◌, cond, length, map};
 ghost use Rattle.std.specs.Prelude.{nat_le, is_some, true, OnOk};
 ghost use Rattle.std.specs.List.{flat_map, list_all};
-ghost use Rattle.ts_question.specs.Parts.{blob8, blob16, blob32, optional};
+ghost use Rattle.ts_codec.specs.Parts.{blob8, blob16, blob32, optional};
 ghost use Rattle.std.specs.Int.{to_be_bytes, cast_unsigned, w32, w64};
 ghost use Rattle.ts_question.specs.Question.{flags_octet, is_position, are_subtrees, are_terms};
 ghost use Rattle.ts_question.specs.Question.{are_certificates, is_target, policies_encoding};
@@ -14,27 +14,8 @@ use crate::lists::{OctetStrings, Oids};
 use crate::question::Target;
 use crate::terms::{Flags, Terms};
 use std::alloc::AllocError;
+use ts_codec::writing::{push_blob16, push_blob32, push_number32, push_oid, push_oids};
 use ts_der::Oid;
-
-/// Writes an object identifier after an octet of its length.
-pub(crate) fn push_oid(out: &mut Vec<u8>, oid: &Oid) -> Result<(), AllocError>
-    ensures { OnOk result (out.new.items ≡ out.old.items ++ blob8 oid.now) }
-{
-    let content = oid.as_ref().content;
-    out.push(content.len() as u8)?;
-    out.extend_from_slice(content)?;
-    Ok(())
-}
-
-/// Writes object identifiers, one after another.
-pub fn push_oids(out: &mut Vec<u8>, oids: &[Oid]) -> Result<(), AllocError>
-    ensures { OnOk result (out.new.items ≡ out.old.items ++ flat_map blob8 oids.now) }
-{
-    for oid in oids {
-        push_oid(out, oid)?;
-    }
-    Ok(())
-}
 
 fn push_policies(out: &mut Vec<u8>, policies: &Oids) -> Result<(), AllocError>
     requires { length policies.now ≤ 32 }
@@ -43,16 +24,6 @@ fn push_policies(out: &mut Vec<u8>, policies: &Oids) -> Result<(), AllocError>
     let policies = policies.as_slice();
     out.push(policies.len() as u8)?;
     push_oids(out, policies)
-}
-
-/// Writes octets after two octets of their length.
-pub fn push_blob16(out: &mut Vec<u8>, octets: &[u8]) -> Result<(), AllocError>
-    requires { length octets.now < 2 ^ 16 }
-    ensures { OnOk result (out.new.items ≡ out.old.items ++ blob16 octets.now) }
-{
-    out.extend_from_slice(&(octets.len() as u16).to_be_bytes())?;
-    out.extend_from_slice(octets)?;
-    Ok(())
 }
 
 fn push_subtrees_of(out: &mut Vec<u8>, subtrees: &[Vec<u8>]) -> Result<(), AllocError>
@@ -72,16 +43,6 @@ pub(crate) fn push_subtrees(out: &mut Vec<u8>, subtrees: &OctetStrings) -> Resul
 {
     out.extend_from_slice(&(subtrees.len() as u16).to_be_bytes())?;
     push_subtrees_of(out, subtrees.as_slice())
-}
-
-/// Writes octets after four octets of their length.
-pub fn push_blob32(out: &mut Vec<u8>, octets: &[u8]) -> Result<(), AllocError>
-    requires { length octets.now < 2 ^ 32 }
-    ensures { OnOk result (out.new.items ≡ out.old.items ++ blob32 octets.now) }
-{
-    out.extend_from_slice(&(octets.len() as u32).to_be_bytes())?;
-    out.extend_from_slice(octets)?;
-    Ok(())
 }
 
 fn push_certificates_of(out: &mut Vec<u8>, certificates: &[Vec<u8>]) -> Result<(), AllocError>
@@ -130,7 +91,7 @@ fn push_position(out: &mut Vec<u8>, k: Option<u32>) -> Result<(), AllocError>
     ensures { OnOk result (out.new.items ≡ out.old.items ++ optional (to_be_bytes w32) k) }
 {
     if let Some(k) = k {
-        out.extend_from_slice(&k.to_be_bytes())?;
+        push_number32(out, k)?;
     }
     Ok(())
 }
@@ -209,9 +170,7 @@ pub(crate) fn push_target(out: &mut Vec<u8>, target: &Target) -> Result<(), Allo
             push_certificates(out, certificates)?;
         }
         Target::Search { certificates } => push_certificates(out, certificates)?,
-        Target::Store { from } | Target::Log { from } => {
-            out.extend_from_slice(&from.to_be_bytes())?;
-        }
+        Target::Store { from } | Target::Log { from } => push_number32(out, *from)?,
     }
     Ok(())
 }

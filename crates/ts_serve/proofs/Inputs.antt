@@ -10,7 +10,7 @@ use Rattle.ts_record.specs.Facts.{IsBallot, IsPosition}
 use Rattle.ts_node.specs.Inputs.{BodyFits}
 use Rattle.ts_store.specs.Octets.{octets_of}
 use Rattle.ts_serve.proofs.Commands.{command_short}
-use Rattle.ts_wire.specs.Outcomes.{is_ballot, is_node, is_position}
+use Rattle.ts_codec.specs.Ranges.{is_ballot, is_node, is_position}
 use Rattle.ts_wire.specs.Frames.{BodyFits as FieldsFit, Fits}
 use Rattle.ts_wire.specs.declared.frame.Frame.TheVariants.{Peer}
 

@@ -6,42 +6,33 @@ use Rattle.std.specs.Int.{to_be_bytes, w32}
 use Rattle.std.proofs.lemmas.Bool.{eqb-true, eq-eqb, leb-true, le-leb}
 use Rattle.std.proofs.lemmas.Grind.{common_steps}
 use Rattle.ts_der.specs.ObjectIdentifier.{is_oid}
-use Rattle.ts_store.specs.Commands.{blob8, blob32, purposes_encoding, fields, id_of, encoding, FieldsFit, Fits}
+use Rattle.ts_codec.specs.Parts.{blob8, blob32}
+use Rattle.ts_store.specs.Commands.{purposes_encoding, kind_of, content, fields, id_of, encoding, FieldsFit, Fits}
 use Rattle.ts_store.specs.Purposes.{is_ascending, is_listed, ArePurposes}
 use Rattle.ts_store.specs.declared.command.Command.{Command}
 use Rattle.ts_store.specs.declared.command.Command.TheVariants.{AddAnchor, WithdrawAnchor, LoadCrl, DropCrl, SetPurposes, Noop}
-use Rattle.ts_store.proofs.Fields.{one_command}
-use Rattle.ts_store.proofs.Identifiers.{is_short}
+use Rattle.ts_store.proofs.OneEncoding.{one_command}
+use Rattle.ts_codec.proofs.Truths.{first_true, second_true, both_true}
+use Rattle.ts_codec.proofs.Lengths.{oids_short}
 use Rattle.ts_store.specs.Octets.{are_purposes, are_fields, is_command, octets_of}
-
-first_of : (a b : Bool) → a && b ≡ true → a ≡ true
-first_of true b is = refl
-first_of false b is = absurd (cc is)
-
-second_of : (a b : Bool) → a && b ≡ true → b ≡ true
-second_of true b is = is
-second_of false b is = absurd (cc is)
-
-both : (a b : Bool) → a ≡ true → b ≡ true → a && b ≡ true
-both a b x y = rw (x, y) refl
 
 eq_true : (m n : ℕ) → m ≡ n → (m == n) ≡ true
 eq_true m n is = eq-eqb m n is
 
 purposes_test : (p : Option (List (List ℕ))) → ArePurposes p → are_purposes p ≡ true
 purposes_test None fit = refl
-purposes_test (Some oids) fit = both (is_listed oids) (list_all is_oid oids) fit.0 fit.1
+purposes_test (Some oids) fit = both_true (is_listed oids) (list_all is_oid oids) fit.0 fit.1
 
 test_purposes : (p : Option (List (List ℕ))) → are_purposes p ≡ true → ArePurposes p
 test_purposes None is = tt
-test_purposes (Some oids) is = (first_of (is_listed oids) (list_all is_oid oids) is, second_of (is_listed oids) (list_all is_oid oids) is)
+test_purposes (Some oids) is = (first_true (is_listed oids) (list_all is_oid oids) is, second_true (is_listed oids) (list_all is_oid oids) is)
 
 fields_test : (c : Command) → FieldsFit c → are_fields c ≡ true
 fields_test (AddAnchor id certificate) fit = le-leb _ _ fit
 fields_test (WithdrawAnchor id anchor) fit = eq_true _ _ fit
 fields_test (LoadCrl id crl) fit = le-leb _ _ fit
 fields_test (DropCrl id crl) fit = eq_true _ _ fit
-fields_test (SetPurposes id anchor purposes) fit = both _ _ (eq_true _ _ fit.0) (purposes_test purposes fit.1)
+fields_test (SetPurposes id anchor purposes) fit = both_true _ _ (eq_true _ _ fit.0) (purposes_test purposes fit.1)
 fields_test (Noop id) fit = refl
 
 test_fields : (c : Command) → are_fields c ≡ true → FieldsFit c
@@ -49,14 +40,14 @@ test_fields (AddAnchor id certificate) is = leb-true _ _ is
 test_fields (WithdrawAnchor id anchor) is = eqb-true _ _ is
 test_fields (LoadCrl id crl) is = leb-true _ _ is
 test_fields (DropCrl id crl) is = eqb-true _ _ is
-test_fields (SetPurposes id anchor purposes) is = (eqb-true _ _ (first_of _ _ is), test_purposes purposes (second_of _ _ is))
+test_fields (SetPurposes id anchor purposes) is = (eqb-true _ _ (first_true _ _ is), test_purposes purposes (second_true _ _ is))
 test_fields (Noop id) is = tt
 
 pub fits_test : (c : Command) → Fits c → is_command c ≡ true
-fits_test c fit = both _ _ (eq_true _ _ fit.id) (fields_test c fit.fields)
+fits_test c fit = both_true _ _ (eq_true _ _ fit.id) (fields_test c fit.fields)
 
 pub test_fits : (c : Command) → is_command c ≡ true → Fits c
-test_fits c is = record { id = eqb-true _ _ (first_of _ _ is); fields = test_fields c (second_of _ _ is) }
+test_fits c is = record { id = eqb-true _ _ (first_true _ _ is); fields = test_fields c (second_true _ _ is) }
 
 -- a command that fits has its encoding
 pub octets_are : (c : Command) → Fits c → octets_of c ≡ encoding c
@@ -94,19 +85,11 @@ no_octets source (Ok None) only = λ c some is.
 no_octets source (Ok (Some x)) only = tt
 no_octets source (Err e) only = tt
 
-oids_short : (oids : List (List ℕ)) → list_all is_oid oids ≡ true → length (flat_map blob8 oids) ≤ 129 * length oids
-oids_short [] are = omega arith
-oids_short (o ∷ oids) are =
-    let one = is_short o (first_of (is_oid o) (list_all is_oid oids) are) in
-    let others = oids_short oids (second_of (is_oid o) (list_all is_oid oids) are) in
-    let both = length-append (blob8 o) (flat_map blob8 oids) in
-    omega (arith, one, others, both)
-
 purposes_short : (p : Option (List (List ℕ))) → ArePurposes p → length (purposes_encoding p) ≤ 2066
 purposes_short None are = omega arith
 purposes_short (Some oids) are =
     let all = oids_short oids are.1 in
-    let few = leb-true (length oids) 16 (first_of (nat_le (length oids) 16) (is_ascending oids) are.0) in
+    let few = leb-true (length oids) 16 (first_true (nat_le (length oids) 16) (is_ascending oids) are.0) in
     omega (arith, all, few)
 
 fields_short : (c : Command) → FieldsFit c → length (fields c) ≤ 4194309
@@ -117,5 +100,8 @@ fields_short (DropCrl id crl) fit = omega (arith, fit)
 fields_short (SetPurposes id anchor purposes) fit = let e = length-append anchor (purposes_encoding purposes) in let f = purposes_short purposes fit.1 in omega (arith, e, f, fit.0)
 fields_short (Noop id) fit = omega arith
 
+pub encoding_short : (c : Command) → Fits c → length (encoding c) ≤ 4194325
+encoding_short c fit = let f = fields_short c fit.fields in omega (arith, length-append (id_of c) (fields c), fit.id, f)
+
 pub at_most : (c : Command) → Fits c → length (octets_of c) ≤ 4194325
-at_most c fit = let e = ap length (octets_are c fit) in let i = fit.id in let f = fields_short c fit.fields in omega (arith, length-append (id_of c) (fields c), e, i, f)
+at_most c fit = subst (λ (o : List ℕ). length o ≤ 4194325) (sym (octets_are c fit)) (encoding_short c fit)

@@ -1,33 +1,38 @@
 -- Commands of a trust store, how they are encoded, and which have an encoding.
 use Rattle.std.specs.Prelude.{◌≡◌, ◌≤◌, ℕ, List, [], ◌∷◌, ◌++◌, length, Option, Some, None}
 use Rattle.std.specs.List.{flat_map}
-use Rattle.std.specs.Int.{to_be_bytes, w32}
+use Rattle.ts_codec.specs.Parts.{blob8, blob32}
 use Rattle.ts_store.specs.Purposes.{ArePurposes}
 use Rattle.ts_store.specs.declared.command.Command.{Command}
 use Rattle.ts_store.specs.declared.command.Command.TheVariants.{AddAnchor, WithdrawAnchor, LoadCrl}
 use Rattle.ts_store.specs.declared.command.Command.TheVariants.{DropCrl, SetPurposes, Noop}
-
--- one octet of length, and that many octets
-abbrev pub blob8 : List ℕ → List ℕ
-blob8 octets = length octets ∷ octets
-
--- four octets of length, and that many octets
-abbrev pub blob32 : List ℕ → List ℕ
-blob32 octets = to_be_bytes w32 (length octets) ++ octets
 
 -- 00 for any; else 01, an octet of their number, and the contents octets of each
 abbrev pub purposes_encoding : Option (List (List ℕ)) → List ℕ
 purposes_encoding None = 0 ∷ []
 purposes_encoding (Some oids) = 1 ∷ length oids ∷ flat_map blob8 oids
 
+-- the octet of the kind
+abbrev pub kind_of : Command → ℕ
+kind_of (AddAnchor id certificate) = 1
+kind_of (WithdrawAnchor id anchor) = 2
+kind_of (LoadCrl id crl) = 3
+kind_of (DropCrl id crl) = 4
+kind_of (SetPurposes id anchor purposes) = 5
+kind_of (Noop id) = 6
+
+-- what follows the kind
+abbrev pub content : Command → List ℕ
+content (AddAnchor id certificate) = blob32 certificate
+content (WithdrawAnchor id anchor) = anchor
+content (LoadCrl id crl) = blob32 crl
+content (DropCrl id crl) = crl
+content (SetPurposes id anchor purposes) = anchor ++ purposes_encoding purposes
+content (Noop id) = []
+
 -- the octet of the kind, and the fields
 abbrev pub fields : Command → List ℕ
-fields (AddAnchor id certificate) = 1 ∷ blob32 certificate
-fields (WithdrawAnchor id anchor) = 2 ∷ anchor
-fields (LoadCrl id crl) = 3 ∷ blob32 crl
-fields (DropCrl id crl) = 4 ∷ crl
-fields (SetPurposes id anchor purposes) = 5 ∷ (anchor ++ purposes_encoding purposes)
-fields (Noop id) = 6 ∷ []
+fields command = kind_of command ∷ content command
 
 -- the id that the client chose
 abbrev pub id_of : Command → List ℕ

@@ -3,6 +3,8 @@
 ghost use Rattle.std.specs.Prelude.{◌≡◌, ◌<◌, ◌≤◌, List, ℕ, Some, length, IfOk, IfSome};
 ghost use Rattle.std.specs.Prelude.{MatchResult};
 ghost use Rattle.ts_store.specs.Commands.{id_of, encoding, Fits};
+ghost use Rattle.ts_codec.specs.Reading.{whole};
+ghost use Rattle.ts_store.specs.Reading.{command_at};
 ghost use Rattle.ts_store.specs.declared.command.Command.TheVariants.{AddAnchor, LoadCrl};
 
 use crate::purposes::Purposes;
@@ -131,6 +133,8 @@ impl Command {
     ///
     /// Out of memory.
     pub fn read(alloc: Global, octets: &[u8]) -> Result<Option<Command>, AllocError>
+        // What is read, by the definition of reading.
+        ensures exact { IfOk result (λ read. read ≡ whole (command_at octets.now)) }
         // What is read is encoded so.
         ensures found { IfOk result (λ read. IfSome read
             (λ command. Fits command × (octets.now ≡ encoding command))) }

@@ -67,6 +67,7 @@ mod anchors;
 mod codec;
 mod command;
 mod ids;
+mod kinds;
 pub mod laws;
 mod lists;
 mod outcome;

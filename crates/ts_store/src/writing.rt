@@ -1,55 +1,24 @@
 //! Commands are written.
 
-ghost use Rattle.std.specs.Prelude.{◌≡◌, ◌≤◌, ◌<◌, ◌^◌, ◌++◌, ◌∷◌, ℕ, List, Option, true, length};
-ghost use Rattle.std.specs.Prelude.{take, option_map, OnOk};
-ghost use Rattle.std.specs.List.{flat_map, list_all};
-ghost use Rattle.ts_der.specs.ObjectIdentifier.{is_oid};
-ghost use Rattle.ts_store.specs.Commands.{blob8, blob32, purposes_encoding, fields, encoding};
-ghost use Rattle.ts_store.specs.Commands.{FieldsFit, Fits};
+ghost use Rattle.std.specs.Prelude.{◌≡◌, ◌≤◌, ◌<◌, ◌^◌, ◌++◌, ◌∷◌, true, length, option_map, OnOk};
+ghost use Rattle.ts_store.specs.Commands.{purposes_encoding, fields, encoding, FieldsFit, Fits};
 
 use crate::command::Command;
+use crate::kinds::{
+    ADD_ANCHOR, ANY_PURPOSE, DROP_CRL, LISTED, LOAD_CRL, NOOP, SET_PURPOSES, WITHDRAW_ANCHOR,
+};
 use crate::purposes::Purposes;
 use std::alloc::AllocError;
-use ts_der::Oid;
-
-/// Writes octets after four octets of their length.
-fn push_blob(out: &mut Vec<u8>, octets: &[u8]) -> Result<(), AllocError>
-    requires { length octets.now < 2 ^ 32 }
-    ensures { OnOk result (out.new.items ≡ out.old.items ++ blob32 octets.now) }
-{
-    out.extend_from_slice(&(octets.len() as u32).to_be_bytes())?;
-    out.extend_from_slice(octets)?;
-    Ok(())
-}
-
-/// Writes an object identifier after an octet of its length.
-fn push_oid(out: &mut Vec<u8>, oid: &Oid) -> Result<(), AllocError>
-    ensures { OnOk result (out.new.items ≡ out.old.items ++ blob8 oid.now) }
-{
-    let content = oid.as_ref().content;
-    out.push(content.len() as u8)?;
-    out.extend_from_slice(content)?;
-    Ok(())
-}
-
-/// Writes object identifiers, one after another.
-fn push_oids(out: &mut Vec<u8>, oids: &[Oid]) -> Result<(), AllocError>
-    ensures { OnOk result (out.new.items ≡ out.old.items ++ flat_map blob8 oids.now) }
-{
-    for oid in oids {
-        push_oid(out, oid)?;
-    }
-    Ok(())
-}
+use ts_codec::writing::{push_blob32, push_oids};
 
 /// Writes purposes.
 fn push_purposes(out: &mut Vec<u8>, purposes: &Purposes) -> Result<(), AllocError>
     ensures { OnOk result (out.new.items ≡ out.old.items ++ purposes_encoding purposes.now) }
 {
     match purposes.oids() {
-        None => out.push(0)?,
+        None => out.push(ANY_PURPOSE)?,
         Some(oids) => {
-            out.push(1)?;
+            out.push(LISTED)?;
             out.push(oids.len() as u8)?;
             push_oids(out, oids)?;
         }
@@ -63,19 +32,19 @@ fn push_fields(out: &mut Vec<u8>, command: &Command) -> Result<(), AllocError>
 {
     match command {
         Command::AddAnchor { certificate, .. } => {
-            out.push(1)?;
-            push_blob(out, certificate.as_slice())?;
+            out.push(ADD_ANCHOR)?;
+            push_blob32(out, certificate.as_slice())?;
         }
         Command::WithdrawAnchor { anchor, .. } => {
-            out.push(2)?;
+            out.push(WITHDRAW_ANCHOR)?;
             out.extend_from_slice(anchor)?;
         }
         Command::LoadCrl { crl, .. } => {
-            out.push(3)?;
-            push_blob(out, crl.as_slice())?;
+            out.push(LOAD_CRL)?;
+            push_blob32(out, crl.as_slice())?;
         }
         Command::DropCrl { crl, .. } => {
-            out.push(4)?;
+            out.push(DROP_CRL)?;
             out.extend_from_slice(crl)?;
         }
         Command::SetPurposes {
@@ -83,11 +52,11 @@ fn push_fields(out: &mut Vec<u8>, command: &Command) -> Result<(), AllocError>
             purposes,
             ..
         } => {
-            out.push(5)?;
+            out.push(SET_PURPOSES)?;
             out.extend_from_slice(anchor)?;
             push_purposes(out, purposes)?;
         }
-        Command::Noop { .. } => out.push(6)?,
+        Command::Noop { .. } => out.push(NOOP)?,
     }
     Ok(())
 }

@@ -3,7 +3,7 @@ use Rattle.std.proofs.Common.{◌≡◌, ◌≢◌, ◌⊎◌, inl, inr, ℕ, ze
 use Rattle.std.specs.Int.{w32, to_be_bytes}
 use Rattle.std.proofs.lemmas.Bool.{eqb-true, eqb-false}
 use Rattle.std.proofs.lemmas.List.{append-nil, nil_from_length, drop-drop}
-use Rattle.ts_question.proofs.PartLaws.{IsBytes, Takes}
+use Rattle.ts_codec.proofs.Laws.{IsBytes, Takes, front_bytes, back_bytes}
 use Rattle.ts_wire.specs.Frames.{kind_of, is_kind, fields, encoding, FieldsFit, Fits}
 use Rattle.ts_wire.specs.FrameReading.{fields_at, ended, frame_in}
 use Rattle.ts_wire.specs.Stream.{IsLength, IsPartial, Framed, IsCut, GoesOn, IsFault}
@@ -13,7 +13,7 @@ use Rattle.ts_wire.specs.declared.fault.FrameFault.TheVariants.{Length, Version,
 use Rattle.ts_wire.specs.declared.frame.Frame.{Frame}
 use Rattle.ts_wire.specs.declared.wire_error.FeedError.{FeedError}
 use Rattle.ts_wire.specs.declared.wire_error.FeedError.TheVariants.{Memory, Frame as Wrong}
-use Rattle.ts_wire.proofs.FrameLaws.{fields_take, fields_again}
+use Rattle.ts_wire.proofs.FrameLaws.{frame_part}
 
 -- a frame as what follows its length
 pub record IsBody (body : List ℕ) (f : Frame) : Type 0 where
@@ -64,27 +64,18 @@ read_of version kind rest = by_version (eqb version 2) refl
 
 -- ---- a frame
 
-pub back_bytes : (a b : List ℕ) → IsBytes (a ++ b) → IsBytes b
-back_bytes [] b h = h
-back_bytes (x ∷ a) b h = back_bytes a b (λ i. h (suc i))
-
-pub front_bytes : (a b : List ℕ) → IsBytes (a ++ b) → IsBytes a
-front_bytes [] b h i = omega arith
-front_bytes (x ∷ a) b h zero = h zero
-front_bytes (x ∷ a) b h (suc i) = front_bytes a b (λ j. h (suc j)) i
-
 is_body_by : (version kind : ℕ) (rest : List ℕ) (f : Frame) (r : Result Frame FrameFault) → IsBytes rest → Reading version kind rest r → r ≡ Ok f → IsBody (version ∷ kind ∷ rest) f
 is_body_by version kind rest f r bytes (other_version v) e = absurd (cc e)
 is_body_by version kind rest f r bytes (no_kind v k) e = absurd (cc e)
 is_body_by version kind rest f r bytes (no_fields v k h) e = absurd (cc e)
 is_body_by version kind rest f r bytes (more g after v k h n) e = absurd (cc e)
 is_body_by version kind rest f r bytes (whole g v k h) e =
-    let t = fields_take kind rest g [] bytes h in
+    let t = (frame_part kind).takes rest g [] bytes h in
     let same : g ≡ f = ap (ok_of g) e in
     subst (IsBody (version ∷ kind ∷ rest)) same
     (record {
-      ranges = t.1.ranges;
-      is = ap (λ n. n ∷ kind ∷ rest) v ∙ ap (λ n. 2 ∷ n ∷ rest) (sym t.1.kind) ∙ ap (λ l. 2 ∷ kind_of g ∷ l) (t.0.is ∙ append-nil (fields g));
+      ranges = t.1.0;
+      is = ap (λ n. n ∷ kind ∷ rest) v ∙ ap (λ n. 2 ∷ n ∷ rest) (sym t.1.1) ∙ ap (λ l. 2 ∷ kind_of g ∷ l) (t.0.is ∙ append-nil (fields g));
     })
 
 pub is_body : (body : List ℕ) (f : Frame) → IsBytes body → 2 ≤ length body → frame_in body ≡ Ok f → IsBody body f
@@ -105,13 +96,12 @@ framed octets after version kind rest is short = record { after = after; short =
 
 cut : (kind : ℕ) (rest : List ℕ) → 2 + length rest ≤ 8388608 → fields_at kind rest ≡ None → IsCut kind rest
 cut kind rest short none f after ranges same is =
-    let n : length (fields f) ≤ 8388606 = omega (arith, short, ap length is, length-append (fields f) after) in
-    let e : None ≡ Some (f, after) = sym none ∙ ap (λ l. fields_at kind l) is ∙ ap (λ k. fields_at k (fields f ++ after)) (sym same) ∙ fields_again f after ranges n in
+    let e : None ≡ Some (f, after) = sym none ∙ ap (λ l. fields_at kind l) is ∙ (frame_part kind).again f after (ranges, same) in
     absurd (cc e)
 
 goes_on : (kind : ℕ) (rest : List ℕ) (f : Frame) (after : List ℕ) → IsBytes rest → fields_at kind rest ≡ Some (f, after) → (length after ≡ 0 → ⊥) → GoesOn kind rest
 goes_on kind rest f [] bytes e n = absurd (n refl)
-goes_on kind rest f (next ∷ after) bytes e n = let t = fields_take kind rest f (next ∷ after) bytes e in (f, next, after, t.1.ranges, t.1.kind, t.0.is)
+goes_on kind rest f (next ∷ after) bytes e n = let t = (frame_part kind).takes rest f (next ∷ after) bytes e in (f, next, after, t.1.0, t.1.1, t.0.is)
 
 fault_by : (octets after : List ℕ) (version kind : ℕ) (rest : List ℕ) (x : FrameFault) (r : Result Frame FrameFault) → IsBytes rest → octets ≡ to_be_bytes w32 (2 + length rest) ++ (version ∷ kind ∷ (rest ++ after)) → 2 + length rest ≤ 8388608
     → Reading version kind rest r → r ≡ Err x → IsFault x octets

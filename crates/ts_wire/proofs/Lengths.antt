@@ -1,49 +1,19 @@
--- How long commands and questions are at most.
-use Rattle.std.proofs.Common.{◌≡◌, ℕ, zero, suc, ◌+◌, ◌*◌, ◌^◌, ◌<◌, ◌≤◌, ◌&&◌, Bool, true, false, List, [], ◌∷◌, ◌++◌, length, Option, Some, None, refl, sym, ap, ◌∙◌, arith, length-append}
+-- How long questions are at most.
+use Rattle.std.proofs.Common.{◌≡◌, ℕ, ◌^◌, ◌<◌, ◌≤◌, ◌&&◌, true, List, ◌++◌, length, Option, Some, None, arith, length-append}
 use Rattle.std.specs.Prelude.{nat_le, IfSome}
-use Rattle.std.specs.List.{flat_map, list_all, AllByRecursion}
+use Rattle.std.specs.List.{list_all}
 use Rattle.std.specs.Int.{w16, w32, w64, to_be_bytes}
 use Rattle.std.proofs.lemmas.Bool.{leb-true}
-use Rattle.std.proofs.lemmas.List.Concat.{flat_map-cons}
 use Rattle.ts_der.specs.ObjectIdentifier.{is_oid}
-use Rattle.ts_store.specs.Purposes.{is_ascending, ArePurposes}
-use Rattle.ts_store.specs.Commands.{blob8, purposes_encoding, fields, id_of, encoding, FieldsFit, Fits}
-use Rattle.ts_store.specs.declared.command.Command.{Command}
-use Rattle.ts_store.specs.declared.command.Command.TheVariants.{AddAnchor, WithdrawAnchor, LoadCrl, DropCrl, SetPurposes, Noop}
 use Rattle.ts_question.specs.declared.question.Target.{Target}
 use Rattle.ts_question.specs.declared.question.Target.TheVariants.{Chain, Search, Store, Log}
 use Rattle.ts_question.specs.declared.terms.Terms.{Terms}
-use Rattle.ts_question.specs.Parts.{blob16, blob32, optional}
+use Rattle.ts_codec.specs.Parts.{blob8, blob16, blob32, optional}
+use Rattle.ts_codec.proofs.Truths.{first_true, second_true, each_true, few_octets}
+use Rattle.ts_codec.proofs.Lengths.{parts_short, oids_short}
 use Rattle.ts_question.specs.Question.{Asked, are_subtrees, are_terms, are_certificates, is_target, policies_encoding, subtrees_encoding, certificates_encoding, terms_encoding, target_encoding, TermsFit, TargetFits}
 use Rattle.ts_question.specs.Question.{encoding as question_octets, Fits as QuestionFits}
-use Rattle.ts_question.proofs.Lengths.{first_true, second_true, is_short}
-use Rattle.ts_question.proofs.Fields.{all_from, Within, within_parts}
-
--- parts of at most so many octets each
-parts_short : {A : Type 0} (encode : A → List ℕ) (most : ℕ) (xs : List A) → AllByRecursion (λ x. length (encode x) ≤ most) xs → length (flat_map encode xs) ≤ most * length xs
-parts_short encode most [] short = omega arith
-parts_short encode most (x ∷ xs) short =
-    omega (arith, short.0, parts_short encode most xs short.1, length-append (encode x) (flat_map encode xs), ap length (flat_map-cons encode x xs))
-
-oids_short : (xs : List (List ℕ)) → list_all is_oid xs ≡ true → length (flat_map blob8 xs) ≤ 130 * length xs
-oids_short xs good = parts_short blob8 130 xs (all_from is_oid (λ c. length (blob8 c) ≤ 130) (λ c h. let k = is_short c h in omega (arith, k)) xs good)
-
-purposes_short : (p : Option (List (List ℕ))) → ArePurposes p → length (purposes_encoding p) ≤ 2100
-purposes_short None fit = omega arith
-purposes_short (Some xs) fit =
-    let n : length xs ≤ 16 = leb-true (length xs) 16 (first_true (nat_le (length xs) 16) (is_ascending xs) fit.0) in
-    omega (arith, n, oids_short xs fit.1)
-
-fields_short : (c : Command) → FieldsFit c → length (fields c) ≤ 4194320
-fields_short (AddAnchor id x) fit = omega (arith, fit)
-fields_short (WithdrawAnchor id x) fit = omega (arith, fit)
-fields_short (LoadCrl id x) fit = omega (arith, fit)
-fields_short (DropCrl id x) fit = omega (arith, fit)
-fields_short (SetPurposes id a p) fit = omega (arith, fit.0, purposes_short p fit.1, length-append a (purposes_encoding p))
-fields_short (Noop id) fit = omega arith
-
-pub command_short : (c : Command) → Fits c → length (encoding c) < 2 ^ 32
-command_short c fit = omega (arith, fit.id, fields_short c fit.fields, length-append (id_of c) (fields c))
+use Rattle.ts_question.proofs.Fields.{Within, within_parts}
 
 optional_short : {A : Type 0} (encode : A → List ℕ) (most : ℕ) (x : Option A) → IfSome x (λ y. length (encode y) ≤ most) → length (optional encode x) ≤ most
 optional_short encode most None short = omega arith
@@ -52,14 +22,14 @@ optional_short encode most (Some y) short = short
 subtrees_short : (xs : List (List ℕ)) → are_subtrees xs ≡ true → length (subtrees_encoding xs) ≤ 4194500
 subtrees_short xs good =
     let n : length xs ≤ 64 = leb-true (length xs) 64 (first_true (nat_le (length xs) 64) (list_all (λ s. nat_le (length s) 65535) xs) good) in
-    let each = all_from (λ s. nat_le (length s) 65535) (λ c. length (blob16 c) ≤ 65537) (λ c h. let k : length c ≤ 65535 = leb-true (length c) 65535 h in omega (arith, k)) xs (second_true (nat_le (length xs) 64) (list_all (λ s. nat_le (length s) 65535) xs) good) in
+    let each = each_true (λ s. nat_le (length s) 65535) (λ c. length (blob16 c) ≤ 65537) (λ c h. let k : length c ≤ 65535 = leb-true (length c) 65535 h in omega (arith, k)) xs (second_true (nat_le (length xs) 64) (list_all (λ s. nat_le (length s) 65535) xs) good) in
     omega (arith, n, parts_short blob16 65537 xs each)
 
 certificates_short : (most : ℕ) (xs : List (List ℕ)) → most ≤ 33 → are_certificates most xs ≡ true → length (certificates_encoding xs) ≤ 2163000
 certificates_short most xs few good =
     let so_many = first_true (nat_le 1 (length xs) && nat_le (length xs) most) (list_all (λ c. nat_le (length c) 65536) xs) good in
     let n : length xs ≤ most = leb-true (length xs) most (second_true (nat_le 1 (length xs)) (nat_le (length xs) most) so_many) in
-    let each = all_from (λ c. nat_le (length c) 65536) (λ c. length (blob32 c) ≤ 65540) (λ c h. let k : length c ≤ 65536 = leb-true (length c) 65536 h in omega (arith, k)) xs (second_true (nat_le 1 (length xs) && nat_le (length xs) most) (list_all (λ c. nat_le (length c) 65536) xs) good) in
+    let each = each_true (λ c. nat_le (length c) 65536) (λ c. length (blob32 c) ≤ 65540) (λ c h. let k : length c ≤ 65536 = leb-true (length c) 65536 h in omega (arith, k)) xs (second_true (nat_le 1 (length xs) && nat_le (length xs) most) (list_all (λ c. nat_le (length c) 65536) xs) good) in
     omega (arith, few, n, parts_short blob32 65540 xs each)
 
 purpose_short : (p : Option (List ℕ)) → IfSome p (λ c. is_oid c ≡ true) → IfSome p (λ c. length (blob8 c) ≤ 130)

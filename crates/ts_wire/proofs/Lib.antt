@@ -1,4 +1,3 @@
-pub mod CommandLaws
 pub mod FrameLaws
 pub mod Lengths
 pub mod Joins

@@ -11,7 +11,7 @@ use Rattle.std.proofs.lemmas.Nat.{from_be_bytes-to_be_bytes_4}
 use Rattle.ts_synod.specs.declared.message.Body.{Body}
 use Rattle.ts_synod.specs.declared.message.Body.TheVariants.{Prepare, Promise, Busy, Accept, Accepted, Ask, Give}
 use Rattle.ts_store.specs.declared.command.Command.{Command}
-use Rattle.ts_question.proofs.PartLaws.{IsBytes}
+use Rattle.ts_codec.proofs.Laws.{IsBytes, front_bytes, back_bytes}
 use Rattle.ts_wire.specs.Frames.{body_kind, kind_of, is_kind, fields, encoding, FieldsFit, Fits}
 use Rattle.ts_wire.specs.FrameReading.{fields_at, ended, frame_in}
 use Rattle.ts_wire.specs.Stream.{IsLength, IsPartial, Framed, IsCut, GoesOn, IsFault, Ends, Splits}
@@ -19,8 +19,7 @@ use Rattle.ts_wire.specs.declared.fault.FrameFault.{FrameFault}
 use Rattle.ts_wire.specs.declared.fault.FrameFault.TheVariants.{Length, Version, Kind, Field, Trailing}
 use Rattle.ts_wire.specs.declared.frame.Frame.{Frame}
 use Rattle.ts_wire.specs.declared.frame.Frame.TheVariants.{Peer, Submit, Question, Take, Outcome, CatchUp, Status, Compact, Done, Started, Settled, Answer, Unknown, NodeFault, FrameFault as FaultFrame, Prefix, Identify, Identity}
-use Rattle.ts_wire.proofs.FrameLaws.{fields_take, fields_again}
-use Rattle.ts_wire.proofs.Bodies.{back_bytes, front_bytes}
+use Rattle.ts_wire.proofs.FrameLaws.{frame_part}
 
 -- what is at the front of a stream
 pub data Next : Type 0 where
@@ -96,7 +95,7 @@ kind_is (Identity n m g) = refl
 frame_again : (f : Frame) → Fits f → frame_in (2 ∷ kind_of f ∷ fields f) ≡ Ok f
 unfolding frame_in
 frame_again f fit =
-    let e : fields_at (kind_of f) (fields f) ≡ Some (f, []) = ap (fields_at (kind_of f)) (sym (append-nil (fields f))) ∙ fields_again f [] fit.ranges (omega (arith, fit.short)) in
+    let e : fields_at (kind_of f) (fields f) ≡ Some (f, []) = ap (fields_at (kind_of f)) (sym (append-nil (fields f))) ∙ (frame_part (kind_of f)).again f [] (fit.ranges, refl) in
     ap (λ b. cond b (ended (fields_at (kind_of f) (fields f))) (Err Kind)) (kind_is f) ∙ ap ended e
 
 pub next_frame : (f : Frame) (after : List ℕ) → Fits f → next (encoding f ++ after) ≡ frame f after
@@ -149,8 +148,7 @@ next_fault Kind octets f = inl (framed_at octets 2 f.0 f.1 Kind f.2 (ap (λ b. c
 next_fault Field octets f = inr refl
 next_fault Trailing octets f =
     let g = f.4 in
-    let short : length (fields g.0) ≤ 8388606 = omega (arith, f.2.short, ap length g.5, length-append (fields g.0) (g.1 ∷ g.2)) in
-    let e : fields_at f.0 f.1 ≡ Some (g.0, g.1 ∷ g.2) = ap (λ l. fields_at f.0 l) g.5 ∙ ap (λ k. fields_at k (fields g.0 ++ g.1 ∷ g.2)) (sym g.4) ∙ fields_again g.0 (g.1 ∷ g.2) g.3 short in
+    let e : fields_at f.0 f.1 ≡ Some (g.0, g.1 ∷ g.2) = ap (λ l. fields_at f.0 l) g.5 ∙ (frame_part f.0).again g.0 (g.1 ∷ g.2) (g.3, g.4) in
     inl (framed_at octets 2 f.0 f.1 Trailing f.2 (ap (λ b. cond b (ended (fields_at f.0 f.1)) (Err Kind)) f.3 ∙ ap ended e ∙ ap (λ b. cond b (Ok g.0) (Err Trailing)) (eqb-suc-zero (length g.2))))
 
 -- where Field stands, fields are looked into

@@ -8,10 +8,11 @@ use Rattle.ts_synod.specs.declared.message.Body.TheVariants.{Accepted, Ask, Give
 use Rattle.ts_synod.specs.declared.message.Vote.{Vote}
 use Rattle.ts_store.specs.declared.command.Command.{Command}
 use Rattle.ts_store.specs.Commands.{encoding as command_octets, Fits as CommandFits}
-use Rattle.ts_question.specs.Parts.{blob32}
+use Rattle.ts_codec.specs.Parts.{blob32}
+use Rattle.ts_codec.specs.Ranges.{is_node, is_position, is_ballot}
 use Rattle.ts_question.specs.Question.{encoding as question_octets, Fits as QuestionFits}
 use Rattle.ts_question.specs.Reply.{encoding as answer_octets, Fits as AnswerFits}
-use Rattle.ts_wire.specs.Outcomes.{is_node, is_position, is_ballot, outcome_encoding, OutcomeFits}
+use Rattle.ts_wire.specs.Outcomes.{outcome_encoding, OutcomeFits}
 use Rattle.ts_wire.specs.Outcomes.{node_fault_code, frame_fault_code}
 use Rattle.ts_wire.specs.declared.frame.Frame.{Frame}
 use Rattle.ts_wire.specs.declared.frame.Frame.TheVariants.{Peer, Submit, Question, Take, Outcome}

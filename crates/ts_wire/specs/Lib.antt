@@ -1,4 +1,3 @@
-pub mod Commands
 pub mod Outcomes
 pub mod Frames
 pub mod FrameReading

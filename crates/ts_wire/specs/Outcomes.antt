@@ -1,6 +1,7 @@
 -- Outcomes of commands and codes of faults in frames.
-use Rattle.std.specs.Prelude.{◌≡◌, ◌&&◌, ◌%◌, ℕ, Bool, true, nat_le, nat_lt, List, [], ◌∷◌}
+use Rattle.std.specs.Prelude.{◌≡◌, ℕ, true, List, [], ◌∷◌}
 use Rattle.std.specs.Int.{to_be_bytes, w32}
+use Rattle.ts_codec.specs.Ranges.{is_position}
 use Rattle.ts_store.specs.declared.outcome.Outcome.{Outcome}
 use Rattle.ts_store.specs.declared.outcome.Outcome.TheVariants.{Applied, Repeated, Refused}
 use Rattle.ts_store.specs.declared.outcome.Refusal.{Refusal}
@@ -15,18 +16,6 @@ use Rattle.ts_wire.specs.declared.fault.NodeFault.TheVariants.{GenerationsExhaus
 use Rattle.ts_wire.specs.declared.fault.FrameFault.{FrameFault}
 use Rattle.ts_wire.specs.declared.fault.FrameFault.TheVariants.{Length, Version, Kind, Field}
 use Rattle.ts_wire.specs.declared.fault.FrameFault.TheVariants.{Trailing}
-
--- a node's number is 1 to 9
-abbrev pub is_node : ℕ → Bool
-is_node n = nat_le 1 n && nat_le n 9
-
--- a position is 1 to 1,000,000
-abbrev pub is_position : ℕ → Bool
-is_position n = nat_le 1 n && nat_le n 1000000
-
--- 16 times a round of at least 1, and a node in the low four bits; below 2^36
-abbrev pub is_ballot : ℕ → Bool
-is_ballot b = nat_le 16 b && nat_lt b 68719476736 && is_node (b % 16)
 
 abbrev pub refusal_code : Refusal → ℕ
 refusal_code AnchorThere = 1

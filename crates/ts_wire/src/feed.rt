@@ -16,7 +16,7 @@ use crate::wire_error::FeedError;
 use crate::writing::MAX_LENGTH;
 use std::alloc::{AllocError, Global};
 use std::marker::Model;
-use ts_question::ReadFault;
+use ts_codec::ReadFault;
 
 fn is_kind(kind: u8) -> bool
     ensures { result ≡ is_kind kind }

@@ -1,77 +1,66 @@
 //! The fields of frames are read.
 
-ghost use Rattle.std.specs.Prelude.{◌≡◌, IfOk};
-ghost use Rattle.ts_question.specs.Reading.{Gives, lookup, whole, octets_at};
+ghost use Rattle.std.specs.Prelude.{◌≡◌};
+ghost use Rattle.ts_codec.specs.Reading.{Gives, lookup, within_blob_at};
 ghost use Rattle.ts_question.specs.QuestionReading.{question_at};
-ghost use Rattle.ts_wire.specs.Commands.{parsed};
-ghost use Rattle.ts_wire.specs.FrameReading.{blob_command_at, blob_question_at, vote_at, taken_at};
-ghost use Rattle.ts_wire.specs.FrameReading.{peer, prepare_at, promise_at, busy_at, accept_at};
-ghost use Rattle.ts_wire.specs.FrameReading.{accepted_at, ask_at, give_at, submit_at, asked_at};
-ghost use Rattle.ts_wire.specs.FrameReading.{inquiry_at, done_at, started_at, refusals};
-ghost use Rattle.ts_wire.specs.FrameReading.{repeated_at, refused_at, outcome_at, settled_at};
-ghost use Rattle.ts_wire.specs.FrameReading.{replied_at, node_faults, node_fault_at, frame_faults};
-ghost use Rattle.ts_wire.specs.FrameReading.{frame_fault_at, known_at, identity_at, fields_at};
+ghost use Rattle.ts_wire.specs.FrameReading.{blob_command_at, vote_at, taken_at, peer, prepare_at};
+ghost use Rattle.ts_wire.specs.FrameReading.{promise_at, busy_at, accept_at, accepted_at, ask_at};
+ghost use Rattle.ts_wire.specs.FrameReading.{give_at, started_at, refusals, refused_at, outcome_at};
+ghost use Rattle.ts_wire.specs.FrameReading.{settled_at, node_faults, frame_faults, identity_at};
+ghost use Rattle.ts_wire.specs.FrameReading.{fields_at};
 
 use crate::fault::{FrameFault, NodeFault};
 use crate::frame::Frame;
-use crate::route::{Route, ballot, head, node, place};
-use std::alloc::{AllocError, Global};
-use ts_question::parts::{blob32, number32, octet};
-use ts_question::{Answer, MAX_POSITION, Question, ReadFault};
+use crate::route::{Route, head};
+use std::alloc::Global;
+use ts_codec::ReadFault;
+use ts_codec::reading::{ballot, blob32, id, node, number32, octet, position, prefix};
+use ts_question::{Answer, Question};
 use ts_store::{Command, Outcome, Refusal};
 use ts_synod::{Body, Message, Vote};
 
-fn parsed_command(alloc: Global, octets: &[u8]) -> Result<Option<Command>, AllocError>
-    ensures { IfOk result (λ found. found ≡ parsed octets.now) }
-{
-    Command::read(alloc, octets)
-}
-
-fn parsed_question(alloc: Global, octets: &[u8]) -> Result<Option<Question>, AllocError>
-    ensures { IfOk result (λ found. found ≡ whole (question_at octets.now)) }
-{
-    Question::read(alloc, octets)
-}
-
-#[tactic(auto, unfolding(crate::specs::FrameReading::blob_command_at))]
+#[tactic(auto, unfolding(crate::specs::FrameReading::blob_command_at, ts_codec::specs::Reading::within_blob_at))]
 fn command(alloc: Global, octets: &[u8]) -> Result<(Command, &[u8]), ReadFault>
     ensures { Gives (λ x. (x.0, x.1.now)) result (blob_command_at octets.now) }
 {
     let (content, rest) = blob32(octets)?;
-    match parsed_command(alloc, content)? {
+    match Command::read(alloc, content)? {
         Some(command) => Ok((command, rest)),
         None => Err(ReadFault::Form),
     }
 }
 
-#[tactic(auto, unfolding(crate::specs::FrameReading::blob_question_at))]
+#[tactic(auto, unfolding(ts_codec::specs::Reading::within_blob_at))]
 fn question(alloc: Global, octets: &[u8]) -> Result<(Question, &[u8]), ReadFault>
-    ensures { Gives (λ x. (x.0, x.1.now)) result (blob_question_at octets.now) }
+    ensures { Gives (λ x. (x.0, x.1.now)) result (within_blob_at question_at octets.now) }
 {
     let (content, rest) = blob32(octets)?;
-    match parsed_question(alloc, content)? {
+    match Question::read(alloc, content)? {
         Some(question) => Ok((question, rest)),
         None => Err(ReadFault::Form),
     }
 }
 
 #[tactic(auto, unfolding(crate::specs::FrameReading::vote_at))]
-fn vote(alloc: Global, octets: &[u8]) -> Result<(Option<Vote<Command>>, &[u8]), ReadFault>
+fn vote(alloc: Global, octets: &[u8]) -> Result<(Vote<Command>, &[u8]), ReadFault>
     ensures { Gives (λ x. (x.0, x.1.now)) result (vote_at octets.now) }
 {
     let (ballot, rest) = ballot(octets)?;
     let (command, rest) = command(alloc, rest)?;
-    Ok((Some(Vote { ballot, command }), rest))
+    Ok((Vote { ballot, command }, rest))
 }
 
-#[tactic(auto, unfolding(crate::specs::FrameReading::taken_at))]
+#[tactic(auto, unfolding(crate::specs::FrameReading::taken_at, ts_codec::specs::Reading::of_kind))]
 fn taken(alloc: Global, octets: &[u8]) -> Result<(Option<Vote<Command>>, &[u8]), ReadFault>
     ensures { Gives (λ x. (x.0, x.1.now)) result (taken_at octets.now) }
 {
     let (flag, rest) = octet(octets)?;
     match flag {
         0 => Ok((None, rest)),
-        1 => vote(alloc, rest),
+        1 => {
+            let (vote, rest) = vote(alloc, rest)?;
+            Ok((Some(vote), rest))
+        }
         _ => Err(ReadFault::Form),
     }
 }
@@ -177,57 +166,11 @@ fn give(alloc: Global, octets: &[u8]) -> Result<(Frame, &[u8]), ReadFault>
     Ok((peer(route, Body::Give { position, command }), rest))
 }
 
-#[tactic(auto, unfolding(crate::specs::FrameReading::submit_at))]
-fn submit(alloc: Global, octets: &[u8]) -> Result<(Frame, &[u8]), ReadFault>
-    ensures { Gives (λ x. (x.0, x.1.now)) result (submit_at octets.now) }
-{
-    let (command, rest) = command(alloc, octets)?;
-    Ok((Frame::Submit { command }, rest))
-}
-
-#[tactic(auto, unfolding(crate::specs::FrameReading::asked_at))]
-fn asked(alloc: Global, octets: &[u8]) -> Result<(Frame, &[u8]), ReadFault>
-    ensures { Gives (λ x. (x.0, x.1.now)) result (asked_at octets.now) }
-{
-    let (question, rest) = question(alloc, octets)?;
-    Ok((Frame::Question { question }, rest))
-}
-
-/// The 16 octets of a command's id.
-fn id(octets: &[u8]) -> Result<([u8; 16], &[u8]), ReadFault>
-    ensures { Gives (λ x. (x.0, x.1.now)) result (octets_at 16 octets.now) }
-{
-    if octets.len() < 16 {
-        return Err(ReadFault::Form);
-    }
-    let (front, rest) = octets.split_at(16);
-    match <[u8; 16]>::try_from(front) {
-        Ok(id) => Ok((id, rest)),
-        Err(_) => Err(ReadFault::Form),
-    }
-}
-
-#[tactic(auto, unfolding(crate::specs::FrameReading::inquiry_at))]
-fn inquiry(octets: &[u8]) -> Result<(Frame, &[u8]), ReadFault>
-    ensures { Gives (λ x. (x.0, x.1.now)) result (inquiry_at octets.now) }
-{
-    let (id, rest) = id(octets)?;
-    Ok((Frame::Outcome { id }, rest))
-}
-
-#[tactic(auto, unfolding(crate::specs::FrameReading::done_at))]
-fn done(octets: &[u8]) -> Result<(Frame, &[u8]), ReadFault>
-    ensures { Gives (λ x. (x.0, x.1.now)) result (done_at octets.now) }
-{
-    let (count, rest) = number32(octets)?;
-    Ok((Frame::Done { count }, rest))
-}
-
 #[tactic(auto, unfolding(crate::specs::FrameReading::started_at))]
 fn started(octets: &[u8]) -> Result<(Frame, &[u8]), ReadFault>
     ensures { Gives (λ x. (x.0, x.1.now)) result (started_at octets.now) }
 {
-    let (position, rest) = place(octets)?;
+    let (position, rest) = position(octets)?;
     let (ballot, rest) = ballot(rest)?;
     Ok((Frame::Started { position, ballot }, rest))
 }
@@ -250,15 +193,7 @@ fn refusal(code: u8) -> Option<Refusal>
     })
 }
 
-#[tactic(auto, unfolding(crate::specs::FrameReading::repeated_at))]
-fn repeated(octets: &[u8]) -> Result<(Outcome, &[u8]), ReadFault>
-    ensures { Gives (λ x. (x.0, x.1.now)) result (repeated_at octets.now) }
-{
-    let (position, rest) = place(octets)?;
-    Ok((Outcome::Repeated(position), rest))
-}
-
-#[tactic(auto, unfolding(crate::specs::FrameReading::refused_at))]
+#[tactic(auto, unfolding(crate::specs::FrameReading::refused_at, ts_codec::specs::Reading::code_at))]
 fn refused(octets: &[u8]) -> Result<(Outcome, &[u8]), ReadFault>
     ensures { Gives (λ x. (x.0, x.1.now)) result (refused_at octets.now) }
 {
@@ -269,14 +204,17 @@ fn refused(octets: &[u8]) -> Result<(Outcome, &[u8]), ReadFault>
     }
 }
 
-#[tactic(auto, unfolding(crate::specs::FrameReading::outcome_at))]
+#[tactic(auto, unfolding(crate::specs::FrameReading::outcome_at, ts_codec::specs::Reading::of_kind))]
 fn outcome(octets: &[u8]) -> Result<(Outcome, &[u8]), ReadFault>
     ensures { Gives (λ x. (x.0, x.1.now)) result (outcome_at octets.now) }
 {
     let (form, rest) = octet(octets)?;
     match form {
         0 => Ok((Outcome::Applied, rest)),
-        1 => repeated(rest),
+        1 => {
+            let (position, rest) = position(rest)?;
+            Ok((Outcome::Repeated(position), rest))
+        }
         2 => refused(rest),
         _ => Err(ReadFault::Form),
     }
@@ -286,17 +224,9 @@ fn outcome(octets: &[u8]) -> Result<(Outcome, &[u8]), ReadFault>
 fn settled(octets: &[u8]) -> Result<(Frame, &[u8]), ReadFault>
     ensures { Gives (λ x. (x.0, x.1.now)) result (settled_at octets.now) }
 {
-    let (position, rest) = place(octets)?;
+    let (position, rest) = position(octets)?;
     let (outcome, rest) = outcome(rest)?;
     Ok((Frame::Settled { position, outcome }, rest))
-}
-
-#[tactic(auto, unfolding(crate::specs::FrameReading::replied_at))]
-fn replied(alloc: Global, octets: &[u8]) -> Result<(Frame, &[u8]), ReadFault>
-    ensures { Gives (λ x. (x.0, x.1.now)) result (replied_at octets.now) }
-{
-    let (answer, rest) = Answer::read_front(alloc, octets)?;
-    Ok((Frame::Answer { answer }, rest))
 }
 
 fn node_fault_of(code: u8) -> Option<NodeFault>
@@ -313,9 +243,9 @@ fn node_fault_of(code: u8) -> Option<NodeFault>
     })
 }
 
-#[tactic(auto, unfolding(crate::specs::FrameReading::node_fault_at))]
+#[tactic(auto, unfolding(crate::specs::FrameReading::fields_at, ts_codec::specs::Reading::of_kind, ts_codec::specs::Reading::code_at))]
 fn node_fault(octets: &[u8]) -> Result<(Frame, &[u8]), ReadFault>
-    ensures { Gives (λ x. (x.0, x.1.now)) result (node_fault_at octets.now) }
+    ensures { Gives (λ x. (x.0, x.1.now)) result (fields_at 0x25 octets.now) }
 {
     let (code, rest) = octet(octets)?;
     match node_fault_of(code) {
@@ -337,26 +267,15 @@ fn frame_fault_of(code: u8) -> Option<FrameFault>
     })
 }
 
-#[tactic(auto, unfolding(crate::specs::FrameReading::frame_fault_at))]
+#[tactic(auto, unfolding(crate::specs::FrameReading::fields_at, ts_codec::specs::Reading::of_kind, ts_codec::specs::Reading::code_at))]
 fn frame_fault(octets: &[u8]) -> Result<(Frame, &[u8]), ReadFault>
-    ensures { Gives (λ x. (x.0, x.1.now)) result (frame_fault_at octets.now) }
+    ensures { Gives (λ x. (x.0, x.1.now)) result (fields_at 0x26 octets.now) }
 {
     let (code, rest) = octet(octets)?;
     match frame_fault_of(code) {
         Some(fault) => Ok((Frame::FrameFault { fault }, rest)),
         None => Err(ReadFault::Form),
     }
-}
-
-#[tactic(auto, unfolding(crate::specs::FrameReading::known_at, ts_question::specs::QuestionReading::position_at))]
-fn known(octets: &[u8]) -> Result<(Frame, &[u8]), ReadFault>
-    ensures { Gives (λ x. (x.0, x.1.now)) result (known_at octets.now) }
-{
-    let (prefix, rest) = number32(octets)?;
-    if prefix > MAX_POSITION {
-        return Err(ReadFault::Form);
-    }
-    Ok((Frame::Prefix { prefix }, rest))
 }
 
 #[tactic(auto, unfolding(crate::specs::FrameReading::identity_at))]
@@ -374,8 +293,56 @@ fn identity(octets: &[u8]) -> Result<(Frame, &[u8]), ReadFault>
     Ok((identity, rest))
 }
 
+#[tactic(auto, unfolding(crate::specs::FrameReading::fields_at, ts_codec::specs::Reading::of_kind))]
+fn submit(alloc: Global, octets: &[u8]) -> Result<(Frame, &[u8]), ReadFault>
+    ensures { Gives (λ x. (x.0, x.1.now)) result (fields_at 0x10 octets.now) }
+{
+    let (command, rest) = command(alloc, octets)?;
+    Ok((Frame::Submit { command }, rest))
+}
+
+#[tactic(auto, unfolding(crate::specs::FrameReading::fields_at, ts_codec::specs::Reading::of_kind))]
+fn asked(alloc: Global, octets: &[u8]) -> Result<(Frame, &[u8]), ReadFault>
+    ensures { Gives (λ x. (x.0, x.1.now)) result (fields_at 0x11 octets.now) }
+{
+    let (question, rest) = question(alloc, octets)?;
+    Ok((Frame::Question { question }, rest))
+}
+
+#[tactic(auto, unfolding(crate::specs::FrameReading::fields_at, ts_codec::specs::Reading::of_kind))]
+fn inquiry(octets: &[u8]) -> Result<(Frame, &[u8]), ReadFault>
+    ensures { Gives (λ x. (x.0, x.1.now)) result (fields_at 0x13 octets.now) }
+{
+    let (id, rest) = id(octets)?;
+    Ok((Frame::Outcome { id }, rest))
+}
+
+#[tactic(auto, unfolding(crate::specs::FrameReading::fields_at, ts_codec::specs::Reading::of_kind))]
+fn done(octets: &[u8]) -> Result<(Frame, &[u8]), ReadFault>
+    ensures { Gives (λ x. (x.0, x.1.now)) result (fields_at 0x20 octets.now) }
+{
+    let (count, rest) = number32(octets)?;
+    Ok((Frame::Done { count }, rest))
+}
+
+#[tactic(auto, unfolding(crate::specs::FrameReading::fields_at, ts_codec::specs::Reading::of_kind))]
+fn replied(alloc: Global, octets: &[u8]) -> Result<(Frame, &[u8]), ReadFault>
+    ensures { Gives (λ x. (x.0, x.1.now)) result (fields_at 0x23 octets.now) }
+{
+    let (answer, rest) = Answer::read_front(alloc, octets)?;
+    Ok((Frame::Answer { answer }, rest))
+}
+
+#[tactic(auto, unfolding(crate::specs::FrameReading::fields_at, ts_codec::specs::Reading::of_kind))]
+fn known(octets: &[u8]) -> Result<(Frame, &[u8]), ReadFault>
+    ensures { Gives (λ x. (x.0, x.1.now)) result (fields_at 0x27 octets.now) }
+{
+    let (prefix, rest) = prefix(octets)?;
+    Ok((Frame::Prefix { prefix }, rest))
+}
+
 /// The fields of a frame of this kind, and what follows them.
-#[tactic(auto, unfolding(crate::specs::FrameReading::fields_at))]
+#[tactic(auto, unfolding(crate::specs::FrameReading::fields_at, ts_codec::specs::Reading::of_kind))]
 pub(crate) fn fields(alloc: Global, kind: u8, octets: &[u8]) -> Result<(Frame, &[u8]), ReadFault>
     ensures { Gives (λ x. (x.0, x.1.now)) result (fields_at kind octets.now) }
 {

@@ -2,7 +2,7 @@
 
 ghost use Rattle.std.specs.Prelude.{◌≡◌, ◌≤◌, ◌<◌, ◌+◌, ◌++◌, ◌∷◌, length, IfOk, OnOk, OnErr, Err};
 ghost use Rattle.std.specs.Int.{to_be_bytes, w32, w64};
-ghost use Rattle.ts_question.specs.Parts.{blob32};
+ghost use Rattle.ts_codec.specs.Parts.{blob32};
 ghost use Rattle.ts_store.specs.Commands.{encoding as command_octets};
 ghost use Rattle.ts_question.specs.Question.{encoding as question_octets};
 ghost use Rattle.ts_wire.specs.Outcomes.{refusal_code, outcome_encoding};
@@ -13,26 +13,13 @@ ghost use Rattle.ts_wire.specs.declared.wire_error.WriteError.TheVariants.{Lengt
 use crate::frame::Frame;
 use crate::wire_error::WriteError;
 use std::alloc::{AllocError, Global};
-use ts_question::{Question, push_blob32};
+use ts_codec::writing::{push_blob32, push_number32, push_number64};
+use ts_question::Question;
 use ts_store::{Command, Outcome, Refusal};
-use ts_synod::{Ballot, Body, Vote};
+use ts_synod::{Body, Vote};
 
 /// The most octets after a frame's length.
 pub const MAX_LENGTH: usize = 8_388_608;
-
-fn push_number(out: &mut Vec<u8>, number: u32) -> Result<(), AllocError>
-    ensures { OnOk result (out.new.items ≡ out.old.items ++ to_be_bytes w32 number) }
-{
-    out.extend_from_slice(&number.to_be_bytes())?;
-    Ok(())
-}
-
-fn push_ballot(out: &mut Vec<u8>, ballot: Ballot) -> Result<(), AllocError>
-    ensures { OnOk result (out.new.items ≡ out.old.items ++ to_be_bytes w64 ballot) }
-{
-    out.extend_from_slice(&ballot.to_be_bytes())?;
-    Ok(())
-}
 
 fn push_command(alloc: Global, out: &mut Vec<u8>, command: &Command) -> Result<(), AllocError>
     ensures { OnOk result (out.new.items ≡ out.old.items ++ blob32 (command_octets command.now)) }
@@ -61,7 +48,7 @@ fn push_taken(
         None => out.push(0)?,
         Some(vote) => {
             out.push(1)?;
-            push_ballot(out, vote.ballot)?;
+            push_number64(out, vote.ballot)?;
             push_command(alloc, out, &vote.command)?;
         }
     }
@@ -88,16 +75,16 @@ fn push_body(alloc: Global, out: &mut Vec<u8>, body: &Body<Command>) -> Result<(
 {
     match body {
         Body::Prepare { position, ballot } => {
-            push_number(out, *position)?;
-            push_ballot(out, *ballot)?;
+            push_number32(out, *position)?;
+            push_number64(out, *ballot)?;
         }
         Body::Promise {
             position,
             ballot,
             taken,
         } => {
-            push_number(out, *position)?;
-            push_ballot(out, *ballot)?;
+            push_number32(out, *position)?;
+            push_number64(out, *ballot)?;
             push_taken(alloc, out, taken)?;
         }
         Body::Busy {
@@ -105,17 +92,17 @@ fn push_body(alloc: Global, out: &mut Vec<u8>, body: &Body<Command>) -> Result<(
             ballot,
             promised,
         } => {
-            push_number(out, *position)?;
-            push_ballot(out, *ballot)?;
-            push_ballot(out, *promised)?;
+            push_number32(out, *position)?;
+            push_number64(out, *ballot)?;
+            push_number64(out, *promised)?;
         }
         Body::Accept {
             position,
             ballot,
             command,
         } => {
-            push_number(out, *position)?;
-            push_ballot(out, *ballot)?;
+            push_number32(out, *position)?;
+            push_number64(out, *ballot)?;
             push_command(alloc, out, command)?;
         }
         Body::Accepted {
@@ -123,13 +110,13 @@ fn push_body(alloc: Global, out: &mut Vec<u8>, body: &Body<Command>) -> Result<(
             ballot,
             command,
         } => {
-            push_number(out, *position)?;
-            push_ballot(out, *ballot)?;
+            push_number32(out, *position)?;
+            push_number64(out, *ballot)?;
             push_command(alloc, out, command)?;
         }
-        Body::Ask { position } => push_number(out, *position)?,
+        Body::Ask { position } => push_number32(out, *position)?,
         Body::Give { position, command } => {
-            push_number(out, *position)?;
+            push_number32(out, *position)?;
             push_command(alloc, out, command)?;
         }
     }
@@ -160,7 +147,7 @@ fn push_outcome(out: &mut Vec<u8>, outcome: Outcome) -> Result<(), AllocError>
         Outcome::Applied => out.push(0)?,
         Outcome::Repeated(position) => {
             out.push(1)?;
-            push_number(out, position)?;
+            push_number32(out, position)?;
         }
         Outcome::Refused(refusal) => {
             out.push(2)?;
@@ -208,23 +195,23 @@ fn push_fields(alloc: Global, out: &mut Vec<u8>, frame: &Frame) -> Result<(), Al
         Frame::Submit { command } => push_command(alloc, out, command)?,
         Frame::Question { question } => push_question(alloc, out, question)?,
         Frame::Outcome { id } => out.extend_from_slice(id)?,
-        Frame::Done { count } => push_number(out, *count)?,
+        Frame::Done { count } => push_number32(out, *count)?,
         Frame::Started { position, ballot } => {
-            push_number(out, *position)?;
-            push_ballot(out, *ballot)?;
+            push_number32(out, *position)?;
+            push_number64(out, *ballot)?;
         }
         Frame::Settled { position, outcome } => {
-            push_number(out, *position)?;
+            push_number32(out, *position)?;
             push_outcome(out, *outcome)?;
         }
         Frame::Answer { answer } => answer.write(out)?,
         Frame::NodeFault { fault } => out.push(fault.code())?,
         Frame::FrameFault { fault } => out.push(fault.code())?,
-        Frame::Prefix { prefix } => push_number(out, *prefix)?,
+        Frame::Prefix { prefix } => push_number32(out, *prefix)?,
         Frame::Identity { node, nodes, group } => {
             out.push(*node)?;
             out.push(*nodes)?;
-            push_number(out, *group)?;
+            push_number32(out, *group)?;
         }
         Frame::Take
         | Frame::CatchUp

@@ -1,6 +1,6 @@
 use Rattle.std.proofs.lemmas.Result.{err_from_is_err_and}
-use Rattle.ts_question.specs.Reading.{many_at, blob16_at}
-use Rattle.ts_question.proofs.Loop.{goes_on, ends, is_done}
+use Rattle.ts_codec.specs.Reading.{many_at, blob16_at}
+use Rattle.ts_codec.proofs.Loops.{goes_on, ends, is_done}
 use Rattle.ts_question.proofs.reading.subtrees_of.Goals as goal
 
 pub returns-in_err-content : goal.returns-in_err-content

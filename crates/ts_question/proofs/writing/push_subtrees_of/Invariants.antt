@@ -1,6 +1,6 @@
 use Rattle.std.proofs.Common.{◌≡◌, ◌++◌, take, map}
 use Rattle.std.specs.List.{flat_map}
-use Rattle.ts_question.specs.Parts.{blob16}
+use Rattle.ts_codec.specs.Parts.{blob16}
 use Rattle.ts_question.proofs.writing.push_subtrees_of.Given as goal
 
 abbrev pub invariant-loop-subtree : goal.invariant-loop-subtree

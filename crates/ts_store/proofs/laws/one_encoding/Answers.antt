@@ -1,4 +1,4 @@
-use Rattle.ts_store.proofs.Fields.{one_command}
+use Rattle.ts_store.proofs.OneEncoding.{one_command}
 use Rattle.ts_store.proofs.laws.one_encoding.Goals as goal
 
 pub returns-clause-command : goal.returns-clause-command

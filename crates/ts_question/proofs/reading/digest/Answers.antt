@@ -1,5 +1,0 @@
-use Rattle.std.proofs.Common.{length-take, arith}
-use Rattle.ts_question.proofs.reading.digest.Goals as goal
-
-pub returns-in-Err : goal.returns-in-Err
-returns-in-Err c = absurd (c.in-Err.ensures.1 (omega (arith, length-take 32 c.args.octets.now)))

@@ -1,8 +1,0 @@
-use Rattle.std.proofs.Common.{◌≡◌, ◌-◌}
-use Rattle.ts_question.specs.Reading.{many_at}
-use Rattle.ts_question.specs.QuestionReading.{oid_at}
-use Rattle.ts_question.proofs.Loop.{with_front}
-use Rattle.ts_question.proofs.reading.oids.Given as goal
-
-abbrev pub invariant-loop : goal.invariant-loop
-invariant-loop l = with_front l.oids.items (many_at oid_at (l.count - l.counter) l.rest) ≡ many_at oid_at l.count l.octets

@@ -1,7 +1,0 @@
-use Rattle.std.proofs.Common.{◌≡◌, ◌++◌, take}
-use Rattle.std.specs.List.{flat_map}
-use Rattle.ts_store.specs.Commands.{blob8}
-use Rattle.ts_store.proofs.writing.push_oids.Given as goal
-
-abbrev pub invariant-loop-oid : goal.invariant-loop-oid
-invariant-loop-oid l = l.out.items ≡ l.fn.out.items ++ flat_map blob8 (take l.oid-index l.oids)
