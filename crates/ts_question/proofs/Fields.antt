@@ -1,14 +1,13 @@
 -- The fields of a question, and the question, are read in one way.
-use Rattle.std.proofs.Common.{◌≡◌, ℕ, ℤ, zero, suc, ◌+◌, ◌*◌, ◌/◌, ◌%◌, ◌^◌, ◌<◌, ◌≤◌, ◌==◌, ◌&&◌, Bool, true, false, cond, List, [], ◌∷◌, ◌++◌, length, Option, Some, None, refl, sym, ap, subst, ◌∙◌, append_assoc, arith}
+use Rattle.std.proofs.Common.{◌≡◌, ℕ, ℤ, zero, suc, ◌+◌, ◌*◌, ◌/◌, ◌%◌, ◌^◌, ◌<◌, ◌≤◌, ◌==◌, ◌&&◌, Bool, true, false, cond, List, [], ◌∷◌, ◌++◌, length, Option, Some, None, refl, sym, ap, ◌∙◌, append_assoc, arith}
 use Rattle.std.specs.Prelude.{IfSome, is_some, nat_le, nat_lt}
-use Rattle.std.specs.List.{flat_map, list_all, AllByRecursion}
-use Rattle.std.specs.Int.{w16, w32, w64, to_be_bytes, cast_unsigned}
-use Rattle.std.specs.Int.RustNames.{FitsSigned}
+use Rattle.std.specs.List.{list_all, AllByRecursion}
+use Rattle.std.specs.Int.{w32, w64, to_be_bytes, cast_unsigned}
 use Rattle.std.proofs.lemmas.Bool.{ltb-true, lt-ltb, leb-true, le-leb}
 use Rattle.ts_der.specs.ObjectIdentifier.{is_oid}
-use Rattle.ts_codec.specs.Parts.{bits, blob8, blob16, blob32, optional}
+use Rattle.ts_codec.specs.Parts.{bits, blob8, optional}
 use Rattle.ts_codec.specs.Ranges.{is_prefix, is_short}
-use Rattle.ts_codec.specs.Reading.{◌>>=◌, provided, ◌that◌, ◌and◌, ◌then◌, ◌into◌, lookup, octet_at, number_at, octets_at, signed_at, oid_at, prefix_at, optional_at, of_kind}
+use Rattle.ts_codec.specs.Reading.{◌>>=◌, ◌and◌, ◌into◌, lookup, octets_at, oid_at, prefix_at, optional_at, of_kind}
 use Rattle.ts_codec.proofs.Truths.{first_true, second_true, both_true, all_true, each_true}
 use Rattle.ts_codec.proofs.Laws.{IsBytes, Takes, Part, answer, step, made, one}
 use Rattle.ts_codec.proofs.Numbers.{octet_part, any_octet, number16, octets_part}

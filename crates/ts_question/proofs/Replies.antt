@@ -1,25 +1,23 @@
 -- The fields of an answer, and the answer, are read in one way.
-use Rattle.std.proofs.Common.{◌≡◌, ℕ, ◌^◌, ◌<◌, ◌≤◌, ◌==◌, ◌&&◌, Bool, true, List, [], ◌∷◌, ◌++◌, length, Option, Some, None, refl, sym, ap, subst, arith}
+use Rattle.std.proofs.Common.{◌≡◌, ℕ, ◌^◌, ◌<◌, ◌≤◌, ◌==◌, ◌&&◌, true, List, [], ◌∷◌, ◌++◌, length, Some, refl, sym, ap, subst, arith}
 use Rattle.std.specs.Prelude.{nat_le, nat_lt, slice_index, ◌-◌}
-use Rattle.std.specs.List.{flat_map, list_all, AllByRecursion}
+use Rattle.std.specs.List.{list_all, AllByRecursion}
 use Rattle.std.specs.Int.{w32, to_be_bytes}
 use Rattle.std.proofs.lemmas.Bool.{eqb-true, ltb-true, lt-ltb, leb-true}
 use Rattle.ts_der.specs.ObjectIdentifier.{is_oid}
 use Rattle.ts_codec.specs.Parts.{blob8}
 use Rattle.ts_codec.specs.Ranges.{is_prefix}
-use Rattle.ts_codec.specs.Reading.{◌>>=◌, ◌that◌, ◌and◌, ◌then◌, ◌into◌, bare, tag_at, octet_at, number_at, octets_at, blob8_at, oid_at, prefix_at, many_at, lookup, by_kind}
+use Rattle.ts_codec.specs.Reading.{◌>>=◌, ◌that◌, ◌and◌, ◌into◌, bare, octet_at, number_at, octets_at, blob8_at, lookup, by_kind}
 use Rattle.ts_codec.proofs.Truths.{first_true, second_true, both_true, all_true, each_true}
 use Rattle.ts_codec.proofs.Laws.{Part, one}
 use Rattle.ts_codec.proofs.Numbers.{octet_part, any_octet, number32, octets_part}
-use Rattle.ts_codec.proofs.Rows.{that_part, fitting, test_part, and_part, then_part, into_part, parts_again, Case, case, bare_case, ◌also◌, Kinds, kind_part}
+use Rattle.ts_codec.proofs.Rows.{that_part, fitting, test_part, and_part, then_part, into_part, parts_again, Case, case, bare_case, ◌also◌, kind_part}
 use Rattle.ts_codec.proofs.Lists.{blob8_part, counted_part}
 use Rattle.ts_codec.proofs.Values.{oid_part, prefix_part, tag_part, word_part}
 use Rattle.ts_question.specs.declared.reason.Reason.{Reason}
 use Rattle.ts_question.specs.declared.reason.Reason.TheVariants.{AnchorPurpose, Signature, TooEarly, Expired, Revoked, Undetermined, IssuerName, UnsupportedConstraint, NotPermitted, Excluded, PolicyRequired, MapsAny, NotCa, PathLength, KeyUsage, CriticalExtension, FinalPolicy, Purpose}
 use Rattle.ts_question.specs.declared.reply.Reply.{Reply}
 use Rattle.ts_question.specs.declared.reply.Reply.TheVariants.{Valid, Invalid, Found, NoPath, SearchLimit, NotYet, Malformed, NoAnchor, Limit, Page}
-use Rattle.ts_question.specs.Question.{subtrees_encoding, are_subtrees}
-use Rattle.ts_question.specs.QuestionReading.{subtrees_at}
 use Rattle.ts_question.specs.Reply.{Answered, answered, is_distinct, are_places, are_countable, is_place, is_reply, number_of, detail, reason_encoding, accepted_encoding, tag_of, fields, encoding, DetailFits, FieldsFit, Fits}
 use Rattle.ts_question.specs.ReplyReading.{accepted_at, reasons, reason_at, valid_at, invalid_at, found_at, not_yet_at, malformed_at, page_at, replies, answer_at}
 use Rattle.ts_question.proofs.Fields.{subtrees_part}

@@ -1,7 +1,7 @@
 -- A question read from front to back.
-use Rattle.std.specs.Prelude.{ℕ, ◌==◌, ◌&&◌, ◌/◌, ◌%◌, Bool, nat_le, nat_lt, List, [], ◌∷◌, Option}
-use Rattle.std.specs.Prelude.{Some, None}
-use Rattle.std.specs.Int.{w16, w32, w64}
+use Rattle.std.specs.Prelude.{ℕ, ◌==◌, ◌&&◌, ◌/◌, ◌%◌, Bool, nat_le, nat_lt, List, [], ◌∷◌}
+use Rattle.std.specs.Prelude.{Some}
+use Rattle.std.specs.Int.{w16, w32}
 use Rattle.ts_codec.specs.Reading.{Reader, ◌>>=◌, ◌that◌, ◌and◌, ◌then◌, ◌into◌, octet_at}
 use Rattle.ts_codec.specs.Reading.{number_at, signed_at, octets_at, blob16_at, short_blob_at}
 use Rattle.ts_codec.specs.Reading.{oid_at, prefix_at, optional_at, many_at, of_kind}

@@ -1,5 +1,5 @@
 -- An answer read from front to back.
-use Rattle.std.specs.Prelude.{ℕ, nat_lt, List, [], ◌∷◌, Option, Some}
+use Rattle.std.specs.Prelude.{ℕ, nat_lt, List, [], ◌∷◌}
 use Rattle.std.specs.Int.{w32}
 use Rattle.ts_codec.specs.Reading.{Reader, ◌that◌, ◌and◌, ◌then◌, ◌into◌, bare, octet_at, tag_at}
 use Rattle.ts_codec.specs.Reading.{number_at, octets_at, blob8_at, oid_at, prefix_at, many_at}

@@ -1,5 +1,5 @@
 -- A row read from front to back.
-use Rattle.std.specs.Prelude.{ℕ, ℤ, List, Option, Some}
+use Rattle.std.specs.Prelude.{ℕ, ℤ, List}
 use Rattle.std.specs.Int.{w32}
 use Rattle.ts_codec.specs.Reading.{Reader, ◌and◌, ◌into◌, marked, octet_at, number_at, signed_at}
 use Rattle.ts_codec.specs.Reading.{octets_at, blob16_at}

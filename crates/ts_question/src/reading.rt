@@ -13,8 +13,9 @@ use crate::question::Target;
 use crate::terms::{Flags, Presence, Terms};
 use std::alloc::Global;
 use ts_codec::ReadFault;
-use ts_codec::reading::{blob16, digest, number16, number32, octet, oid, oids, prefix, short_blob};
-use ts_codec::reading::{signed};
+use ts_codec::reading::{
+    blob16, digest, number16, number32, octet, oid, oids, prefix, short_blob, signed,
+};
 use ts_der::Oid;
 
 /// The most octets of a certificate.
