@@ -1,13 +1,11 @@
 -- Each command of a store has the octets of its encoding.
-use Rattle.std.proofs.Common.{◌≡◌, ◌≤◌, ◌<◌, ◌+◌, ◌*◌, ◌&&◌, ◌==◌, ℕ, Bool, true, false, List, [], ◌∷◌, ◌++◌, length, Option, Some, None, refl, sym, ap, subst, ◌∙◌, eqb, arith, length-append, if◌then◌else◌}
+use Rattle.std.proofs.Common.{◌≡◌, ◌≤◌, ◌==◌, ℕ, Bool, true, false, List, [], length, Option, Some, None, refl, sym, ap, subst, ◌∙◌, arith, length-append, if◌then◌else◌}
 use Rattle.std.specs.Prelude.{nat_le, Result, Ok, Err, IfOk, IfSome, IfNone}
-use Rattle.std.specs.List.{list_all, flat_map}
+use Rattle.std.specs.List.{list_all}
 use Rattle.std.specs.Int.{to_be_bytes, w32}
 use Rattle.std.proofs.lemmas.Bool.{eqb-true, eq-eqb, leb-true, le-leb}
-use Rattle.std.proofs.lemmas.Grind.{common_steps}
 use Rattle.ts_der.specs.ObjectIdentifier.{is_oid}
-use Rattle.ts_codec.specs.Parts.{blob8, blob32}
-use Rattle.ts_store.specs.Commands.{purposes_encoding, kind_of, content, fields, id_of, encoding, FieldsFit, Fits}
+use Rattle.ts_store.specs.Commands.{purposes_encoding, fields, id_of, encoding, FieldsFit, Fits}
 use Rattle.ts_store.specs.Purposes.{is_ascending, is_listed, ArePurposes}
 use Rattle.ts_store.specs.declared.command.Command.{Command}
 use Rattle.ts_store.specs.declared.command.Command.TheVariants.{AddAnchor, WithdrawAnchor, LoadCrl, DropCrl, SetPurposes, Noop}

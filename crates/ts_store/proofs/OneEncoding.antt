@@ -1,12 +1,11 @@
 -- A command is read in one way.
-use Rattle.std.proofs.Common.{◌≡◌, ℕ, ◌+◌, ◌^◌, ◌<◌, ◌≤◌, Bool, true, List, [], ◌∷◌, ◌++◌, length, Option, Some, None, refl, ap, subst, arith}
+use Rattle.std.proofs.Common.{◌≡◌, ℕ, ◌<◌, ◌≤◌, true, List, [], ◌∷◌, ◌++◌, length, Option, Some, None, refl, subst, arith}
 use Rattle.std.specs.Prelude.{nat_le}
 use Rattle.std.specs.List.{flat_map, list_all, AllByRecursion}
 use Rattle.std.proofs.lemmas.Bool.{leb-true, le-leb}
 use Rattle.ts_der.specs.ObjectIdentifier.{is_oid}
 use Rattle.ts_codec.specs.Parts.{blob8, blob32}
-use Rattle.ts_codec.specs.Ranges.{is_short}
-use Rattle.ts_codec.specs.Reading.{◌>>=◌, ◌that◌, ◌then◌, ◌into◌, lookup, octet_at, octets_at, short_blob_at, oid_at, many_at}
+use Rattle.ts_codec.specs.Reading.{◌>>=◌, ◌into◌, lookup, short_blob_at}
 use Rattle.ts_codec.proofs.Truths.{first_true, all_true, each_true}
 use Rattle.ts_codec.proofs.Laws.{Part, one}
 use Rattle.ts_codec.proofs.Numbers.{octet_part, octets_part}

@@ -1,6 +1,6 @@
 //! Commands are written.
 
-ghost use Rattle.std.specs.Prelude.{◌≡◌, ◌≤◌, ◌<◌, ◌^◌, ◌++◌, ◌∷◌, true, length, option_map, OnOk};
+ghost use Rattle.std.specs.Prelude.{◌≡◌, ◌++◌, length, OnOk};
 ghost use Rattle.ts_store.specs.Commands.{purposes_encoding, fields, encoding, FieldsFit, Fits};
 
 use crate::command::Command;

@@ -1,7 +1,6 @@
-use Rattle.std.proofs.Common.{◌≡◌, arith, ap, ◌∙◌, Some}
+use Rattle.std.proofs.Common.{arith, ◌∙◌}
 use Rattle.std.proofs.lemmas.Result.{IfOk-weaker}
 use Rattle.ts_codec.proofs.Laws.{found, only}
-use Rattle.ts_store.specs.Reading.{command_at}
 use Rattle.ts_store.proofs.OneEncoding.{command_part}
 use Rattle.ts_store.proofs.command.Command.read.Goals as goal
 
