@@ -23,8 +23,8 @@
 //! - [`Command::add_anchor`], [`Command::load_crl`], [`CertificateOctets::new`],
 //!   [`CrlOctets::new`]: `TooLong` exactly above the limit.
 //! - [`Purposes::new`]: `None` exactly where the list is longer than 16 or not strictly ascending.
-//! - [`Command::read`]: `found`, `only`: what is read is encoded so, and what is encoded so is
-//!   read.
+//! - [`Command::read`]: `exact`: what its reader reads (`specs/Reading`); `found`, `only`: what is
+//!   read is encoded so, and what is encoded so is read.
 //! - [`Command::octets`]: `encoded`: the encoding; `fits`: each command has one.
 //! - `impl ts_synod::Command`, `impl ts_synod::Codec` for [`Command`]: a command is one of the
 //!   protocol, and is kept in a record by its one encoding (`specs/Octets`).
