@@ -5,5 +5,4 @@ pub mod Rsa
 pub mod Elliptic
 pub mod Edwards
 pub mod Native
-pub mod Chosen
 pub mod View

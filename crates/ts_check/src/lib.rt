@@ -3,7 +3,6 @@
 //!
 //! ```text
 //! NativeCheck.good(algorithm, &key, signed, signature)      // no options, no state
-//! ChosenCheck::NativeOrTable(table)                         // and what a table lists besides
 //! ```
 //!
 //! Algorithms are RSASSA-PKCS1-v1_5 and RSASSA-PSS (RFC 8017, RFC 4055), and ECDSA on P-256 and
@@ -18,18 +17,16 @@
 //!   algorithm and the signature is one by it: `IsNativeSignature`, by the relations of `ts_rsa`,
 //!   `ts_ecdsa` and `ts_eddsa`.
 //! - [`algorithm_named`]: the algorithm that an identifier names, exactly.
-//! - [`ChosenCheck`]'s `good`: the native check, what it or a table takes, or the stand-in.
 //!
 //! No call allocates. docs/SIGNATURES.md has each algorithm with its section.
 //!
 //! # Not promised
 //!
 //! Constant time, since nothing that is checked is secret; that hash functions have no collisions;
-//! that nobody but the key's owner can sign. The stand-in is no security.
+//! that nobody but the key's owner can sign.
 #![tactic(auto)]
 
 mod algorithm;
-mod chosen;
 mod edwards;
 mod elliptic;
 pub mod laws;
@@ -38,5 +35,4 @@ mod public_key;
 mod rsa;
 
 pub use algorithm::{SignatureAlgorithm, algorithm_named};
-pub use chosen::ChosenCheck;
 pub use native::NativeCheck;

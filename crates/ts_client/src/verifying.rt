@@ -99,15 +99,14 @@ fn crls_in<'a>(
 ) -> Result<(Vec<Crl<'a>>, Vec<Crl<'a>>), Fault> {
     let mut lists = Vec::new(alloc);
     let mut deltas = Vec::new(alloc);
-    for value in octets {
-        let Ok(crl) = Crl::read(value) else {
-            let _ = eprintln!(rt; "trustd: a CRL is none that is used");
-            return Err(Fault::Field);
-        };
-        if crl.is_delta() {
-            deltas.push(crl)?;
-        } else {
-            lists.push(crl)?;
+    for (place, value) in octets.iter().enumerate() {
+        match Crl::read(value) {
+            Ok(crl) if crl.is_delta() => deltas.push(crl)?,
+            Ok(crl) => lists.push(crl)?,
+            Err(fault) => {
+                let _ = eprintln!(rt; "trustd: CRL {place}, from 0, can't be used: {fault}");
+                return Err(Fault::Field);
+            }
         }
     }
     Ok((lists, deltas))

@@ -12,11 +12,11 @@ use std::net::{Net, TcpListener, TcpStream};
 use std::random::RandomSource;
 use std::rt::{Clock, Files};
 use ts_answer::Answers;
-use ts_check::ChosenCheck;
 use ts_cli::ServeWords;
 use ts_client::{Fault, MAX_TABLE, read_within};
 use ts_disk::Disk;
 use ts_loop::{Access, Group, Limits, LoopFault, serve_all};
+use ts_memo::{MemoCheck, ServedCheck};
 use ts_meter::{Meter, Metered};
 use ts_node::Node;
 use ts_serve::Server;
@@ -68,15 +68,17 @@ fn check_of<R: Files + Eprint>(
     rt: &R,
     alloc: Global,
     words: &ServeWords,
-) -> Result<ChosenCheck, Fault> {
+) -> Result<ServedCheck, Fault> {
     if words.stand_in {
-        return Ok(ChosenCheck::StandIn);
+        return Ok(ServedCheck::StandIn);
     }
+    let native = MemoCheck::new(alloc)?;
     let Some(path) = &words.table else {
-        return Ok(ChosenCheck::Native);
+        return Ok(ServedCheck::Native(native));
     };
     let text = read_within(rt, alloc, path.as_str(), MAX_TABLE)?;
-    Ok(ChosenCheck::NativeOrTable(TableCheck::read(alloc, &text)?))
+    let table = TableCheck::read(alloc, &text)?;
+    Ok(ServedCheck::NativeOrTable(native, table))
 }
 
 /// How many connections stand for no end.
@@ -150,7 +152,7 @@ fn serve_node<
     rt: &R,
     alloc: Global,
     disks: (D, D),
-    check: ChosenCheck,
+    check: ServedCheck,
     words: &ServeWords,
     group: &Group,
     access: &mut Access<'_>,

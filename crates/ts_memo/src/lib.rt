@@ -1,0 +1,38 @@
+//! A check of signatures that keeps its answers.
+//!
+//! ```text
+//! let check = MemoCheck::new(alloc)?;
+//! check.good(algorithm, &key, signed, signature)            // computed, and kept
+//! check.good(algorithm, &key, signed, signature)            // found: nothing is computed
+//! ```
+//!
+//! A signature under a key is good once and for all: `native_accepts` is a function of the
+//! identifier, the key, the signed octets and the signature. So an answer may be kept, and whoever
+//! is asked about many leaves of the same few authorities computes the signatures of the
+//! authorities once. The 4,096 answers that were used last are kept, each under all octets of what
+//! was asked, of at most 8,192: two questions have one entry only if they are equal, octet by
+//! octet, and no hash is trusted. A usual certificate has one to two thousand octets. The signature
+//! of a long CRL is computed each time, but the CRL is hashed once (`ts_digest::Message`).
+//!
+//! What is proved of each call:
+//!
+//! - [`MemoCheck`]'s `good`: the answer is `native_accepts` of the four values, as that of
+//!   `ts_check::NativeCheck`, whatever was asked before. That each answer which is kept is right is
+//!   an invariant of what holds them.
+//! - [`ServedCheck`]'s `good`: `served_accepts`: the native check, what it or a table takes, or
+//!   the stand-in.
+//!
+//! Where memory is refused the answer is computed, and nothing is kept.
+//!
+//! # Not promised
+//!
+//! Neither proved nor tested: time, and that an answer is found. The hasher of the table has a
+//! fixed seed: who chooses what has one hash makes a look-up compare more.
+#![tactic(auto)]
+
+mod check;
+mod memo;
+mod served;
+
+pub use check::MemoCheck;
+pub use served::ServedCheck;
