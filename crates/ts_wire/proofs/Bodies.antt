@@ -1,15 +1,15 @@
 -- What follows a frame's length is a frame, or the fault that the definitions name.
-use Rattle.std.proofs.Common.{◌≡◌, ◌≢◌, ◌⊎◌, inl, inr, ℕ, zero, suc, ◌+◌, ◌^◌, ◌<◌, ◌≤◌, ◌==◌, Bool, true, false, cond, eqb, List, [], ◌∷◌, ◌++◌, length, get_or, take, drop, Option, Some, None, Result, Ok, Err, refl, sym, ap, subst, ◌∙◌, append_assoc, arith, length-append, length-take, length-drop, take-append-drop}
+use Rattle.std.proofs.Common.{◌≡◌, ◌≢◌, ℕ, suc, ◌+◌, ◌≤◌, Bool, true, false, cond, eqb, List, [], ◌∷◌, ◌++◌, length, take, drop, Option, Some, None, Result, Ok, Err, refl, sym, ap, subst, ◌∙◌, arith, length-take, length-drop, take-append-drop}
 use Rattle.std.specs.Int.{w32, to_be_bytes}
 use Rattle.std.proofs.lemmas.Bool.{eqb-true, eqb-false}
 use Rattle.std.proofs.lemmas.List.{append-nil, nil_from_length, drop-drop}
-use Rattle.ts_codec.proofs.Laws.{IsBytes, Takes, front_bytes, back_bytes}
+use Rattle.ts_codec.proofs.Laws.{IsBytes, front_bytes, back_bytes}
 use Rattle.ts_wire.specs.Frames.{kind_of, is_kind, fields, encoding, FieldsFit, Fits}
 use Rattle.ts_wire.specs.FrameReading.{fields_at, ended, frame_in}
-use Rattle.ts_wire.specs.Stream.{IsLength, IsPartial, Framed, IsCut, GoesOn, IsFault}
+use Rattle.ts_wire.specs.Stream.{Framed, IsCut, GoesOn, IsFault}
 use Rattle.ts_wire.specs.Taking.{FrameGives, IsWrong, Sized}
 use Rattle.ts_wire.specs.declared.fault.FrameFault.{FrameFault}
-use Rattle.ts_wire.specs.declared.fault.FrameFault.TheVariants.{Length, Version, Kind, Field, Trailing}
+use Rattle.ts_wire.specs.declared.fault.FrameFault.TheVariants.{Version, Kind, Field, Trailing}
 use Rattle.ts_wire.specs.declared.frame.Frame.{Frame}
 use Rattle.ts_wire.specs.declared.wire_error.FeedError.{FeedError}
 use Rattle.ts_wire.specs.declared.wire_error.FeedError.TheVariants.{Memory, Frame as Wrong}

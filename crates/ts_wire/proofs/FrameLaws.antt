@@ -1,21 +1,20 @@
 -- The fields of each frame are read in one way.
-use Rattle.std.proofs.Common.{◌≡◌, ℕ, ◌+◌, ◌^◌, ◌<◌, ◌≤◌, true, List, [], ◌∷◌, ◌++◌, length, Option, Some, None, refl, arith}
+use Rattle.std.proofs.Common.{◌≡◌, ℕ, true, List, [], ◌∷◌, ◌++◌, Option, Some, None, refl, arith}
 use Rattle.std.specs.Prelude.{nat_lt}
 use Rattle.std.specs.List.{AllByRecursion}
 use Rattle.std.specs.Int.{w32, w64, to_be_bytes}
 use Rattle.ts_codec.specs.Parts.{blob32}
 use Rattle.ts_codec.specs.Ranges.{is_node, is_position, is_ballot}
-use Rattle.ts_codec.specs.Reading.{Reader, ◌>>=◌, ◌and◌, ◌into◌, bare, lookup, number_at, octets_at, node_at, position_at, prefix_at, ballot_at, within_blob_at, code_at, of_kind}
-use Rattle.ts_codec.proofs.Laws.{IsBytes, Takes, Part}
+use Rattle.ts_codec.specs.Reading.{◌>>=◌, ◌and◌, ◌into◌, bare, lookup, number_at, node_at, position_at, ballot_at, within_blob_at, code_at}
+use Rattle.ts_codec.proofs.Laws.{Part}
 use Rattle.ts_codec.proofs.Numbers.{octets_part}
-use Rattle.ts_codec.proofs.Rows.{fitting, recoded, and_part, into_part, parts_again, Case, case, bare_case, ◌also◌, Kinds, kind_part, fields_part, code_part}
+use Rattle.ts_codec.proofs.Rows.{fitting, recoded, and_part, into_part, parts_again, Case, case, bare_case, ◌also◌, kind_part, fields_part, code_part}
 use Rattle.ts_codec.proofs.Lists.{within_blob}
 use Rattle.ts_codec.proofs.Values.{node_part, position_part, prefix_part, ballot_part, word_part}
 use Rattle.ts_synod.specs.declared.message.Body.{Body}
 use Rattle.ts_synod.specs.declared.message.Body.TheVariants.{Prepare, Promise, Busy, Accept, Accepted, Ask, Give}
 use Rattle.ts_synod.specs.declared.message.Vote.{Vote}
 use Rattle.ts_store.specs.Commands.{encoding as command_octets, Fits as CommandFits}
-use Rattle.ts_store.specs.Reading.{command_at}
 use Rattle.ts_store.specs.declared.command.Command.{Command}
 use Rattle.ts_store.specs.declared.outcome.Outcome.{Outcome as Came}
 use Rattle.ts_store.specs.declared.outcome.Outcome.TheVariants.{Applied, Repeated, Refused}
@@ -23,15 +22,13 @@ use Rattle.ts_store.specs.declared.outcome.Refusal.{Refusal}
 use Rattle.ts_store.specs.declared.outcome.Refusal.TheVariants.{AnchorThere, NoAnchor, Malformed, OlderCrl, CriticalCrlExtension, StoreFull, DeltaCrl, NoCrl, RelativeName, Indirect}
 use Rattle.ts_store.proofs.OneEncoding.{command_part}
 use Rattle.ts_store.proofs.Encoded.{encoding_short}
-use Rattle.ts_question.specs.Question.{Asked, encoding as question_octets, Fits as QuestionFits}
+use Rattle.ts_question.specs.Question.{encoding as question_octets, Fits as QuestionFits}
 use Rattle.ts_question.specs.QuestionReading.{question_at}
-use Rattle.ts_question.specs.Reply.{Answered}
-use Rattle.ts_question.specs.ReplyReading.{answer_at}
 use Rattle.ts_question.proofs.Fields.{question_part}
 use Rattle.ts_question.proofs.Replies.{answer_part}
 use Rattle.ts_wire.proofs.Lengths.{question_short}
 use Rattle.ts_wire.specs.Outcomes.{refusal_code, outcome_encoding, OutcomeFits, node_fault_code, frame_fault_code}
-use Rattle.ts_wire.specs.Frames.{body_kind, kind_of, taken_encoding, body_encoding, fields, TakenFits, BodyFits, FieldsFit}
+use Rattle.ts_wire.specs.Frames.{kind_of, taken_encoding, fields, TakenFits, BodyFits, FieldsFit}
 use Rattle.ts_wire.specs.FrameReading.{route_of, route_at, blob_command_at, vote_of, vote_at, taken_at, peer, prepare_at, promise_at, busy_at, accept_at, accepted_at, ask_at, give_at, started_at, refusals, refused_at, outcome_at, settled_at, node_faults, frame_faults, identity_at, readers, fields_at}
 use Rattle.ts_wire.specs.declared.route.Route.{Route}
 use Rattle.ts_wire.specs.declared.fault.NodeFault.{NodeFault as NodeFaultOf}

@@ -2,7 +2,7 @@
 use Rattle.std.proofs.Common.{◌≡◌, ℕ, ◌^◌, ◌<◌, ◌≤◌, ◌&&◌, true, List, ◌++◌, length, Option, Some, None, arith, length-append}
 use Rattle.std.specs.Prelude.{nat_le, IfSome}
 use Rattle.std.specs.List.{list_all}
-use Rattle.std.specs.Int.{w16, w32, w64, to_be_bytes}
+use Rattle.std.specs.Int.{w32, to_be_bytes}
 use Rattle.std.proofs.lemmas.Bool.{leb-true}
 use Rattle.ts_der.specs.ObjectIdentifier.{is_oid}
 use Rattle.ts_question.specs.declared.question.Target.{Target}
@@ -13,7 +13,7 @@ use Rattle.ts_codec.proofs.Truths.{first_true, second_true, each_true, few_octet
 use Rattle.ts_codec.proofs.Lengths.{parts_short, oids_short}
 use Rattle.ts_question.specs.Question.{Asked, are_subtrees, are_terms, are_certificates, is_target, policies_encoding, subtrees_encoding, certificates_encoding, terms_encoding, target_encoding, TermsFit, TargetFits}
 use Rattle.ts_question.specs.Question.{encoding as question_octets, Fits as QuestionFits}
-use Rattle.ts_question.proofs.Fields.{Within, within_parts}
+use Rattle.ts_question.proofs.Fields.{within_parts}
 
 optional_short : {A : Type 0} (encode : A → List ℕ) (most : ℕ) (x : Option A) → IfSome x (λ y. length (encode y) ≤ most) → length (optional encode x) ≤ most
 optional_short encode most None short = omega arith
@@ -34,7 +34,7 @@ certificates_short most xs few good =
 
 purpose_short : (p : Option (List ℕ)) → IfSome p (λ c. is_oid c ≡ true) → IfSome p (λ c. length (blob8 c) ≤ 130)
 purpose_short None fit = tt
-purpose_short (Some c) fit = let k = is_short c fit in omega (arith, k)
+purpose_short (Some c) fit = let k = few_octets c fit in omega (arith, k)
 
 k_short : (k : Option ℕ) → IfSome k (λ n. length (to_be_bytes w32 n) ≤ 4)
 k_short None = tt

@@ -6,8 +6,7 @@ use Rattle.std.specs.Int.{to_be_bytes, w32}
 use Rattle.ts_wire.specs.Frames.{encoding, Fits}
 use Rattle.ts_wire.specs.Stream.{IsLength, IsPartial, IsFault, Ends}
 use Rattle.ts_wire.specs.declared.fault.FrameFault.{FrameFault}
-use Rattle.ts_wire.specs.declared.fault.FrameFault.TheVariants.{Length, Version, Kind, Field}
-use Rattle.ts_wire.specs.declared.fault.FrameFault.TheVariants.{Trailing}
+use Rattle.ts_wire.specs.declared.fault.FrameFault.TheVariants.{Length}
 use Rattle.ts_wire.specs.declared.frame.Frame.{Frame}
 use Rattle.ts_wire.specs.declared.wire_error.FeedError.{FeedError}
 use Rattle.ts_wire.specs.declared.wire_error.FeedError.TheVariants.{Memory, Frame as Wrong}

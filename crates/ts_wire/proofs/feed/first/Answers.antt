@@ -1,6 +1,5 @@
-use Rattle.std.proofs.Common.{◌≡◌, take, drop, arith, refl}
+use Rattle.std.proofs.Common.{arith}
 use Rattle.std.proofs.lemmas.List.{take_rest}
-use Rattle.ts_wire.specs.FrameReading.{frame_in}
 use Rattle.ts_wire.proofs.Bodies.{first_frame, first_fault}
 use Rattle.ts_wire.proofs.feed.first.Goals as goal
 

@@ -1,4 +1,4 @@
-use Rattle.std.proofs.Common.{◌≡◌, ◌++◌, ap, sym, ◌∙◌}
+use Rattle.std.proofs.Common.{◌++◌, ap, sym, ◌∙◌}
 use Rattle.std.specs.List.{flat_map}
 use Rattle.ts_wire.specs.Stream.{Splits}
 use Rattle.ts_wire.proofs.Draining.{one_piece, stops, all_pieces, rest_of}
