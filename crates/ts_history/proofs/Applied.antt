@@ -1,5 +1,5 @@
 -- What a command changes, where it is applied: the tables that the store's definition makes have the contents that the change gives.
-use Rattle.std.proofs.Common.{◌≡◌, ◌⊎◌, ⊎_elim, ◌∙◌, ◌∷◌, ◌++◌, ℕ, Bool, true, false, cond, not, List, [], get_or, Option, Some, None, Result, Ok, Err, length, map, refl, sym, ap, subst}
+use Rattle.std.proofs.Common.{◌≡◌, ◌⊎◌, ⊎_elim, ◌∙◌, ◌∷◌, ◌++◌, ℕ, Bool, true, false, cond, not, List, [], get_or, Option, Some, None, Result, Ok, Err, length, refl, sym, ap, subst}
 use Rattle.std.specs.Prelude.{IfOk, is_some, slice_set, nat_le}
 use Rattle.std.specs.declared.alloc.AllocError.{AllocError}
 use Rattle.std.specs.List.{remove}

@@ -1,5 +1,5 @@
 -- What a frame hands to a node fits a record.
-use Rattle.std.proofs.Common.{◌≡◌, refl, ℕ, ◌%◌, ◌&&◌, Bool, true, false}
+use Rattle.std.proofs.Common.{◌≡◌, ℕ, ◌%◌, ◌&&◌, true}
 use Rattle.std.proofs.lemmas.Bool.{leb-true, ltb-true}
 use Rattle.std.specs.Prelude.{nat_le, nat_lt}
 use Rattle.ts_synod.specs.declared.message.Body.{Body}
@@ -11,29 +11,22 @@ use Rattle.ts_node.specs.Inputs.{BodyFits}
 use Rattle.ts_store.specs.Octets.{octets_of}
 use Rattle.ts_serve.proofs.Commands.{command_short}
 use Rattle.ts_codec.specs.Ranges.{is_ballot, is_node, is_position}
+use Rattle.ts_codec.proofs.Truths.{first_true, second_true}
 use Rattle.ts_wire.specs.Frames.{BodyFits as FieldsFit, Fits}
 use Rattle.ts_wire.specs.declared.frame.Frame.TheVariants.{Peer}
 
-first_of : (a b : Bool) → a && b ≡ true → a ≡ true
-first_of true b is = refl
-first_of false b is = absurd (cc is)
-
-second_of : (a b : Bool) → a && b ≡ true → b ≡ true
-second_of true b is = is
-second_of false b is = absurd (cc is)
-
 position : (p : ℕ) → is_position p ≡ true → IsPosition p
-position p is = record { from = leb-true 1 p (first_of (nat_le 1 p) (nat_le p 1000000) is); to = leb-true p 1000000 (second_of (nat_le 1 p) (nat_le p 1000000) is) }
+position p is = record { from = leb-true 1 p (first_true (nat_le 1 p) (nat_le p 1000000) is); to = leb-true p 1000000 (second_true (nat_le 1 p) (nat_le p 1000000) is) }
 
 ballot : (b : ℕ) → is_ballot b ≡ true → IsBallot b
 ballot b is =
-    let low = first_of (nat_le 16 b && nat_lt b 68719476736) (is_node (b % 16)) is in
-    let node = second_of (nat_le 16 b && nat_lt b 68719476736) (is_node (b % 16)) is in
+    let low = first_true (nat_le 16 b && nat_lt b 68719476736) (is_node (b % 16)) is in
+    let node = second_true (nat_le 16 b && nat_lt b 68719476736) (is_node (b % 16)) is in
     record {
-      from = leb-true 16 b (first_of (nat_le 16 b) (nat_lt b 68719476736) low);
-      to = ltb-true b 68719476736 (second_of (nat_le 16 b) (nat_lt b 68719476736) low);
-      node_from = leb-true 1 (b % 16) (first_of (nat_le 1 (b % 16)) (nat_le (b % 16) 9) node);
-      node_to = leb-true (b % 16) 9 (second_of (nat_le 1 (b % 16)) (nat_le (b % 16) 9) node);
+      from = leb-true 16 b (first_true (nat_le 16 b) (nat_lt b 68719476736) low);
+      to = ltb-true b 68719476736 (second_true (nat_le 16 b) (nat_lt b 68719476736) low);
+      node_from = leb-true 1 (b % 16) (first_true (nat_le 1 (b % 16)) (nat_le (b % 16) 9) node);
+      node_to = leb-true (b % 16) 9 (second_true (nat_le 1 (b % 16)) (nat_le (b % 16) 9) node);
     }
 
 body_fits : (b : Body Command) → FieldsFit b → BodyFits octets_of b
