@@ -1,5 +1,5 @@
 -- What is kept stays right, and what is found is right.
-use Rattle.std.proofs.Common.{◌≡◌, ◌∙◌, ◌⊎◌, ℕ, List, [], Bool, true, Some, Result, Ok, Err, sym, subst, inl, inr, arith}
+use Rattle.std.proofs.Common.{◌≡◌, ◌∙◌, ℕ, List, [], Bool, true, false, not, Some, refl, Result, Ok, Err, sym, subst, inl, inr, arith}
 use Rattle.std.specs.Prelude.{Contains, OnOk, OnErr}
 use Rattle.std.specs.Map.{lookup}
 use Rattle.std.specs.Str.{bytes_eq}
@@ -9,6 +9,7 @@ use Rattle.std.proofs.lemmas.Slice.Eq.{bytes_eq-Decides}
 use Rattle.lru.specs.LruCache.{LruCache, lru_cache, promoted, put_entries}
 use Rattle.lru.proofs.CallerLemmas.{Contains-lookup, Contains-promoted, Contains-put_entries}
 use Rattle.ts_memo.specs.Memo.{IsRight, AreRight}
+use Rattle.ts_memo.specs.declared.memo.Kept.{Kept}
 
 abbrev Octets : Type 0
 Octets = Vec ℕ Global
@@ -18,36 +19,36 @@ same_octets a b is = (bytes_eq-Decides a b).0 is
 
 pub none_right : AreRight []
 unfolding AreRight
-none_right octets good in' = absurd (omega (arith, in'.1))
+none_right signature kept in' = absurd (omega (arith, in'.1))
 
 -- to use an answer leaves them right
-pub used : (test : Octets → Bool) (c new : LruCache Octets Bool) → new ≡ lru_cache (promoted test c.entries) c.cap → AreRight c.entries → AreRight new.entries
+pub used : (test : Octets → Bool) (c new : LruCache Octets Kept) → new ≡ lru_cache (promoted test c.entries) c.cap → AreRight c.entries → AreRight new.entries
 unfolding AreRight
-used test c new is are octets good in' = are octets good (Contains-promoted test c.entries (octets, good) (subst (λ (x : LruCache Octets Bool). Contains x.entries (octets, good)) is in'))
+used test c new is are signature kept in' = are signature kept (Contains-promoted test c.entries (signature, kept) (subst (λ (x : LruCache Octets Kept). Contains x.entries (signature, kept)) is in'))
+
+not_other : (b : Bool) → false ≡ not b → b ≡ true
+not_other true is = refl
+not_other false is = absurd (cc is)
 
 -- what is found is right
-pub found : (octets : List ℕ) (entries : List (Octets × Bool)) (good : Bool) → AreRight entries → Some good ≡ lookup (λ v. bytes_eq octets v.items) entries → IsRight octets good
+pub found : (test : Octets → Bool) (entries : List (Octets × Kept)) (kept : Kept) (octets held : List ℕ) → AreRight entries → Some kept ≡ lookup test entries → held ≡ kept.octets.items → false ≡ not (bytes_eq held octets) → IsRight octets kept.good
 unfolding AreRight
-found octets entries good are there algorithm key signed signature fits is =
-    let held = Contains-lookup (λ v. bytes_eq octets v.items) entries good (sym there) in
-    are held.0 good held.1 algorithm key signed signature fits (sym (same_octets octets held.0.items held.2) ∙ is)
+found test entries kept octets held are there is same =
+    let entry = Contains-lookup test entries kept (sym there) in
+    subst (λ l. IsRight l kept.good) (sym is ∙ same_octets held octets (not_other (bytes_eq held octets) same)) (are entry.0 kept entry.1)
 
-module _ (c : LruCache Octets Bool) (octets : Octets) (good : Bool) (right : IsRight octets.items good) where
+module _ (c : LruCache Octets Kept) (signature : Octets) (kept : Kept) (right : IsRight kept.octets.items kept.good) where
   abbrev same : Octets → Octets → Bool
   same v w = bytes_eq v.items w.items
 
-  put_right : (other : Octets) → (other ≡ octets) ⊎ ((w : Bool) × Contains c.entries (other, w) × (bytes_eq octets.items other.items ≡ true)) → IsRight other.items good
-  put_right other (inl e) = subst (λ (v : Octets). IsRight v.items good) (sym e) right
-  put_right other (inr h) = subst (λ l. IsRight l good) (same_octets octets.items other.items h.2) right
-
-  put_among : AreRight c.entries → AreRight (put_entries same c octets good)
+  put_among : AreRight c.entries → AreRight (put_entries same c signature kept)
   unfolding AreRight
-  put_among are other answer in' = elim (Contains-put_entries same c octets good (other, answer) in') [
+  put_among are other answer in' = elim (Contains-put_entries same c signature kept (other, answer) in') [
     | inl was ↦ are other answer was
-    | inr put ↦ subst (IsRight other.items) (sym put.0) (put_right other put.1)
+    | inr put ↦ subst (λ (k : Kept). IsRight k.octets.items k.good) (sym put.0) right
   ]
 
   -- a right answer that is kept leaves them right
-  pub kept : {X E : Type 0} (r : Result X E) (new : LruCache Octets Bool) → OnOk r (new ≡ lru_cache (put_entries same c octets good) c.cap) → OnErr r (new ≡ c) → AreRight c.entries → AreRight new.entries
-  kept (Ok x) new put err are = subst (λ (x : LruCache Octets Bool). AreRight x.entries) (sym put) (put_among are)
-  kept (Err e) new put err are = subst (λ (x : LruCache Octets Bool). AreRight x.entries) (sym err) are
+  pub kept_right : {X E : Type 0} (r : Result X E) (new : LruCache Octets Kept) → OnOk r (new ≡ lru_cache (put_entries same c signature kept) c.cap) → OnErr r (new ≡ c) → AreRight c.entries → AreRight new.entries
+  kept_right (Ok x) new put err are = subst (λ (x : LruCache Octets Kept). AreRight x.entries) (sym put) (put_among are)
+  kept_right (Err e) new put err are = subst (λ (x : LruCache Octets Kept). AreRight x.entries) (sym err) are

@@ -6,6 +6,7 @@ use Rattle.std.specs.declared.vec.Vec.{Vec}
 use Rattle.ts_codec.specs.Parts.{blob32}
 use Rattle.ts_sig.specs.Key.{Key}
 use Rattle.ts_check.specs.Native.{native_accepts}
+use Rattle.ts_memo.specs.declared.memo.Kept.{Kept}
 
 -- whether a key has parameters, and which
 abbrev pub parameters_octets : Option (List ℕ) → List ℕ
@@ -39,6 +40,6 @@ IsRight octets good = (algorithm : List ℕ) (key : Key) (signed signature : Lis
     → good ≡ native_accepts algorithm key signed signature
 
 -- each answer that is kept is right
-unfoldable pub AreRight : List (Vec ℕ Global × Bool) → Type 0
-AreRight answers = (octets : Vec ℕ Global) (good : Bool) → Contains answers (octets, good)
-    → IsRight octets.items good
+unfoldable pub AreRight : List (Vec ℕ Global × Kept) → Type 0
+AreRight answers = (signature : Vec ℕ Global) (kept : Kept) → Contains answers (signature, kept)
+    → IsRight kept.octets.items kept.good

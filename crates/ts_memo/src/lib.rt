@@ -9,9 +9,9 @@
 //! A signature under a key is good once and for all: `native_accepts` is a function of the
 //! identifier, the key, the signed octets and the signature. So an answer may be kept, and whoever
 //! is asked about many leaves of the same few authorities computes the signatures of the
-//! authorities once. The 4,096 answers that were used last are kept, each under all octets of what
-//! was asked, of at most 8,192: two questions have one entry only if they are equal, octet by
-//! octet, and no hash is trusted. A usual certificate has one to two thousand octets. The signature
+//! authorities once. The 4,096 answers that were used last are kept, each with all octets of what
+//! was asked, of at most 8,192, under its signature: an answer is found only where all octets are
+//! equal, and no hash is trusted. A usual certificate has one to two thousand octets. The signature
 //! of a long CRL is computed each time, but the CRL is hashed once (`ts_digest::Message`).
 //!
 //! What is proved of each call:

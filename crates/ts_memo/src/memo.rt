@@ -24,11 +24,19 @@ const MAX_OCTETS: usize = 8_192;
 /// How much room the octets of a question have for the lengths of its parts, with some to spare.
 const ROOM: usize = 64;
 
-/// The answers that were used last, each under the octets of what was asked.
+/// The octets of what was asked, and the answer.
+#[derive(Drop)]
+pub(crate) struct Kept {
+    octets: Vec<u8>,
+    good: bool,
+}
+
+/// The answers that were used last, each under its signature: two questions about one signature
+/// take turns.
 #[derive(Drop)]
 pub(crate) struct Memo {
     alloc: Global,
-    answers: LruCache<Vec<u8>, bool>,
+    answers: LruCache<Vec<u8>, Kept>,
 }
 
 impl Model for Memo {
@@ -131,19 +139,26 @@ impl Memo {
 
     /// The answer to the question that has these octets, if it is kept; it then is the one that was
     /// used last.
-    fn find(&mut self, octets: &[u8]) -> Option<bool>
+    fn find(&mut self, signature: &[u8], octets: &[u8]) -> Option<bool>
         ensures { IfSome result (λ good. IsRight octets.now good) }
     {
-        let good = *self.answers.peek(octets)?;
-        let _is_there = self.answers.promote(octets);
+        let kept = self.answers.peek(signature)?;
+        if kept.octets.as_slice() != octets {
+            return None;
+        }
+        let good = kept.good;
+        let _is_there = self.answers.promote(signature);
         Some(good)
     }
 
     /// Keeps an answer, where memory is given.
-    fn keep(&mut self, octets: Vec<u8>, good: bool)
+    fn keep(&mut self, signature: &[u8], octets: Vec<u8>, good: bool)
         requires { IsRight octets.items good }
     {
-        let _before = self.answers.put(octets, good);
+        let Ok(signature) = Vec::from_slice(self.alloc, signature) else {
+            return;
+        };
+        let _before = self.answers.put(signature, Kept { octets, good });
     }
 
     /// Whether a signature is good: what is kept, or what the native check answers.
@@ -160,11 +175,11 @@ impl Memo {
         let Some(octets) = octets_of(self.alloc, algorithm, key, signed, signature) else {
             return NativeCheck.good(algorithm, key, signed, signature);
         };
-        if let Some(good) = self.find(&octets) {
+        if let Some(good) = self.find(signature, &octets) {
             return good;
         }
         let good = NativeCheck.good(algorithm, key, signed, signature);
-        self.keep(octets, good);
+        self.keep(signature, octets, good);
         good
     }
 }
