@@ -1,22 +1,21 @@
 -- A stream of octets is read in one way.
 use Rattle.std.proofs.Common.{◌≡◌, ◌⊎◌, inl, inr, ℕ, ◌+◌, ◌^◌, ◌<◌, ◌||◌, Bool, true, false, cond, eqb, ltb, List, [], ◌∷◌, ◌++◌, length, get_or, take, drop, Option, Some, None, Result, Ok, Err, refl, sym, ap, subst, ◌∙◌, append_assoc, arith, length-append}
-use Rattle.std.specs.List.{flat_map, AllByRecursion}
+use Rattle.std.specs.List.{flat_map, list_all, AllByRecursion}
 use Rattle.std.specs.Int.{w32, to_be_bytes, from_be_bytes}
 use Rattle.std.proofs.lemmas.Bool.{eqb-true, lt-ltb, le-ltb}
 use Rattle.std.proofs.Math.Dec.{eqb-suc-zero}
 use Rattle.std.proofs.lemmas.List.{append-nil, take_at, drop_at}
 use Rattle.std.proofs.lemmas.List.Concat.{flat_map-cons}
 use Rattle.std.proofs.lemmas.Nat.{from_be_bytes-to_be_bytes_4}
-use Rattle.ts_synod.specs.declared.message.Body.{Body}
-use Rattle.ts_synod.specs.declared.message.Body.TheVariants.{Prepare, Promise, Busy, Accept, Accepted, Ask, Give}
-use Rattle.ts_store.specs.declared.command.Command.{Command}
-use Rattle.ts_wire.specs.Frames.{body_kind, kind_of, is_kind, fields, encoding, Fits}
-use Rattle.ts_wire.specs.FrameReading.{fields_at, ended, frame_in}
+use Rattle.ts_codec.specs.Reading.{Reader, of_kind}
+use Rattle.ts_codec.proofs.Rows.{look}
+use Rattle.ts_codec.proofs.Truths.{each_true}
+use Rattle.ts_wire.specs.Frames.{kind_of, is_kind, fields, encoding, Fits, FieldsFit}
+use Rattle.ts_wire.specs.FrameReading.{readers, fields_at, ended, frame_in}
 use Rattle.ts_wire.specs.Stream.{IsLength, IsPartial, Framed, IsFault, Ends, Splits}
 use Rattle.ts_wire.specs.declared.fault.FrameFault.{FrameFault}
 use Rattle.ts_wire.specs.declared.fault.FrameFault.TheVariants.{Length, Version, Kind, Field, Trailing}
 use Rattle.ts_wire.specs.declared.frame.Frame.{Frame}
-use Rattle.ts_wire.specs.declared.frame.Frame.TheVariants.{Peer, Submit, Question, Take, Outcome, CatchUp, Status, Compact, Done, Started, Settled, Answer, Unknown, NodeFault, FrameFault as FaultFrame, Prefix, Identify, Identity}
 use Rattle.ts_wire.proofs.FrameLaws.{frame_part}
 
 -- what is at the front of a stream
@@ -61,40 +60,21 @@ whole_at octets body after is length_is =
 
 -- ---- a frame
 
-body_kind_is : (b : Body Command) → is_kind (body_kind b) ≡ true
-body_kind_is (Prepare p b) = refl
-body_kind_is (Promise p b t) = refl
-body_kind_is (Busy p b q) = refl
-body_kind_is (Accept p b c) = refl
-body_kind_is (Accepted p b c) = refl
-body_kind_is (Ask p) = refl
-body_kind_is (Give p c) = refl
+-- the rows are of kinds that there are, and each frame's fields are read by one of them
+kinds_are : list_all (λ row. is_kind row.0) readers ≡ true
+kinds_are = refl
 
-kind_is : (f : Frame) → is_kind (kind_of f) ≡ true
-kind_is (Peer m) = body_kind_is m.body
-kind_is (Submit c) = refl
-kind_is (Question q) = refl
-kind_is Take = refl
-kind_is (Outcome id) = refl
-kind_is CatchUp = refl
-kind_is Status = refl
-kind_is Compact = refl
-kind_is Identify = refl
-kind_is (Done n) = refl
-kind_is (Started p b) = refl
-kind_is (Settled p x) = refl
-kind_is (Answer a) = refl
-kind_is Unknown = refl
-kind_is (NodeFault x) = refl
-kind_is (FaultFrame x) = refl
-kind_is (Prefix p) = refl
-kind_is (Identity n m g) = refl
+kind_is : (f : Frame) → FieldsFit f → is_kind (kind_of f) ≡ true
+unfolding fields_at of_kind
+kind_is f fit =
+    look (kind_of f) readers (λ n read. is_kind n ≡ true) (λ read. read (fields f ++ [])) (f, []) (each_true (λ (row : ℕ × Reader Frame). is_kind row.0) (λ row. is_kind row.0 ≡ true) (λ row k. k) readers kinds_are)
+    ((frame_part (kind_of f)).again f [] (fit, refl)) (λ read k e. k)
 
 frame_again : (f : Frame) → Fits f → frame_in (2 ∷ kind_of f ∷ fields f) ≡ Ok f
 unfolding frame_in
 frame_again f fit =
     let e : fields_at (kind_of f) (fields f) ≡ Some (f, []) = ap (fields_at (kind_of f)) (sym (append-nil (fields f))) ∙ (frame_part (kind_of f)).again f [] (fit.ranges, refl) in
-    ap (λ b. cond b (ended (fields_at (kind_of f) (fields f))) (Err Kind)) (kind_is f) ∙ ap ended e
+    ap (λ b. cond b (ended (fields_at (kind_of f) (fields f))) (Err Kind)) (kind_is f fit.ranges) ∙ ap ended e
 
 pub next_frame : (f : Frame) (after : List ℕ) → Fits f → next (encoding f ++ after) ≡ frame f after
 next_frame f after fit =

@@ -1,28 +1,22 @@
 //! A stream that comes in pieces is read as frames.
 
-ghost use Rattle.std.specs.Prelude.{◌≡◌, ◌≤◌, ◌<◌, ◌^◌, ◌++◌, ◌||◌, [], None, ℕ, List, length};
+ghost use Rattle.std.specs.Prelude.{◌≡◌, ◌≤◌, ◌<◌, ◌^◌, ◌++◌, [], None, ℕ, List, length};
 ghost use Rattle.std.specs.Prelude.{drop, nat_eq, OnOk, OnErr, IfOk, IfSome, IfNone, MatchResult};
 ghost use Rattle.std.specs.Prelude.{MatchOption, ⊤};
 ghost use Rattle.std.specs.Int.{to_be_bytes, w32};
-ghost use Rattle.ts_wire.specs.Frames.{is_kind, encoding, Fits};
+ghost use Rattle.ts_wire.specs.Frames.{encoding, Fits};
 ghost use Rattle.ts_wire.specs.FrameReading.{frame_in};
 ghost use Rattle.ts_wire.specs.Stream.{IsPartial, IsFault};
 ghost use Rattle.ts_wire.specs.Taking.{FrameGives, IsWrong, SizeOr};
 
 use crate::fault::FrameFault;
 use crate::frame::Frame;
-use crate::reading::fields;
+use crate::reading::{fields, is_kind};
 use crate::wire_error::FeedError;
 use crate::writing::MAX_LENGTH;
 use std::alloc::{AllocError, Global};
 use std::marker::Model;
 use ts_codec::ReadFault;
-
-fn is_kind(kind: u8) -> bool
-    ensures { result ≡ is_kind kind }
-{
-    (1 <= kind && kind <= 7) || (16 <= kind && kind <= 23) || (32 <= kind && kind <= 40)
-}
 
 /// The frame that follows its length.
 #[tactic(auto, unfolding(crate::specs::FrameReading::frame_in))]

@@ -3,6 +3,7 @@
 ghost use Rattle.std.specs.Prelude.{◌≡◌};
 ghost use Rattle.ts_codec.specs.Reading.{Gives, lookup, within_blob_at};
 ghost use Rattle.ts_question.specs.QuestionReading.{question_at};
+ghost use Rattle.ts_wire.specs.Frames.{is_kind};
 ghost use Rattle.ts_wire.specs.FrameReading.{blob_command_at, vote_at, taken_at, peer, prepare_at};
 ghost use Rattle.ts_wire.specs.FrameReading.{promise_at, busy_at, accept_at, accepted_at, ask_at};
 ghost use Rattle.ts_wire.specs.FrameReading.{give_at, started_at, refusals, refused_at, outcome_at};
@@ -339,6 +340,15 @@ fn known(octets: &[u8]) -> Result<(Frame, &[u8]), ReadFault>
 {
     let (prefix, rest) = prefix(octets)?;
     Ok((Frame::Prefix { prefix }, rest))
+}
+
+/// Whether frames are of this kind.
+pub(crate) fn is_kind(kind: u8) -> bool
+    ensures { result ≡ is_kind kind }
+{
+    (0x01 <= kind && kind <= 0x07)
+        || (0x10 <= kind && kind <= 0x17)
+        || (0x20 <= kind && kind <= 0x28)
 }
 
 /// The fields of a frame of this kind, and what follows them.
