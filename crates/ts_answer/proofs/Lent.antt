@@ -1,14 +1,15 @@
 -- Tables that are lent, and what path validation is asked over them.
-use Rattle.std.proofs.Common.{◌≡◌, ◌∷◌, List, [], map, refl, ap}
+use Rattle.std.proofs.Common.{◌≡◌, ◌<◌, ◌∷◌, ℕ, zero, suc, List, [], map, length, Some, slice_get, slice_index_or, refl, ap, arith}
 use Rattle.ts_history.specs.Contents.{Contents, anchor_in, contents_of}
 use Rattle.ts_history.specs.declared.snapshot.LentAnchor.{LentAnchor}
 use Rattle.ts_store.specs.Tables.{Tables}
 use Rattle.ts_answer.specs.Asked.{lists_in}
 
--- the ids of anchors that are lent
-pub ids : (anchors : List LentAnchor) → map (λ a. a.id) (map anchor_in anchors) ≡ map (λ a. a.id) anchors
-ids [] = refl
-ids (a ∷ anchors) = ap (λ l. a.id ∷ l) (ids anchors)
+-- the id of an anchor that is lent
+pub id_there : (anchors : List LentAnchor) (number : ℕ) (d : LentAnchor) → number < length anchors → slice_get (map (λ a. a.id) (map anchor_in anchors)) number ≡ Some (slice_index_or anchors number d).id
+id_there [] number d within = absurd (omega (arith, within))
+id_there (a ∷ anchors) zero d within = refl
+id_there (a ∷ anchors) (suc number) d within = id_there anchors number d (omega (arith, within))
 
 pub complete : (c : Contents) (tables : Tables) → c ≡ contents_of tables → lists_in c.complete ≡ lists_in tables.complete
 complete c tables is = ap (λ (x : Contents). lists_in x.complete) is

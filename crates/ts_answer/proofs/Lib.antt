@@ -8,3 +8,6 @@ pub mod Lent
 pub mod Pairs
 pub mod Cached
 pub mod Entries
+pub mod Alls
+pub mod Places
+pub mod Pages

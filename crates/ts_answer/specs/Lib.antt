@@ -8,3 +8,4 @@ pub mod CacheView
 pub mod Laws
 pub mod View
 pub mod Trusted
+pub mod Ranges

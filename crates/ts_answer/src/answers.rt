@@ -1,13 +1,14 @@
 //! The trust store under a node.
 
 ghost use Rattle.std.specs.Prelude.{◌≡◌, ◌<◌, ◌≤◌, ◌++◌, ◌∷◌, [], ℕ, List, length, take, Ok, IfOk};
-ghost use Rattle.std.specs.Prelude.{OnOk, OnErr};
+ghost use Rattle.std.specs.Prelude.{OnOk, OnErr, true, is_ok};
 ghost use Rattle.ts_history.specs.Outcome.{outcome_after};
 ghost use Rattle.ts_store.specs.Ids.{first_of};
 ghost use Rattle.ts_store.specs.Store.{store_after};
 ghost use Rattle.ts_question.specs.declared.reply.Reply.TheVariants.{NotYet};
-ghost use Rattle.ts_question.specs.Reply.{Fits};
+ghost use Rattle.ts_question.specs.Reply.{Fits, answered, is_answer};
 ghost use Rattle.ts_answer.specs.Machine.{IsAnswer};
+ghost use Rattle.ts_answer.specs.Ranges.{InRange};
 ghost use Rattle.ts_answer.specs.Reply.{IsReply};
 ghost use Rattle.ts_answer.specs.View.{IsOfTables};
 ghost use Rattle.ts_listing.specs.Log.{log_rows};
@@ -19,7 +20,7 @@ use std::alloc::{AllocError, Global};
 use std::marker::Model;
 use ts_history::History;
 use ts_listing::{Entry, log_page, purposes_of};
-use ts_question::{Answer, Question, Reply, Target};
+use ts_question::{Answer, MAX_POSITION, Question, Reply, Target};
 use ts_sig::SignatureCheck;
 use ts_store::{Command, First, Outcome};
 
@@ -37,6 +38,7 @@ pub struct Answers<S: SignatureCheck> {
 impl<S: SignatureCheck> Model for Answers<S> {
     ghost use Rattle.ts_answer.specs.Held.{Held};
     ghost use Rattle.ts_answer.specs.Cache.{AreCached};
+    ghost use Rattle.ts_answer.specs.Ranges.{AreTaken};
     ghost use Rattle.ts_answer.specs.View.{AreEntries};
 
     ghost Value = { Held S };
@@ -44,19 +46,18 @@ impl<S: SignatureCheck> Model for Answers<S> {
     ghost view = { λ a. record { check = a.check; commands = a.history } };
 
     ghost invariant = { λ a. AreCached (S.accepts a.check) a.history a.cache.entries
-        × AreEntries a.log.items a.history };
+        × AreEntries a.log.items a.history × AreTaken a.history };
 }
 
-/// An answer, each field of which is in its range. That a reply keeps the ranges follows from its
-/// definition, and isn't proved here; what is out of range, as a k above 1,000,000 is, which no
-/// question has, is refused as memory is.
-fn answer_of(k: u32, reply: Reply) -> Result<Answer, AllocError>
-    ensures answer { IfOk result (λ answer. answer ≡ record { k = k; reply = reply }) }
-    ensures fits { IfOk result Fits }
+/// An answer, each field of which is in its range.
+fn answer_of(k: u32, reply: Reply) -> Answer
+    requires { is_answer (answered k reply) ≡ true }
+    ensures answer { result ≡ answered k reply }
+    ensures fits { Fits result }
 {
     match Answer::new(k, reply) {
-        Ok(answer) => Ok(answer),
-        Err(_) => Err(AllocError),
+        Ok(answer) => answer,
+        Err(_) => unreachable!(),
     }
 }
 
@@ -109,6 +110,7 @@ impl<S: SignatureCheck> Answers<S> {
         ensures refused { OnErr result (self.new.commands ≡ self.old.commands) }
         ensures check { self.new.check ≡ self.old.check }
     {
+        command.has_encoding();
         self.log.reserve(1)?;
         let purposes = purposes_of(self.alloc, command)?;
         let outcome = self.history.push(command)?;
@@ -125,12 +127,21 @@ impl<S: SignatureCheck> Answers<S> {
         self.history.first(id)
     }
 
+    /// How many commands were taken: no more than there are positions.
+    fn taken(&self) -> u32
+        ensures count { result ≡ length self.now.commands }
+        ensures few { result ≤ 1000000 }
+    {
+        self.history.count()
+    }
+
     /// The reply over the tables after the first k commands.
     fn reply_of_tables(&self, k: u32, question: &Question) -> Result<Reply, AllocError>
         requires taken { k ≤ length self.now.commands }
         requires tables { IsOfTables question.now.target }
-        ensures { IfOk result (IsReply (S.accepts self.now.check)
+        ensures reply { IfOk result (IsReply (S.accepts self.now.check)
             (take k self.now.commands) question.now) }
+        ensures within { IfOk result InRange }
     {
         let snapshot = self.history.at(self.alloc, k)?;
         let reply = reply_over(self.alloc, &self.check, &snapshot, question)?;
@@ -140,7 +151,9 @@ impl<S: SignatureCheck> Answers<S> {
     /// A page of the first k commands, after so many rows.
     fn log_of(&self, k: u32, from: u32) -> Result<Reply, AllocError>
         requires { k ≤ length self.now.commands }
-        ensures { IfOk result (λ reply. reply ≡ page from (log_rows (take k self.now.commands))) }
+        ensures page { IfOk result (λ reply. reply
+            ≡ page from (log_rows (take k self.now.commands))) }
+        ensures within { IfOk result InRange }
     {
         log_page(self.alloc, &self.log[..k as usize], from)
     }
@@ -148,8 +161,9 @@ impl<S: SignatureCheck> Answers<S> {
     /// The reply after the first k commands.
     fn reply(&self, k: u32, question: &Question) -> Result<Reply, AllocError>
         requires { k ≤ length self.now.commands }
-        ensures { IfOk result (IsReply (S.accepts self.now.check)
+        ensures reply { IfOk result (IsReply (S.accepts self.now.check)
             (take k self.now.commands) question.now) }
+        ensures within { IfOk result InRange }
     {
         match question.target() {
             Target::Log { from } => self.log_of(k, *from),
@@ -161,20 +175,24 @@ impl<S: SignatureCheck> Answers<S> {
 
     /// The answer to a question, without the cache.
     fn judge(&self, k: u32, question: &Question) -> Result<Answer, AllocError>
-        ensures answer { k ≤ length self.now.commands
-            → IfOk result (IsAnswer (S.accepts self.now.check)
+        requires taken { k ≤ length self.now.commands }
+        requires few { k ≤ 1000000 }
+        ensures answer { IfOk result (IsAnswer (S.accepts self.now.check)
             (take k self.now.commands) question.now) }
-        ensures not_yet { length self.now.commands < k
-            → IfOk result (λ answer. answer
-            ≡ record { k = k; reply = NotYet (length self.now.commands) }) }
         ensures fits { IfOk result Fits }
     {
-        let prefix = self.prefix();
-        if k > prefix {
-            return answer_of(k, Reply::NotYet { prefix });
-        }
         let reply = self.reply(k, question)?;
-        answer_of(k, reply)
+        Ok(answer_of(k, reply))
+    }
+
+    /// The answer where fewer than k commands were taken.
+    fn not_yet(&self, k: u32) -> Answer
+        requires taken { length self.now.commands < k }
+        requires few { k ≤ 1000000 }
+        ensures { result ≡ answered k (NotYet (length self.now.commands)) }
+    {
+        let prefix = self.prefix();
+        answer_of(k, Reply::NotYet { prefix })
     }
 
     /// The answer to a question after the first k commands; `NotYet` with their number exactly
@@ -183,7 +201,8 @@ impl<S: SignatureCheck> Answers<S> {
     ///
     /// # Errors
     ///
-    /// Out of memory; and for a k above 1,000,000, which no question has.
+    /// Out of memory, but never where fewer than k commands were taken; and for a k above 1,000,000,
+    /// after which no answer can say that it holds, and which no question has.
     pub fn answer(&mut self, k: u32, question: &Question) -> Result<Answer, AllocError>
         ensures answer { k ≤ length self.old.commands
             → IfOk result (IsAnswer (S.accepts self.old.check)
@@ -191,11 +210,16 @@ impl<S: SignatureCheck> Answers<S> {
         ensures not_yet { length self.old.commands < k
             → IfOk result (λ answer. answer
             ≡ record { k = k; reply = NotYet (length self.old.commands) }) }
+        ensures at_once { length self.old.commands < k → k ≤ 1000000 → is_ok result ≡ true }
         ensures unchanged { self.new ≡ self.old }
     {
         // `NotYet` is not cached: it is wrong as soon as the commands have come.
-        if k > self.prefix() {
-            return self.judge(k, question);
+        if k > self.taken() {
+            return if k <= MAX_POSITION {
+                Ok(self.not_yet(k))
+            } else {
+                Err(AllocError)
+            };
         }
         let Some(key) = key_of(self.alloc, k, question) else {
             return self.judge(k, question);

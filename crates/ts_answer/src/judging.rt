@@ -14,6 +14,7 @@ ghost use Rattle.ts_store.specs.declared.command.Command.{Command};
 ghost use Rattle.ts_question.specs.Question.{is_target};
 ghost use Rattle.ts_answer.specs.Parts.{base_of, certificates_of, first_part};
 ghost use Rattle.ts_answer.specs.Asked.{chain_of, question_of, search_of, trust_anchor};
+ghost use Rattle.ts_answer.specs.Ranges.{InRange, IsAmong, IsPlaced};
 ghost use Rattle.ts_answer.specs.Reply.{IsReply, IsReplyBy, IsTargetReply};
 ghost use Rattle.ts_answer.specs.Trusted.{trusted_in};
 ghost use Rattle.ts_answer.specs.View.{AreInputs, AreParts, IsJudged, IsOfTables};
@@ -77,10 +78,11 @@ fn verdict_under<'a, S: SignatureCheck>(
 ) -> Result<Verdict<'a>, AllocError>
     requires some { 1 ≤ length chain.now }
     requires few { length chain.now ≤ 16 }
-    ensures { (tables : Tables) (terms : _) (stored : _) (octets : _)
+    ensures verdict { (tables : Tables) (terms : _) (stored : _) (octets : _)
         → snapshot.now ≡ contents_of tables → AreInputs terms inputs.now
         → anchor_in anchor.now ≡ trust_anchor stored → map cert_in chain.now ≡ chain_of octets
         → IfOk result (IsVerdict (question_of (S.accepts check.now) tables terms stored octets)) }
+    ensures placed { IfOk result IsPlaced }
 {
     let lists = lists_of(alloc, snapshot.complete())?;
     let deltas = lists_of(alloc, snapshot.deltas())?;
@@ -104,9 +106,10 @@ fn chain_reply<'a, S: SignatureCheck>(
     requires some { 1 ≤ length parts.certificates.items }
     requires few { length parts.certificates.items ≤ 16 }
     requires read { (octets : List (List ℕ)) × AreParts terms.now octets parts }
-    ensures { (tables : Tables) (octets : List (List ℕ)) → snapshot.now ≡ contents_of tables
+    ensures reply { (tables : Tables) (octets : List (List ℕ)) → snapshot.now ≡ contents_of tables
         → AreParts terms.now octets parts.entry
         → IfOk result (IsTargetReply (S.accepts check.now) tables terms.now (Chain id.now octets)) }
+    ensures within { IfOk result InRange }
 {
     let Some(stored) = anchor_of(snapshot.anchors(), id) else {
         return Ok(Reply::NoAnchor);
@@ -131,10 +134,11 @@ fn found_under<'a, S: SignatureCheck>(
 ) -> Result<SearchAnswer<'a>, AllocError>
     requires some { 1 ≤ length certificates.now }
     requires few { length certificates.now ≤ 33 }
-    ensures { (tables : Tables) (terms : _) (octets : _) → snapshot.now ≡ contents_of tables
+    ensures answer { (tables : Tables) (terms : _) (octets : _) → snapshot.now ≡ contents_of tables
         → AreInputs terms inputs.now → map trusted_in trusted.now ≡ map trust_anchor tables.anchors
         → map cert_in certificates.now ≡ chain_of octets
         → IfOk result (IsAnswer (search_of (S.accepts check.now) tables terms octets)) }
+    ensures among { IfOk result (IsAmong (length trusted.now)) }
 {
     let lists = lists_of(alloc, snapshot.complete())?;
     let deltas = lists_of(alloc, snapshot.deltas())?;
@@ -161,9 +165,10 @@ fn search_reply<'a, S: SignatureCheck>(
     requires some { 1 ≤ length parts.certificates.items }
     requires few { length parts.certificates.items ≤ 33 }
     requires read { (octets : List (List ℕ)) × AreParts terms.now octets parts }
-    ensures { (tables : Tables) (octets : List (List ℕ)) → snapshot.now ≡ contents_of tables
+    ensures reply { (tables : Tables) (octets : List (List ℕ)) → snapshot.now ≡ contents_of tables
         → AreParts terms.now octets parts.entry
         → IfOk result (IsTargetReply (S.accepts check.now) tables terms.now (Search octets)) }
+    ensures within { IfOk result InRange }
 {
     let Parts {
         permitted,
@@ -190,10 +195,11 @@ fn target_reply<'a, S: SignatureCheck>(
     requires same { certificates.now ≡ certificates_of target.now }
     requires within { is_target target.now ≡ true }
     requires judged { IsJudged target.now }
-    ensures { (tables : Tables) → snapshot.now ≡ contents_of tables
+    ensures reply { (tables : Tables) → snapshot.now ≡ contents_of tables
         → IfOk result (IsReplyBy (S.accepts check.now) tables
         (record { terms = terms.now; target = target.now })
         (first_part terms.now certificates.now)) }
+    ensures within { IfOk result InRange }
 {
     match read_parts(alloc, terms, certificates) {
         Ok(parts) => match target {
@@ -216,9 +222,11 @@ pub(crate) fn reply_over<S: SignatureCheck>(
     question: &Question,
 ) -> Result<Reply, AllocError>
     requires tables { IsOfTables question.now.target }
-    ensures { (commands : List Command)
+    ensures reply { (commands : List Command)
         → snapshot.now ≡ contents_of (store_after commands).tables
         → IfOk result (IsReply (S.accepts check.now) commands question.now) }
+    ensures within { (commands : List Command)
+        → snapshot.now ≡ contents_of (store_after commands).tables → IfOk result InRange }
 {
     let terms = question.terms();
     let target = question.target();

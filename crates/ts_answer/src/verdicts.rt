@@ -1,10 +1,11 @@
 //! Verdicts and answers of a search, as replies.
 
-ghost use Rattle.std.specs.Prelude.{◌≡◌, ◌≤◌, suc, true, Some, map, slice_get, length, IfOk};
-ghost use Rattle.std.specs.Prelude.{IfSome};
-ghost use Rattle.std.specs.List.{list_all};
+ghost use Rattle.std.specs.Prelude.{◌≡◌, ◌<◌, suc, true, Some, map, slice_get, length, IfOk};
+ghost use Rattle.std.specs.List.{AllByRecursion};
 ghost use Rattle.ts_history.specs.Contents.{anchor_in as lent_in};
+ghost use Rattle.ts_question.specs.Reply.{are_countable};
 ghost use Rattle.ts_answer.specs.Parts.{unreadable};
+ghost use Rattle.ts_answer.specs.Ranges.{InRange, IsAmong, IsPlaced};
 ghost use Rattle.ts_answer.specs.Reply.{SaysReason, SaysSearch, SaysVerdict};
 ghost use Rattle.ts_answer.specs.Reply.{malformed as malformed_of};
 
@@ -61,10 +62,15 @@ fn reason_of(alloc: Global, reason: &PathReason<'_>) -> Result<Reason, AllocErro
 }
 
 /// Accepted policies, with memory of their own. Each is an object identifier, since it was read as
-/// one; no clause of a lower crate says so, and what is none is refused as memory is.
+/// one, and there are fewer than 2^32; no clause of a lower crate says so, and what is not so is
+/// refused as memory is.
 fn policies_of(alloc: Global, policies: &[&[u8]]) -> Result<Oids, AllocError>
-    ensures { IfOk result (λ said. said ≡ map (λ p. p.now) policies.now) }
+    ensures same { IfOk result (λ said. said ≡ map (λ p. p.now) policies.now) }
+    ensures few { IfOk result (λ said. are_countable said ≡ true) }
 {
+    if policies.len() >= 1 << 32 {
+        return Err(AllocError);
+    }
     let mut oids = Vec::new(alloc);
     for policy in policies {
         let Some(oid) = OidRef::from_content(policy) else {
@@ -81,7 +87,9 @@ pub(crate) fn reply_of_verdict(
     anchor: [u8; 32],
     verdict: Verdict<'_>,
 ) -> Result<Reply, AllocError>
-    ensures { IfOk result (λ reply. SaysVerdict anchor verdict.entry reply) }
+    requires { IsPlaced verdict }
+    ensures said { IfOk result (λ reply. SaysVerdict anchor verdict.entry reply) }
+    ensures within { IfOk result InRange }
 {
     match verdict {
         Verdict::Valid(policies) => {
@@ -95,28 +103,24 @@ pub(crate) fn reply_of_verdict(
     }
 }
 
-/// The places of a chain, counted from 1.
+/// The places of a chain, counted from 1. They are those of a question's certificates.
 fn places_of(alloc: Global, chain: &[u8]) -> Result<Places, AllocError>
+    requires { AllByRecursion (λ i. i < 33) chain.now }
     ensures { IfOk result (λ places. places ≡ map suc chain.now) }
 {
     let mut places = Vec::new(alloc);
     for place in chain {
-        let Some(next) = place.checked_add(1) else {
-            return Err(AllocError);
-        };
-        places.push(next)?;
+        places.push(*place + 1)?;
     }
     Ok(Places::new(places))
 }
 
 /// The id of the anchor of this number.
-fn id_at(anchors: &[LentAnchor<'_>], number: usize) -> Option<[u8; 32]>
-    ensures { result ≡ slice_get (map (λ a. a.id) anchors.now) number }
+fn id_at(anchors: &[LentAnchor<'_>], number: usize) -> [u8; 32]
+    requires { number < length anchors.now }
+    ensures { slice_get (map (λ a. a.id) (map lent_in anchors.now)) number ≡ Some result }
 {
-    match anchors.get(number) {
-        Some(anchor) => Some(anchor.id),
-        None => None,
-    }
+    anchors[number].id
 }
 
 /// An answer of a search under these anchors, as a reply.
@@ -125,7 +129,9 @@ pub(crate) fn reply_of_search(
     anchors: &[LentAnchor<'_>],
     answer: SearchAnswer<'_>,
 ) -> Result<Reply, AllocError>
-    ensures { IfOk result (λ reply. SaysSearch (map lent_in anchors.now) answer.entry reply) }
+    requires { IsAmong (length anchors.now) answer }
+    ensures said { IfOk result (λ reply. SaysSearch (map lent_in anchors.now) answer.entry reply) }
+    ensures within { IfOk result InRange }
 {
     match answer {
         SearchAnswer::Found {
@@ -133,9 +139,7 @@ pub(crate) fn reply_of_search(
             chain,
             policies,
         } => {
-            let Some(anchor) = id_at(anchors, anchor) else {
-                return Err(AllocError);
-            };
+            let anchor = id_at(anchors, anchor);
             let places = places_of(alloc, &chain)?;
             let policies = policies_of(alloc, &policies)?;
             Ok(Reply::Found {

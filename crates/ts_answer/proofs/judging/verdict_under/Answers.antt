@@ -9,8 +9,8 @@ use Rattle.ts_path.specs.Verdict.{IsVerdict}
 use Rattle.ts_answer.proofs.Asking.{same_question}
 use Rattle.ts_answer.proofs.judging.verdict_under.Goals as goal
 
-pub returns : goal.returns
-returns g c = λ tables terms stored octets same inputs anchor chain.
+pub returns-clause-verdict : goal.returns-clause-verdict
+returns-clause-verdict g c = λ tables terms stored octets same inputs anchor chain.
     let good = g.S.SignatureCheck.accepts c.args.check.now in
     let are_lists = ap (map crl_in) c.deref.ensures.value ∙ c.in_ok-lists.ensures ∙ ap lists_in c.complete.ensures ∙ complete c.args.snapshot.now tables same in
     let are_deltas = ap (map crl_in) c.deref-2.ensures.value ∙ c.in_ok-deltas.ensures ∙ ap lists_in c.deltas.ensures ∙ deltas c.args.snapshot.now tables same in

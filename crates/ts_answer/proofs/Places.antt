@@ -1,0 +1,90 @@
+-- The positions of verdicts, and what a search finds, are in their ranges.
+use Rattle.std.proofs.Common.{◌≡◌, ◌∙◌, ◌≤◌, ◌<◌, ◌==◌, ◌-◌, ◌||◌, ℕ, suc, not, Bool, true, List, [], ◌∷◌, map, take, length, refl, ap, subst, arith, length-append}
+use Rattle.std.specs.Prelude.{slice_index}
+use Rattle.std.proofs.Math.Dec.{compare_is_eq}
+use Prim.Native.Nat.compare
+use Rattle.std.specs.List.{list_any, AllByRecursion}
+use Rattle.std.proofs.lemmas.Bool.{le-leb}
+use Rattle.ts_codec.proofs.Truths.{both_true}
+use Rattle.ts_path.specs.Chain.{Question}
+use Rattle.ts_path.specs.Verdict.{IsVerdict}
+use Rattle.ts_path.specs.declared.verdict.Verdict.{Verdict}
+use Rattle.ts_path.specs.declared.verdict.Verdict.TheVariants.{Valid, Invalid}
+use Rattle.ts_search.specs.Candidates.{AreDistinct, EndsAtLeaf, IsCandidate, issues}
+use Rattle.ts_search.specs.Search.{Search, IsAnswer, IsFirst, most}
+use Rattle.ts_search.specs.declared.answer.Answer.{Answer}
+use Rattle.ts_search.specs.declared.answer.Answer.TheVariants.{Found, NoPath, SearchLimit}
+use Rattle.ts_search.proofs.Takes.{length_map}
+use Rattle.ts_question.specs.Reply.{are_places, is_distinct}
+use Rattle.ts_cert.specs.declared.certificate.Cert.{Cert}
+use Rattle.ts_cert.specs.CertView.{cert_in}
+use Rattle.ts_path.specs.View.{anchor_in}
+use Rattle.ts_path.specs.declared.anchor.Anchor.{Anchor}
+use Rattle.ts_path.specs.declared.inputs.Inputs.{Inputs}
+use Rattle.ts_revoke.specs.declared.crls.Crls.{Crls}
+use Rattle.ts_search.specs.View.{Check, search_in}
+use Rattle.ts_answer.specs.Trusted.{trusted_in}
+use Rattle.ts_answer.specs.declared.trusted.Trusted.{Trusted}
+use Rattle.ts_answer.specs.Ranges.{IsPlaced, IsAmong}
+use Rattle.ts_answer.proofs.Alls.{all_front, all_weaker, one_of}
+
+-- ---- positions
+
+pub is_placed : (q : Question) (v : Verdict) → length q.chain ≤ 16 → IsVerdict q v → IsPlaced v
+is_placed q (Valid policies) few is = tt
+is_placed q (Invalid position reason) few is =
+    let stands = is.0.stands in
+    both_true _ _ (le-leb 1 position stands.0) (le-leb position 16 (omega (arith, stands.1, few)))
+
+-- ---- places that count from 1
+
+same_next : (j i : ℕ) → (suc j == suc i) ≡ (j == i)
+same_next j i = ap compare_is_eq (compare.suc-suc j i)
+
+any_place : (i : ℕ) (chain : List ℕ) → list_any (λ p. p == suc i) (map suc chain) ≡ list_any (λ j. j == i) chain
+any_place i [] = refl
+any_place i (j ∷ chain) = λ n. same_next j i n || any_place i chain n
+
+distinct : (chain : List ℕ) → AreDistinct chain → is_distinct (map suc chain) ≡ true
+distinct [] are = refl
+distinct (i ∷ chain) are = both_true _ _ (ap not (any_place i chain ∙ are.0)) (distinct chain are.1)
+
+leaf_last : (chain : List ℕ) → EndsAtLeaf chain → (slice_index (map suc chain) (length (map suc chain) - 1) == 1) ≡ true
+leaf_last [] ends = absurd ends
+leaf_last (i ∷ []) ends = ap (λ n. suc n == 1) ends
+leaf_last (i ∷ j ∷ chain) ends =
+    let n : length (map suc (i ∷ j ∷ chain)) - 1 ≡ suc (length (map suc (j ∷ chain)) - 1) = omega arith in
+    ap (λ k. slice_index (map suc (i ∷ j ∷ chain)) k == 1) n ∙ leaf_last (j ∷ chain) ends
+
+are_in_range : (issues : ℕ → ℕ → Bool) (count : ℕ) (chain : List ℕ) → IsCandidate issues count chain → are_places (map suc chain) ≡ true
+are_in_range issues count chain is =
+    let few : length (map suc chain) ≤ 255 = omega (arith, is.few, length_map suc chain) in
+    both_true _ _ (both_true _ _ (le-leb (length (map suc chain)) 255 few) (leaf_last chain is.leaf)) (distinct chain is.distinct)
+
+-- ---- what is found
+
+candidate : (s : Search) (candidates : List (List ℕ)) (number : ℕ) (chain : List ℕ) (policies : List (List ℕ)) → AllByRecursion (IsCandidate (issues s.certificates) (length s.certificates)) candidates → IsFirst s (take most candidates) number chain policies
+    → IsCandidate (issues s.certificates) (length s.certificates) chain
+candidate s candidates number chain policies only is =
+    let P : List ℕ → Type 0 = IsCandidate (issues s.certificates) (length s.certificates) in
+    one_of P is.before chain is.after (subst (λ (l : List (List ℕ)). AllByRecursion P l) is.tried_are (all_front P most candidates only))
+
+pub is_among : (s : Search) (a : Answer) → length s.certificates ≤ 33 → IsAnswer s a → IsAmong (length s.anchors) a
+is_among s (Found number chain policies) few is =
+    let c = candidate s is.candidates number chain.items _ is.are_candidates.only is.answers in
+    let under = is.answers.under in
+    let count = ap length under.anchors_are ∙ length-append under.earlier (under.anchor ∷ under.later) in
+    let place = under.number_is in (
+      omega (arith, count, place),
+      all_weaker (λ i. i < length s.certificates) (λ i. i < 33) (λ i h. omega (arith, h, few)) chain.items c.within,
+      are_in_range (issues s.certificates) (length s.certificates) chain.items c,
+    )
+is_among s NoPath few is = tt
+is_among s SearchLimit few is = tt
+
+-- among the certificates of a question, and under the anchors that were lent
+pub among_anchors : (leaf : Cert) (pool : List Cert) (anchors : List Anchor) (inputs : Inputs) (crls : Crls) (good : Check) (all : List Cert) (trusted : List Trusted) (a : Answer) → leaf ∷ pool ≡ all → length all ≤ 33 → map anchor_in anchors ≡ map trusted_in trusted
+    → IsAnswer (search_in leaf pool anchors inputs crls good) a → IsAmong (length trusted) a
+among_anchors leaf pool anchors inputs crls good all trusted a whole few same is =
+    subst (λ n. IsAmong n a) (ap length same ∙ length_map trusted_in trusted)
+    (is_among (search_in leaf pool anchors inputs crls good) a (omega (arith, ap length whole, length_map cert_in (leaf ∷ pool), few)) is)
