@@ -7,3 +7,5 @@
 mod answer_tests;
 #[cfg(test)]
 mod page_tests;
+#[cfg(test)]
+mod reply_tests;

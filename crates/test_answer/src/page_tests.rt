@@ -76,10 +76,10 @@ const PAGES: &[(&[u8], &[u8])] = &[
     ),
 ];
 
-/// A store that took the commands.
-fn store(alloc: Global) -> Result<Answers<DigestCheck>, AllocError> {
+/// A store that took the commands of these octets.
+pub(crate) fn store(alloc: Global, commands: &[&[u8]]) -> Result<Answers<DigestCheck>, AllocError> {
     let mut answers = Answers::new(alloc, DigestCheck);
-    for octets in COMMANDS {
+    for octets in commands {
         if let Some(command) = Command::read(alloc, octets)? {
             if answers.prefix() < 1_000_000 {
                 let _outcome = answers.push(&command)?;
@@ -90,7 +90,7 @@ fn store(alloc: Global) -> Result<Answers<DigestCheck>, AllocError> {
 }
 
 /// The octets of the answer to a question that names k; none where it is no such question.
-fn answered(
+pub(crate) fn answered(
     alloc: Global,
     answers: &mut Answers<DigestCheck>,
     octets: &[u8],
@@ -106,7 +106,7 @@ fn answered(
 
 #[test]
 fn pages_have_their_rows(rt: HostRuntime) -> Result<(), Fail> {
-    let mut answers = store(rt.alloc())?;
+    let mut answers = store(rt.alloc(), COMMANDS)?;
     for (question, expected) in PAGES {
         let answer = answered(rt.alloc(), &mut answers, question)?;
         assert!(rt; answer.as_slice() == *expected);
