@@ -202,7 +202,7 @@ impl<S: SignatureCheck> Answers<S> {
     /// # Errors
     ///
     /// Out of memory, but never where fewer than k commands were taken; and for a k above 1,000,000,
-    /// after which no answer can say that it holds, and which no question has.
+    /// which no answer can say and no question has.
     pub fn answer(&mut self, k: u32, question: &Question) -> Result<Answer, AllocError>
         ensures answer { k ≤ length self.old.commands
             → IfOk result (IsAnswer (S.accepts self.old.check)

@@ -23,7 +23,8 @@
 //!   changes; `check`.
 //! - [`Answers::settled`]: the first command of an id, and what it came to.
 //! - [`Answers::answer`]: `answer`: the reply after the first k commands (`IsAnswer`,
-//!   `specs/Machine`); `not_yet`: exactly where fewer were taken; `unchanged`.
+//!   `specs/Machine`); `not_yet`: exactly where fewer were taken; `at_once`: then without an error;
+//!   `unchanged`.
 //! - `impl ts_node::Machine<Command> for Answers<S>`: those of the trait: what a node is proved
 //!   over.
 //! - [`is_deliverable`]: whether a node takes a message.
@@ -42,7 +43,8 @@
 //!
 //! Only tested: that calls with ample memory answer. Neither proved nor tested: time, and that the
 //! cache is used. Not proved to be impossible, and answered as out of memory: an accepted policy
-//! that is no object identifier, a place above 255, a reply out of its ranges.
+//! that is no object identifier, and 2^32 accepted policies. A k above 1,000,000 is answered so too,
+//! since no answer can say it.
 #![tactic(auto)]
 
 mod answers;
