@@ -56,6 +56,18 @@ pub fn answer_of<P: Peer>(alloc: Global, peer: &mut P, request: &Frame) -> Resul
     frame_of(alloc, &answer)
 }
 
+/// Sends a request that is not needed afterwards, and returns the frame that it is answered with.
+pub(crate) fn answer_to<P: Peer>(
+    alloc: Global,
+    peer: &mut P,
+    request: Frame,
+) -> Result<Frame, Fault>
+    requires { P.is_ready peer.old }
+    ensures { P.is_ready peer.new }
+{
+    answer_of(alloc, peer, &request)
+}
+
 /// What a node answered, as a client says it.
 #[derive(Debug, Drop)]
 pub struct Said {
@@ -96,8 +108,7 @@ pub fn submit<P: Peer>(alloc: Global, peer: &mut P, command: Command) -> Result<
     requires { P.is_ready peer.old }
     ensures { P.is_ready peer.new }
 {
-    let request = Frame::Submit { command };
-    let answer = answer_of(alloc, peer, &request)?;
+    let answer = answer_to(alloc, peer, Frame::Submit { command })?;
     submit_said(alloc, &answer)
 }
 
@@ -117,8 +128,7 @@ pub(crate) fn asked<P: Peer>(
     requires { P.is_ready peer.old }
     ensures { P.is_ready peer.new }
 {
-    let request = Frame::Question { question };
-    match answer_of(alloc, peer, &request)? {
+    match answer_to(alloc, peer, Frame::Question { question })? {
         Frame::Answer { answer } => Ok(answer),
         _ => Err(Fault::Frame(FrameFault::Kind)),
     }

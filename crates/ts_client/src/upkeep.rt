@@ -2,7 +2,7 @@
 //! record is rewritten.
 
 use crate::fault::Fault;
-use crate::requests::{answer_of, say, server_at, told};
+use crate::requests::{answer_to, say, server_at, told};
 use std::alloc::Global;
 use std::io::Print;
 use std::net::Net;
@@ -71,8 +71,7 @@ pub fn tend<P: Peer>(alloc: Global, peer: &mut P, upkeep: Upkeep) -> Result<Stri
     requires { P.is_ready peer.old }
     ensures { P.is_ready peer.new }
 {
-    let request = upkeep.frame();
-    let answer = answer_of(alloc, peer, &request)?;
+    let answer = answer_to(alloc, peer, upkeep.frame())?;
     line_of(alloc, upkeep, &answer)
 }
 
