@@ -52,6 +52,8 @@ impl Service for Numbers {
         }
     }
 
+    fn note(&self, _text: &[u8]) {}
+
     fn has_failed(&self) -> bool {
         false
     }

@@ -8,9 +8,10 @@ use Rattle.ts_access.specs.declared.key.Role.TheVariants.{Peer, Admin, Reader}
 abbrev pub is_message : ℕ → Bool
 is_message kind = nat_le 1 kind && nat_le kind 7
 
--- 11 Question, 13 Outcome, 15 Status, 17 Identify
+-- 11 Question, 13 Outcome, 15 Status, 17 Identify, 18 Report
 abbrev pub is_question : ℕ → Bool
-is_question kind = nat_eq kind 0x11 || (nat_eq kind 0x13 || (nat_eq kind 0x15 || nat_eq kind 0x17))
+is_question kind = nat_eq kind 0x11 || (nat_eq kind 0x13 || (nat_eq kind 0x15
+    || (nat_eq kind 0x17 || nat_eq kind 0x18)))
 
 -- 10 Submit, 12 Take, 14 CatchUp, 16 Compact
 abbrev pub is_change : ℕ → Bool

@@ -13,11 +13,11 @@ fn is_message(kind: u8) -> bool
     1 <= kind && kind <= 7
 }
 
-/// Question, Outcome, Status and Identify.
+/// Question, Outcome, Status, Identify and Report.
 fn is_question(kind: u8) -> bool
     ensures { result ≡ is_question kind }
 {
-    kind == 0x11 || kind == 0x13 || kind == 0x15 || kind == 0x17
+    kind == 0x11 || kind == 0x13 || kind == 0x15 || kind == 0x17 || kind == 0x18
 }
 
 /// Submit, Take, CatchUp and Compact.

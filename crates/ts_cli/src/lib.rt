@@ -69,4 +69,5 @@ pub use serve_words::ServeWords;
 pub use sync_words::SyncWords;
 pub use task::Task;
 pub use values::{address_of, is_address, peer_of};
+pub use ts_usage::VERSION;
 pub use verify_words::VerifyWords;

@@ -15,7 +15,7 @@
 //!   (`IsOther` in `specs/Others`).
 //! - [`read_file`], [`read_within`]: `short`: no more octets than a frame may have, or than are
 //!   wanted.
-//! - [`submit`], [`ask`], [`tend`]: the peer that is asked can be asked again.
+//! - [`submit`], [`ask`], [`tend`], [`state_of`]: the peer that is asked can be asked again.
 //! - [`step_line`]: a step of a plan, as a line; tests say of which words.
 //! - [`verify_files`]: it hands the certificates, CRLs and inputs that files and words give to
 //!   `ts_verify`, whose clauses say what the verdict is.
@@ -56,5 +56,5 @@ pub use kinds::other_kind;
 pub use requests::{Said, ask, submit};
 pub use running::{run, well};
 pub use steps::step_line;
-pub use upkeep::{Upkeep, tend};
+pub use upkeep::{Upkeep, state_of, tend};
 pub use verifying::verify_files;

@@ -11,7 +11,7 @@ use crate::listing::{Rows, print_diff, print_rows};
 use crate::making::{make_command, make_question, print_id, show_file};
 use crate::requests::{ask_file, carry_messages, submit_file};
 use crate::syncing::sync_store;
-use crate::upkeep::{Upkeep, tend_server};
+use crate::upkeep::{Upkeep, print_state, tend_server};
 use std::io::Print;
 use std::net::Net;
 use std::random::RandomSource;
@@ -74,7 +74,7 @@ fn run_other<R: AllocGlobal + Files + Net + Clock + RandomSource + Print + Eprin
         Task::Store { .. } | Task::Log { .. } | Task::Diff { .. } | Task::Sync(_) => Ok(()),
         Task::Format { .. } | Task::Migrate { .. } | Task::Serve(_) => Ok(()),
         Task::Carry { addresses, rounds } => carry_messages(rt, addresses, *rounds),
-        Task::Status { reach } => tend_server(rt, reach, Upkeep::Status),
+        Task::Status { reach } => print_state(rt, reach),
         Task::Identify { reach } => tend_server(rt, reach, Upkeep::Identify),
         Task::CatchUp { reach } => tend_server(rt, reach, Upkeep::CatchUp),
         Task::Compact { reach } => tend_server(rt, reach, Upkeep::Compact),

@@ -19,6 +19,8 @@ pub enum Upkeep {
     Status,
     /// Which node of which group it is.
     Identify,
+    /// How it does.
+    Report,
     /// That it asks the others for what it lacks. What they give comes with the messages that are
     /// carried then.
     CatchUp,
@@ -32,9 +34,18 @@ impl Upkeep {
         match self {
             Upkeep::Status => Frame::Status,
             Upkeep::Identify => Frame::Identify,
+            Upkeep::Report => Frame::Report,
             Upkeep::CatchUp => Frame::CatchUp,
             Upkeep::Compact => Frame::Compact,
         }
+    }
+}
+
+/// The text of a report. It is the node's own: what is no text is left out.
+fn text_of(alloc: Global, text: &[u8]) -> Result<String, Fault> {
+    match str::from_utf8(text) {
+        Ok(text) => Ok(String::from_str(alloc, text)?),
+        Err(_) => Ok(String::new(alloc)),
     }
 }
 
@@ -49,6 +60,7 @@ fn line_of(alloc: Global, upkeep: Upkeep, answer: &Frame) -> Result<String, Faul
             let (node, nodes, group) = (*node, *nodes, *group);
             Ok(format!(in alloc; "node {node} of {nodes} group {group}\n")?)
         }
+        (Upkeep::Report, Frame::Reported { text }) => text_of(alloc, text),
         (Upkeep::CatchUp, Frame::Done { .. }) => Ok(String::from_str(alloc, "catchup\n")?),
         (Upkeep::Compact, Frame::Done { count: 0 }) => {
             Ok(String::from_str(alloc, "compact working\n")?)
@@ -73,6 +85,41 @@ pub fn tend<P: Peer>(alloc: Global, peer: &mut P, upkeep: Upkeep) -> Result<Stri
 {
     let answer = answer_to(alloc, peer, upkeep.frame())?;
     line_of(alloc, upkeep, &answer)
+}
+
+/// Asks a peer how it does: how many commands it knows, which node of which group it is, and its
+/// report. A peer of an earlier version has no report.
+///
+/// # Errors
+///
+/// Those of the exchanges; the node's.
+pub fn state_of<P: Peer>(alloc: Global, peer: &mut P) -> Result<String, Fault>
+    requires { P.is_ready peer.old }
+    ensures { P.is_ready peer.new }
+{
+    let mut text = tend(alloc, peer, Upkeep::Status)?;
+    for upkeep in [Upkeep::Identify, Upkeep::Report] {
+        match tend(alloc, peer, upkeep) {
+            Ok(line) => text.push_str(line.as_str())?,
+            Err(Fault::Frame(FrameFault::Kind)) => {}
+            Err(fault) => return Err(fault),
+        }
+    }
+    Ok(text)
+}
+
+/// Asks the server at an address how it does, and prints it.
+///
+/// # Errors
+///
+/// Those of [`state_of`] and of the key's file; `Write`.
+pub fn print_state(
+    rt: &(impl AllocGlobal + Files + Net + RandomSource + Print + Eprint),
+    reach: &Reach,
+) -> Result<(), Fault> {
+    let alloc = rt.alloc();
+    let text = state_of(alloc, &mut server_at(rt, alloc, reach)?);
+    say(rt, told(rt, reach, text)?.as_str())
 }
 
 /// Asks this of the server at an address, and prints what it is answered.

@@ -37,6 +37,9 @@ pub trait Service {
         ensures answers { AnswersFrame turn self.old frame result self.new }
         ensures ready { is_ready self.new };
 
+    /// Keeps a text about how it does, for whoever asks for a report. Nothing else changes.
+    fn note(&self, text: &[u8]);
+
     /// Whether it can answer nothing more, so that it should be ended.
     fn has_failed(&self) -> bool;
 }
@@ -49,6 +52,11 @@ impl<D: Disk, M: Machine<Command, Outcome = Outcome, Question = Question, Answer
 
     fn answer(&mut self, frame: Frame) -> Result<Vec<u8>, AnswerFault> {
         self.answer_frame(frame)
+    }
+
+    /// Keeps the server's text.
+    fn note(&self, text: &[u8]) {
+        Server::note(self, text);
     }
 
     fn has_failed(&self) -> bool {

@@ -21,6 +21,8 @@ pub struct Access<'m> {
     pub http: Option<String>,
     /// What counts how often the node's disks are written and synced.
     pub meter: Option<&'m Meter>,
+    /// Lines that begin each report: what serves the node, and by which check of signatures.
+    pub about: Option<String>,
 }
 
 impl<'m> Access<'m> {
@@ -33,6 +35,7 @@ impl<'m> Access<'m> {
             open: true,
             http: None,
             meter: None,
+            about: None,
         }
     }
 

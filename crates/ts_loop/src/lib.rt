@@ -73,6 +73,7 @@ mod limits;
 mod line;
 mod lock;
 mod pumping;
+mod reporting;
 mod rounds;
 mod seal;
 mod serving;

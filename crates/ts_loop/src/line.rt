@@ -65,7 +65,7 @@ pub(crate) struct Line {
     /// When the peer was last asked how many commands it knows.
     asked: u64,
     /// When something was last heard of it.
-    heard: u64,
+    pub heard: u64,
     /// Whether it is the node that is meant, by its answer on this connection.
     is_met: bool,
     /// Which node it is, if it is another one.

@@ -19,6 +19,7 @@ use crate::group::Group;
 use crate::limits::Limits;
 use crate::pumping::Round;
 use crate::rounds::{LISTENER, mark, pump_all, sweep, write_all};
+use crate::reporting::{FRESH, report_of};
 use crate::showing::{Shown, show_all};
 use crate::watch::Watch;
 use crate::web::Web;
@@ -58,6 +59,8 @@ struct Edge {
     watch: Watch,
     start: Instant,
     swept: u64,
+    /// When the service was last told how it does.
+    noted: Option<u64>,
     /// A connection could do more.
     more: bool,
 }
@@ -188,6 +191,7 @@ impl Edge {
             watch: Watch::new(),
             start,
             swept: 0,
+            noted: None,
             more: false,
         })
     }
@@ -283,6 +287,34 @@ impl Edge {
         }
     }
 
+    /// Tells the service how it does, once a second.
+    fn note<S: Service>(&mut self, service: &S, access: &Access<'_>, now: u64) {
+        if let Some(noted) = self.noted {
+            if now.saturating_sub(noted) < FRESH {
+                return;
+            }
+        }
+        self.noted = Some(now);
+        let http = match &self.web {
+            Some(web) => web.counts,
+            None => Counts::new(),
+        };
+        let about = match &access.about {
+            Some(about) => about.as_str(),
+            None => "",
+        };
+        let shown = Shown {
+            frames: &self.counts,
+            http,
+            carrier: &self.carrier,
+            watch: &self.watch,
+            meter: access.meter,
+        };
+        if let Ok(text) = report_of(self.alloc, about, &shown, now) {
+            service.note(text.as_str().as_bytes());
+        }
+    }
+
     /// One round of the connections of HTTP.
     fn serve_web<S: Service, R: Clock>(
         &mut self,
@@ -354,6 +386,7 @@ impl Edge {
         let (event, now) = self.wait(rt, if self.goes_on() { 0 } else { ROUND })?;
         access.refresh(rt, self.alloc, now);
         self.accept(rt, table, access, event, now);
+        self.note(service, access, now);
         let round = Round {
             rt,
             keys: access.keys(),

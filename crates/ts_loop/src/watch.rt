@@ -11,13 +11,13 @@ use ts_site::{Board, Label, Metric, Turns};
 const KIND: usize = 5;
 
 /// The words for the kinds of requests, and for what is none.
-const ASKED: [&str; 10] = [
+const ASKED: [&str; 11] = [
     "message", "submit", "question", "take", "outcome", "catch_up", "status", "compact",
-    "identify", "other",
+    "identify", "report", "other",
 ];
 
 /// The words for the kinds of answers, and for what is none.
-const ANSWERED: [&str; 11] = [
+const ANSWERED: [&str; 12] = [
     "done",
     "started",
     "settled",
@@ -27,6 +27,7 @@ const ANSWERED: [&str; 11] = [
     "frame_fault",
     "prefix",
     "identity",
+    "reported",
     "message",
     "none",
 ];
@@ -36,12 +37,12 @@ const ANSWERED: [&str; 11] = [
 #[derive(Drop)]
 pub(crate) struct Watch {
     pub turns: Turns,
-    counts: [[u64; 11]; 10],
+    counts: [[u64; 12]; 11],
 }
 
 /// The place of the word for the kind of a request.
 fn asked_place(kind: Option<u8>) -> usize
-    ensures { result < 10 }
+    ensures { result < 11 }
 {
     match kind {
         Some(1..=7) => 0,
@@ -53,13 +54,14 @@ fn asked_place(kind: Option<u8>) -> usize
         Some(0x15) => 6,
         Some(0x16) => 7,
         Some(0x17) => 8,
-        _ => 9,
+        Some(0x18) => 9,
+        _ => 10,
     }
 }
 
 /// The place of the word for the kind of an answer.
 fn answer_place(kind: Option<u8>) -> usize
-    ensures { result < 11 }
+    ensures { result < 12 }
 {
     match kind {
         Some(0x20) => 0,
@@ -71,8 +73,9 @@ fn answer_place(kind: Option<u8>) -> usize
         Some(0x26) => 6,
         Some(0x27) => 7,
         Some(0x28) => 8,
-        Some(1..=7) => 9,
-        _ => 10,
+        Some(0x29) => 9,
+        Some(1..=7) => 10,
+        _ => 11,
     }
 }
 
@@ -98,7 +101,7 @@ impl Watch {
     pub fn new() -> Watch {
         Watch {
             turns: Turns::new(),
-            counts: [[0; 11]; 10],
+            counts: [[0; 12]; 11],
         }
     }
 

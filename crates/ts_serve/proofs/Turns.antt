@@ -23,6 +23,7 @@ module _ {D M B : Type 0} (state : D → State) (store : Store Command Outcome (
   only_requests old new frames.Status answers t = refl
   only_requests old new frames.Compact answers t = refl
   only_requests old new frames.Identify answers t = refl
+  only_requests old new frames.Report answers t = refl
   only_requests old new (frames.Done count) answers t = absurd t
   only_requests old new (frames.Started position ballot) answers t = absurd t
   only_requests old new (frames.Settled position outcome) answers t = absurd t
@@ -32,3 +33,4 @@ module _ {D M B : Type 0} (state : D → State) (store : Store Command Outcome (
   only_requests old new (frames.FrameFault fault) answers t = absurd t
   only_requests old new (frames.Prefix prefix) answers t = absurd t
   only_requests old new (frames.Identity node nodes group) answers t = absurd t
+  only_requests old new (frames.Reported text) answers t = absurd t

@@ -1,5 +1,6 @@
 -- A server: a node, and an outbox of its messages. What it does with one request.
-use Rattle.std.specs.Prelude.{◌≡◌, ◌||◌, List, [], ◌∷◌, ◌++◌, map, take, length}
+use Rattle.std.specs.Global.{Vec}
+use Rattle.std.specs.Prelude.{◌≡◌, ◌||◌, ℕ, List, [], ◌∷◌, ◌++◌, map, take, length}
 use Rattle.std.specs.Prelude.{Bool, true, false, Result}
 use Rattle.ts_disk.specs.Disk.{State}
 use Rattle.ts_synod.specs.Store.{Store}
@@ -58,6 +59,12 @@ module _ {D M B : Type 0} (state : D → State)
         old.node.kept.group ∷ []
     pub same : new ≡ old
 
+  -- A report is answered: a text that the server was given. Nothing changes.
+  pub record HasReported (old : Server D M) (replies : List Frame) (new : Server D M) : Type 0 where
+    pub text : Vec ℕ
+    pub said : replies ≡ frames.Reported text ∷ []
+    pub same : new ≡ old
+
   -- What a server answers to each request, and the server then. Other frames are no requests.
   abbrev pub Turn : Server D M → Frame → List Frame → Server D M → Type 0
   Turn old (frames.Peer message) replies new = Handled old (inputs.Deliver message) replies new
@@ -70,4 +77,5 @@ module _ {D M B : Type 0} (state : D → State)
   Turn old frames.Status replies new = Handled old inputs.Status replies new
   Turn old frames.Compact replies new = Handled old inputs.Compact replies new
   Turn old frames.Identify replies new = Identified old replies new
+  Turn old frames.Report replies new = HasReported old replies new
   Turn old other replies new = ⊥

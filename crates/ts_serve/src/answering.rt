@@ -29,7 +29,7 @@ pub enum AnswerFault {
     Memory,
 }
 
-/// Whether a frame is a request: one of kind 01 to 07 or 10 to 17.
+/// Whether a frame is a request: one of kind 01 to 07 or 10 to 18.
 pub fn is_request(frame: &Frame) -> bool
     ensures { result ≡ is_request frame.now }
 {
@@ -42,7 +42,8 @@ pub fn is_request(frame: &Frame) -> bool
         | Frame::NodeFault { .. }
         | Frame::FrameFault { .. }
         | Frame::Prefix { .. }
-        | Frame::Identity { .. } => false,
+        | Frame::Identity { .. }
+        | Frame::Reported { .. } => false,
         _ => true,
     }
 }

@@ -11,7 +11,7 @@ ghost use Rattle.ts_store.specs.Octets.{octets_of};
 ghost use Rattle.ts_wire.specs.Frames.{Fits};
 ghost use Rattle.ts_wire.specs.declared.frame.Frame.TheVariants.{Take};
 ghost use Rattle.ts_serve.specs.Replies.{IsWithin};
-ghost use Rattle.ts_serve.specs.Turn.{Calls, Given, Handled, Identified, Turn};
+ghost use Rattle.ts_serve.specs.Turn.{Calls, Given, Handled, HasReported, Identified, Turn};
 ghost use Rattle.ts_serve.specs.Steps.{Answers, Refuses, Says};
 
 use crate::fault::ServeFault;
@@ -19,12 +19,26 @@ use crate::outbox::Outbox;
 use crate::replies::{answer_of, failed_then};
 use crate::sending::{refuse, send, send_all};
 use std::alloc::Global;
+use std::cell::RefCell;
 use std::io::Write;
+use std::marker::Model;
 use ts_disk::Disk;
 use ts_node::{Identity, Input, Machine, Node, NodeFault, Output};
 use ts_question::{Answer, Question};
 use ts_store::{Command, Outcome};
 use ts_wire::{Feed, Frame, FrameFault};
+
+/// A text about the server that it was given.
+#[derive(Drop)]
+struct Notes {
+    text: Vec<u8>,
+}
+
+impl Model for Notes {
+    ghost Value = { Unit {0} };
+
+    ghost view = { λ _. tt };
+}
 
 /// A node, and the messages of it that wait to be taken, at most 256.
 #[derive(Drop)]
@@ -36,6 +50,8 @@ pub struct Server<D: Disk, M> {
     failed: bool,
     /// Whether the node takes its messages to itself, each behind the input that made it.
     takes_own: bool,
+    /// How the server does, as whoever runs it has said. Contracts see nothing of it.
+    notes: RefCell<Notes>,
 }
 
 /// A question, as an input of a node: over as many commands as it names.
@@ -93,6 +109,9 @@ impl<D: Disk, M: Machine<Command, Outcome = Outcome, Question = Question, Answer
                 outbox,
                 failed: false,
                 takes_own: false,
+                notes: RefCell::new(Notes {
+                    text: Vec::new(alloc),
+                }),
             }),
             Err(_) => Err(node),
         }
@@ -108,6 +127,7 @@ impl<D: Disk, M: Machine<Command, Outcome = Outcome, Question = Question, Answer
             outbox: _outbox,
             failed: _failed,
             takes_own: _takes_own,
+            notes: _notes,
         } = self;
         node
     }
@@ -135,6 +155,27 @@ impl<D: Disk, M: Machine<Command, Outcome = Outcome, Question = Question, Answer
         ensures group { result.group ≡ self.now.node.kept.group }
     {
         self.node.identity()
+    }
+
+    /// Keeps a text about the server, which a request for a report is answered with from now on.
+    /// Where memory is refused the text before stays.
+    pub fn note(&self, text: &[u8]) {
+        let Ok(text) = Vec::from_slice(self.alloc, text) else {
+            return;
+        };
+        if let Ok(mut notes) = self.notes.try_borrow_mut() {
+            notes.text = text;
+        }
+    }
+
+    /// A copy of the text about the server; an empty one where memory is refused.
+    fn notes(&self) -> Vec<u8> {
+        if let Ok(notes) = self.notes.try_borrow() {
+            if let Ok(text) = Vec::from_slice(self.alloc, &notes.text) {
+                return text;
+            }
+        }
+        Vec::new(self.alloc)
     }
 
     /// What the server allocates with.
@@ -222,6 +263,16 @@ impl<D: Disk, M: Machine<Command, Outcome = Outcome, Question = Question, Answer
         send(self.alloc, writer, frame)
     }
 
+    /// Writes the text about the server that it was given last.
+    fn report<W: Write>(&self, writer: &mut W) -> Result<(), ServeFault>
+        ensures said { Says (HasReported D.state
+            (store_of Asked M.client_id M.outcome) M.basis M.is_answer self.now)
+            (W.contents writer.old) result self.now (W.contents writer.new) }
+    {
+        let text = self.notes();
+        send(self.alloc, writer, Frame::Reported { text })
+    }
+
     /// Answers a frame.
     pub(crate) fn answer<W: Write>(
         &mut self,
@@ -245,6 +296,7 @@ impl<D: Disk, M: Machine<Command, Outcome = Outcome, Question = Question, Answer
             Frame::Status => self.respond(Input::Status, writer),
             Frame::Compact => self.respond(Input::Compact, writer),
             Frame::Identify => self.identify(writer),
+            Frame::Report => self.report(writer),
             _ => Err(self.refuse(FrameFault::Kind, writer)),
         }
     }

@@ -1,11 +1,12 @@
 //! The group that a node is served in.
 
-use std::alloc::Global;
+use std::alloc::{AllocError, Global};
 use std::fs;
 use std::io::Read;
 use std::rt::Files;
 use ts_access::{Key, Role};
-use ts_cli::{ServeWords, peer_of};
+use ts_check::ALGORITHMS;
+use ts_cli::{ServeWords, VERSION, peer_of};
 use ts_client::{Fault, fault_of, key_in, keyring_of};
 use ts_loop::{Access, Group, PeerAddress};
 use ts_meter::Meter;
@@ -118,7 +119,30 @@ pub(crate) fn access_of<'m, R: Files + Eprint>(
         open: words.open,
         http: copy_of(alloc, &words.http)?,
         meter: Some(meter),
+        about: Some(about_of(alloc, words)?),
     })
+}
+
+/// The check of signatures, in a word.
+fn check_word(words: &ServeWords) -> &'static str {
+    if words.stand_in {
+        return "stand-in";
+    }
+    match words.table {
+        Some(_) => "native, table",
+        None => "native",
+    }
+}
+
+/// What serves a node: the program's version, its check of signatures, and which algorithms that
+/// knows.
+fn about_of(alloc: Global, words: &ServeWords) -> Result<String, AllocError> {
+    let check = check_word(words);
+    let mut about = format!(in alloc; "version {VERSION}\ncheck {check}\n")?;
+    if !words.stand_in {
+        about.push_str(ALGORITHMS)?;
+    }
+    Ok(about)
 }
 
 /// Says on standard error what is served, and what is not protected, unless that is not wanted.

@@ -30,5 +30,5 @@ mod verdict_shape;
 mod verify_shape;
 
 pub use command_shape::commands;
-pub use program_shape::program;
+pub use program_shape::{VERSION, program};
 pub use question_shape::questions;

@@ -9,7 +9,7 @@ use Rattle.ts_codec.specs.Reading.{◌>>=◌, ◌and◌, ◌into◌, bare, looku
 use Rattle.ts_codec.proofs.Laws.{Part}
 use Rattle.ts_codec.proofs.Numbers.{octets_part}
 use Rattle.ts_codec.proofs.Rows.{fitting, recoded, and_part, into_part, parts_again, Case, case, bare_case, ◌also◌, kind_part, fields_part, code_part}
-use Rattle.ts_codec.proofs.Lists.{within_blob}
+use Rattle.ts_codec.proofs.Lists.{within_blob, blob32_part}
 use Rattle.ts_codec.proofs.Values.{node_part, position_part, prefix_part, ballot_part, word_part}
 use Rattle.ts_synod.specs.declared.message.Body.{Body}
 use Rattle.ts_synod.specs.declared.message.Body.TheVariants.{Prepare, Promise, Busy, Accept, Accepted, Ask, Give}
@@ -36,7 +36,7 @@ use Rattle.ts_wire.specs.declared.fault.NodeFault.TheVariants.{Memory, DiskFaile
 use Rattle.ts_wire.specs.declared.fault.FrameFault.{FrameFault as FrameFaultOf}
 use Rattle.ts_wire.specs.declared.fault.FrameFault.TheVariants.{Length, Version, Kind, Field, Trailing}
 use Rattle.ts_wire.specs.declared.frame.Frame.{Frame}
-use Rattle.ts_wire.specs.declared.frame.Frame.TheVariants.{Peer, Submit, Question, Take, Outcome, CatchUp, Status, Compact, Done, Started, Settled, Answer, Unknown, NodeFault, FrameFault, Prefix, Identify, Identity}
+use Rattle.ts_wire.specs.declared.frame.Frame.TheVariants.{Peer, Submit, Question, Take, Outcome, CatchUp, Status, Compact, Done, Started, Settled, Answer, Unknown, NodeFault, FrameFault, Prefix, Identify, Identity, Report, Reported}
 
 -- ---- parts of frames
 
@@ -223,6 +223,7 @@ again CatchUp rest fit = refl
 again Status rest fit = refl
 again Compact rest fit = refl
 again Identify rest fit = refl
+again Report rest fit = refl
 again (Done n) rest fit = parts_again word_part Done n rest fit
 again (Started p b) rest fit = parts_again started_part (λ x. Started x.0 x.1) (p, b) rest fit
 again (Settled p x) rest fit = parts_again settled_part (λ x. Settled x.0 x.1) (p, x) rest fit
@@ -232,6 +233,7 @@ again (NodeFault x) rest fit = parts_again node_fault_part NodeFault x rest tt
 again (FrameFault x) rest fit = parts_again frame_fault_part FrameFault x rest tt
 again (Prefix p) rest fit = parts_again prefix_part Prefix p rest fit
 again (Identity n m g) rest fit = parts_again identity_part (λ x. Identity x.0 x.1.0 x.1.1) (n, (m, g)) rest (fit.0, (fit.1, fit.2))
+again (Reported t) rest fit = parts_again blob32_part Reported t rest fit
 
 empty : (f : Frame) (n : ℕ) → fields f ≡ [] → FieldsFit f → kind_of f ≡ n → Case kind_of fields FieldsFit n (bare f)
 empty f n none fit is = bare_case f n none fit is
@@ -254,6 +256,7 @@ cases =
     also empty Status 21 refl tt refl
     also empty Compact 22 refl tt refl
     also empty Identify 23 refl tt refl
+    also empty Report 24 refl tt refl
     also case word_part Done 32 (λ x fit. (fit, refl, refl))
     also case started_part (λ x. Started x.0 x.1) 33 (λ x fit. (fit, refl, refl))
     also case settled_part (λ x. Settled x.0 x.1) 34 (λ x fit. (fit, refl, refl))
@@ -263,6 +266,7 @@ cases =
     also case frame_fault_part FrameFault 38 (λ x fit. (tt, refl, refl))
     also case prefix_part Prefix 39 (λ x fit. (fit, refl, refl))
     also case identity_part (λ x. Identity x.0 x.1.0 x.1.1) 40 (λ x fit. ((fit.0, fit.1.0, fit.1.1), refl, refl))
+    also case blob32_part Reported 41 (λ x fit. (fit, refl, refl))
     also tt
 
 -- the fields of one kind

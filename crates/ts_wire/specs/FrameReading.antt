@@ -2,7 +2,7 @@
 use Rattle.std.specs.Prelude.{◌==◌, ℕ, List, [], ◌∷◌, length, Option, Some, None, Result, Ok, Err}
 use Rattle.std.specs.Prelude.{if◌then◌else◌}
 use Rattle.std.specs.Int.{w32}
-use Rattle.ts_codec.specs.Reading.{Reader, ◌and◌, ◌into◌, bare, number_at, octets_at, node_at}
+use Rattle.ts_codec.specs.Reading.{Reader, ◌and◌, ◌into◌, bare, number_at, octets_at, node_at, blob32_at}
 use Rattle.ts_codec.specs.Reading.{position_at, prefix_at, ballot_at, within_blob_at, code_at}
 use Rattle.ts_codec.specs.Reading.{of_kind, by_kind}
 use Rattle.ts_question.specs.QuestionReading.{question_at}
@@ -34,6 +34,7 @@ use Rattle.ts_wire.specs.declared.frame.Frame.TheVariants.{Peer, Submit, Questio
 use Rattle.ts_wire.specs.declared.frame.Frame.TheVariants.{CatchUp, Status, Compact, Done, Started}
 use Rattle.ts_wire.specs.declared.frame.Frame.TheVariants.{Settled, Answer, Unknown, NodeFault}
 use Rattle.ts_wire.specs.declared.frame.Frame.TheVariants.{FrameFault, Prefix, Identify, Identity}
+use Rattle.ts_wire.specs.declared.frame.Frame.TheVariants.{Report, Reported}
 
 abbrev pub route_of : ℕ × (ℕ × ℕ) → Route
 route_of x = record { from = x.0; to = x.1.0; position = x.1.1 }
@@ -115,11 +116,11 @@ readers = (1, prepare_at) ∷ (2, promise_at) ∷ (3, busy_at) ∷ (4, accept_at
     ∷ (6, ask_at) ∷ (7, give_at)
     ∷ (16, blob_command_at into Submit) ∷ (17, within_blob_at question_at into Question)
     ∷ (18, bare Take) ∷ (19, octets_at 16 into Outcome) ∷ (20, bare CatchUp)
-    ∷ (21, bare Status) ∷ (22, bare Compact) ∷ (23, bare Identify)
+    ∷ (21, bare Status) ∷ (22, bare Compact) ∷ (23, bare Identify) ∷ (24, bare Report)
     ∷ (32, number_at w32 into Done) ∷ (33, started_at) ∷ (34, settled_at)
     ∷ (35, answer_at into Answer) ∷ (36, bare Unknown) ∷ (37, code_at node_faults into NodeFault)
     ∷ (38, code_at frame_faults into FrameFault) ∷ (39, prefix_at into Prefix)
-    ∷ (40, identity_at) ∷ []
+    ∷ (40, identity_at) ∷ (41, blob32_at into Reported) ∷ []
 
 unfoldable pub fields_at : ℕ → Reader Frame
 fields_at = of_kind readers

@@ -19,6 +19,7 @@ use Rattle.ts_wire.specs.declared.frame.Frame.TheVariants.{Peer, Submit, Questio
 use Rattle.ts_wire.specs.declared.frame.Frame.TheVariants.{CatchUp, Status, Compact, Done, Started}
 use Rattle.ts_wire.specs.declared.frame.Frame.TheVariants.{Settled, Answer, Unknown, NodeFault}
 use Rattle.ts_wire.specs.declared.frame.Frame.TheVariants.{FrameFault, Prefix, Identify, Identity}
+use Rattle.ts_wire.specs.declared.frame.Frame.TheVariants.{Report, Reported}
 
 abbrev pub body_kind : Body Command → ℕ
 body_kind (Prepare position ballot) = 1
@@ -29,7 +30,7 @@ body_kind (Accepted position ballot command) = 5
 body_kind (Ask position) = 6
 body_kind (Give position command) = 7
 
--- the octet that names a frame's kind, 10 to 28 being hexadecimal
+-- the octet that names a frame's kind, 10 to 29 being hexadecimal
 abbrev pub kind_of : Frame → ℕ
 kind_of (Peer message) = body_kind message.body
 kind_of (Submit command) = 16
@@ -40,6 +41,7 @@ kind_of CatchUp = 20
 kind_of Status = 21
 kind_of Compact = 22
 kind_of Identify = 23
+kind_of Report = 24
 kind_of (Done count) = 32
 kind_of (Started position ballot) = 33
 kind_of (Settled position outcome) = 34
@@ -49,11 +51,12 @@ kind_of (NodeFault fault) = 37
 kind_of (FrameFault fault) = 38
 kind_of (Prefix prefix) = 39
 kind_of (Identity node nodes group) = 40
+kind_of (Reported text) = 41
 
--- 01 to 07, 10 to 17 and 20 to 28, hexadecimal
+-- 01 to 07, 10 to 18 and 20 to 29, hexadecimal
 abbrev pub is_kind : ℕ → Bool
-is_kind kind = (nat_le 1 kind && nat_le kind 7) || (nat_le 16 kind && nat_le kind 23)
-    || (nat_le 32 kind && nat_le kind 40)
+is_kind kind = (nat_le 1 kind && nat_le kind 7) || (nat_le 16 kind && nat_le kind 24)
+    || (nat_le 32 kind && nat_le kind 41)
 
 -- 00, or 01, the ballot and the command
 abbrev pub taken_encoding : Option (Vote Command) → List ℕ
@@ -84,6 +87,7 @@ fields CatchUp = []
 fields Status = []
 fields Compact = []
 fields Identify = []
+fields Report = []
 fields (Done count) = to_be_bytes w32 count
 fields (Started position ballot) = to_be_bytes w32 position ++ to_be_bytes w64 ballot
 fields (Settled position outcome) = to_be_bytes w32 position ++ outcome_encoding outcome
@@ -93,6 +97,7 @@ fields (NodeFault fault) = node_fault_code fault ∷ []
 fields (FrameFault fault) = frame_fault_code fault ∷ []
 fields (Prefix prefix) = to_be_bytes w32 prefix
 fields (Identity node nodes group) = node ∷ nodes ∷ to_be_bytes w32 group
+fields (Reported text) = blob32 text.items
 
 -- four octets of the length of what follows; the version, 02; the kind; the fields
 abbrev pub encoding : Frame → List ℕ
@@ -131,6 +136,7 @@ FieldsFit (Answer answer) = AnswerFits answer
 FieldsFit (Prefix prefix) = nat_le prefix 1000000 ≡ true
 FieldsFit (Identity node nodes group) = (is_node node ≡ true) × (is_node nodes ≡ true)
     × (nat_lt group 4294967296 ≡ true)
+FieldsFit (Reported text) = nat_lt (length text.items) 4294967296 ≡ true
 FieldsFit other = Unit {0}
 
 -- the fields fit, and the length is at most 8,388,608

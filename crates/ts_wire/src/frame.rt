@@ -26,6 +26,8 @@ pub enum Frame {
     Compact,
     /// Which node of which group it is, is asked for.
     Identify,
+    /// How the server does is asked for.
+    Report,
     /// It was done, or so many messages were given.
     Done { count: u32 },
     /// A round began for the command.
@@ -44,4 +46,6 @@ pub enum Frame {
     Prefix { prefix: u32 },
     /// The node, of how many, and its group; group 0 is none.
     Identity { node: u8, nodes: u8, group: u32 },
+    /// How the server does, as a text.
+    Reported { text: Vec<u8> },
 }

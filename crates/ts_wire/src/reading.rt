@@ -342,13 +342,23 @@ fn known(octets: &[u8]) -> Result<(Frame, &[u8]), ReadFault>
     Ok((Frame::Prefix { prefix }, rest))
 }
 
+/// The text of a report, which is copied.
+#[tactic(auto, unfolding(crate::specs::FrameReading::fields_at, ts_codec::specs::Reading::of_kind))]
+fn reported(alloc: Global, octets: &[u8]) -> Result<(Frame, &[u8]), ReadFault>
+    ensures { Gives (λ x. (x.0, x.1.now)) result (fields_at 0x29 octets.now) }
+{
+    let (content, rest) = blob32(octets)?;
+    let text = Vec::from_slice(alloc, content)?;
+    Ok((Frame::Reported { text }, rest))
+}
+
 /// Whether frames are of this kind.
 pub(crate) fn is_kind(kind: u8) -> bool
     ensures { result ≡ is_kind kind }
 {
     (0x01 <= kind && kind <= 0x07)
-        || (0x10 <= kind && kind <= 0x17)
-        || (0x20 <= kind && kind <= 0x28)
+        || (0x10 <= kind && kind <= 0x18)
+        || (0x20 <= kind && kind <= 0x29)
 }
 
 /// The fields of a frame of this kind, and what follows them.
@@ -372,6 +382,7 @@ pub(crate) fn fields(alloc: Global, kind: u8, octets: &[u8]) -> Result<(Frame, &
         0x15 => Ok((Frame::Status, octets)),
         0x16 => Ok((Frame::Compact, octets)),
         0x17 => Ok((Frame::Identify, octets)),
+        0x18 => Ok((Frame::Report, octets)),
         0x20 => done(octets),
         0x21 => started(octets),
         0x22 => settled(octets),
@@ -381,6 +392,7 @@ pub(crate) fn fields(alloc: Global, kind: u8, octets: &[u8]) -> Result<(Frame, &
         0x26 => frame_fault(octets),
         0x27 => known(octets),
         0x28 => identity(octets),
+        0x29 => reported(alloc, octets),
         _ => Err(ReadFault::Form),
     }
 }

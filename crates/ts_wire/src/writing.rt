@@ -170,6 +170,7 @@ fn kind_of(frame: &Frame) -> u8
         Frame::Status => 0x15,
         Frame::Compact => 0x16,
         Frame::Identify => 0x17,
+        Frame::Report => 0x18,
         Frame::Done { .. } => 0x20,
         Frame::Started { .. } => 0x21,
         Frame::Settled { .. } => 0x22,
@@ -179,6 +180,7 @@ fn kind_of(frame: &Frame) -> u8
         Frame::FrameFault { .. } => 0x26,
         Frame::Prefix { .. } => 0x27,
         Frame::Identity { .. } => 0x28,
+        Frame::Reported { .. } => 0x29,
     }
 }
 
@@ -213,11 +215,13 @@ fn push_fields(alloc: Global, out: &mut Vec<u8>, frame: &Frame) -> Result<(), Al
             out.push(*nodes)?;
             push_number32(out, *group)?;
         }
+        Frame::Reported { text } => push_blob32(out, text.as_slice())?,
         Frame::Take
         | Frame::CatchUp
         | Frame::Status
         | Frame::Compact
         | Frame::Identify
+        | Frame::Report
         | Frame::Unknown => {}
     }
     Ok(())

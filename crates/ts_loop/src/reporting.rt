@@ -1,0 +1,56 @@
+//! How the server does, in lines of text, for whoever asks for a report.
+
+use crate::line::Line;
+use crate::showing::Shown;
+use std::alloc::{AllocError, Global};
+
+/// How many milliseconds a report is given out for.
+pub(crate) const FRESH: u64 = 1_000;
+
+/// The line of a peer: whether it has answered on its connection, how many commands it has said
+/// that it knows, how many messages wait for it and how many were dropped, and for how many seconds
+/// nothing was heard of it.
+fn peer_line(alloc: Global, line: &Line, now: u64) -> Result<String, AllocError> {
+    let node = line.node;
+    let state = if line.is_known() { "reached" } else { "lost" };
+    let (prefix, waiting, dropped) = (line.prefix, line.waiting(), line.dropped);
+    if line.heard == 0 {
+        return format!(in alloc;
+            "peer {node} {state} prefix {prefix} waiting {waiting} dropped {dropped} heard never\n"
+        );
+    }
+    let silent = now.saturating_sub(line.heard) / 1_000;
+    format!(in alloc;
+        "peer {node} {state} prefix {prefix} waiting {waiting} dropped {dropped} heard {silent}\n"
+    )
+}
+
+/// Adds a line of the peers.
+fn add_peers(text: &mut String, alloc: Global, lines: &[Line], now: u64) -> Result<(), AllocError> {
+    for line in lines {
+        let line = peer_line(alloc, line, now)?;
+        text.push_str(line.as_str())?;
+    }
+    Ok(())
+}
+
+/// The report: the lines about the program; the connections that are open, of frames and of HTTP;
+/// each peer; how often the record's files were written and synced.
+pub(crate) fn report_of(
+    alloc: Global,
+    about: &str,
+    shown: &Shown<'_>,
+    now: u64,
+) -> Result<String, AllocError> {
+    let mut text = String::from_str(alloc, about)?;
+    let (frames, http) = (shown.frames.open, shown.http.open);
+    let line = format!(in alloc; "connections {frames} http {http}\n")?;
+    text.push_str(line.as_str())?;
+    add_peers(&mut text, alloc, shown.carrier.lines(), now)?;
+    if let Some(meter) = shown.meter {
+        let (appends, syncs) = (meter.writes(), meter.syncs());
+        let line = format!(in alloc; "appends {appends} syncs {syncs}\n")?;
+        text.push_str(line.as_str())?;
+    }
+    Ok(text)
+}
