@@ -90,6 +90,7 @@ type Parts<'a> = (usize, bool, &'a [u8], &'a [u8], &'a [u8]);
 /// The common name R.
 const ISSUER: &[u8] = b"\x30\x0c\x31\x0a\x30\x08\x06\x03\x55\x04\x03\x0c\x01\x52";
 
+/// Reads a CRL, and gives the parts that the rows show.
 fn parts<'a>(octets: &'a [u8]) -> Option<Parts<'a>> {
     let crl = Crl::read(octets).ok()?;
     let algorithm = crl.signature_algorithm();
@@ -111,6 +112,7 @@ fn reads_octets_where_they_lie(rt: HostRuntime) {
 /// The version of a list, when it was issued and when the next one is, with the form of that.
 type Updates = (ListVersion, i64, Option<(TimeForm, i64)>);
 
+/// Reads a CRL, and gives its version, thisUpdate and nextUpdate.
 fn updates(octets: &[u8]) -> Option<Updates> {
     let crl = Crl::read(octets).ok()?;
     let next = match crl.next_update() {

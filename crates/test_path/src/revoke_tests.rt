@@ -42,6 +42,7 @@ fn under(cert: &[u8], first: &[u8], second: &[u8]) -> Option<Status> {
     under_two(cert, first, second, D_1)
 }
 
+/// The status in June under two CRLs and a delta CRL.
 fn under_two<'x>(cert: &[u8], first: &'x [u8], second: &'x [u8], delta: &[u8]) -> Option<Status> {
     let cert = Cert::read(cert).ok()?;
     let lists = [Crl::read(first).ok()?, Crl::read(second).ok()?];

@@ -1,8 +1,8 @@
 //! Fast path. `false` or `None` means undecided; the caller then uses the full reader. Removing it
 //! changes speed alone.
 //!
-//! The layout of a certificate of version 3 with extensions, in UTCTimes, without unique
-//! identifiers, as most are: by offsets alone, in one walk that keeps nothing.
+//! The layout of a certificate of version 3 that has extensions and UTCTimes and no unique
+//! identifiers, as most certificates do. One walk finds it by offsets alone and keeps nothing else.
 
 ghost use Rattle.std.specs.Prelude.{◌≡◌, ◌≤◌, ◌+◌, IfSome, List, Option, length, true, unwrap_or};
 ghost use Rattle.std.specs.Prelude.{[], ℕ};

@@ -71,9 +71,9 @@ impl<'a> Crl<'a> {
     /// `Indirect`; `RelativeName`;
     /// `DeltaCrl`.
     pub fn read(octets: &'a [u8]) -> Result<Crl<'a>, CrlFault<'a>>
-        // What is read is encoded so.
+        // The octets encode the CRL that is given.
         ensures found { IfOk result (λ crl. IsCertificateList octets.now (crl_in crl)) }
-        // What is encoded so is read.
+        // A CRL that the octets encode is the one that is given.
         ensures only { (c : CertificateList) → IsCertificateList octets.now c
             → IsOkAnd result (λ crl. crl_in crl ≡ c) }
         ensures fault { option_map fault_in (refusal result) ≡ crl_fault octets.now }
@@ -212,6 +212,7 @@ impl<'a> Crl<'a> {
     }
 }
 
+/// The first entry of a CRL that has this serial number.
 fn find_entry<'a>(crl: Crl<'a>, serial: Integer<'_>) -> Option<Entry<'a>>
     ensures { option_map entry_in result ≡ first_entry serial.entry.octets.now (crl_in crl.entry) }
 {
@@ -232,6 +233,7 @@ pub(crate) fn broken_rule<'a>(crl: &Crl<'a>) -> Option<CrlFault<'a>>
     }
 }
 
+/// The CRL that octets are, or the first rule that they break: the rules of the shape come first.
 #[tactic(auto, unfolding(crate::specs::Table::crl_of))]
 fn read_crl<'a>(octets: &'a [u8]) -> Result<Crl<'a>, CrlFault<'a>>
     ensures { AnswersBy crl_in fault_in result (crl_of octets.now) }

@@ -34,6 +34,8 @@ impl<'a> FromElement<'a> for Mark<'a> {
     }
 }
 
+/// The serial number of the entry that an element is. It is refused where its content does not
+/// begin with an INTEGER; what follows that is not read.
 #[tactic(auto, unfolding(crate::specs::Marks::mark_of))]
 fn read_mark<'a>(element: Element<'a>) -> Result<Mark<'a>, Fault>
     ensures { Answers mark_as result (mark_of (now element.entry)) }

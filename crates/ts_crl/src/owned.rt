@@ -123,14 +123,15 @@ fn check<'a>(octets: &'a [u8]) -> Result<Checked, CrlFault<'a>>
     }
 }
 
-/// What has to be known of shared octets that are a list, to lend it again.
+/// Checks shared octets, and gives what has to be known of a CRL so that `view` need not read it
+/// again.
 fn check_shared(octets: &Octets) -> Result<Checked, CrlFault<'_>>
     ensures { Checks octets.now result }
 {
     check(octets.as_slice())
 }
 
-/// A list that is lent with the hash of what is signed of it.
+/// A borrowed CRL, with the hash of the octets that are signed in it.
 fn with_digest<'a>(crl: Crl<'a>, digest: &'a Digest) -> Crl<'a>
     requires { IsDigestOf digest.now (crl_in crl).tbs }
     ensures { located_list_in result ≡ located_list_in crl.entry }
@@ -151,7 +152,7 @@ fn with_digest<'a>(crl: Crl<'a>, digest: &'a Digest) -> Crl<'a>
 }
 
 impl OwnedCrl {
-    /// A copy of octets that are a list.
+    /// A copy of octets that are a CRL.
     ///
     /// # Errors
     ///
@@ -200,7 +201,8 @@ impl OwnedCrl {
         })
     }
 
-    /// The list, lent. Its names, its entries and its extensions are not read again.
+    /// The CRL, borrowed from these octets. Its names, its entries and its extensions are not read
+    /// again.
     pub fn view(&self) -> Crl<'_>
         ensures found { IsCertificateList self.now (crl_in result) }
         ensures exact { crl_of self.now ≡ Ok (crl_in result) }

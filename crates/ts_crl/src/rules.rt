@@ -83,6 +83,7 @@ pub(crate) fn rule_fault<'a>(
     }
 }
 
+/// The first place at which extensions break a rule; none where they are absent.
 fn fault_if_any(
     rule: ExtensionRule,
     holder: Holder,
@@ -122,6 +123,7 @@ fn fault_by_place(rule: ExtensionRule, crl: &Crl<'_>) -> Option<CertFault>
     }
 }
 
+/// The first place at which a CRL of version 1 has extensions, which that version does not allow.
 fn version_fault(crl: &Crl<'_>) -> Option<CertFault>
     ensures { result ≡ version_fault_of crl.now.version (located_list_in crl.now) }
 {
@@ -131,6 +133,8 @@ fn version_fault(crl: &Crl<'_>) -> Option<CertFault>
     }
 }
 
+/// The fault of a CRL whose two algorithm identifiers differ (RFC 5280 5.1.1.2), at the one beside
+/// the signature.
 fn algorithms_fault(crl: &Crl<'_>) -> Option<CertFault>
     ensures { result ≡ algorithms_fault_of (located_list_in crl.now) }
 {

@@ -99,6 +99,8 @@ fn have_same_values(crl: &Crl<'_>, other: &Crl<'_>) -> bool
     )
 }
 
+/// Whether two CRLs are of one slot: issuer, issuing distribution point and authority key
+/// identifier are the same. They are compared without an allocation.
 #[tactic(auto, unfolding(crate::specs::Slots::is_same_slot))]
 fn are_of_one_slot(crl: &Crl<'_>, other: &Crl<'_>) -> bool
     ensures { result ≡ are_one_slot (crl_in crl.now) (crl_in other.now) }
@@ -106,6 +108,8 @@ fn are_of_one_slot(crl: &Crl<'_>, other: &Crl<'_>) -> bool
     is_same(crl.issuer(), other.issuer()) && have_same_values(crl, other)
 }
 
+/// Whether two CRLs are of one slot, as `are_of_one_slot` answers, where memory may be used to
+/// compare the issuers.
 #[tactic(auto, unfolding(crate::specs::Slots::is_same_slot))]
 fn are_of_one_slot_in(alloc: Global, crl: &Crl<'_>, other: &Crl<'_>) -> Result<bool, AllocError>
     ensures { IfOk result (λ same. same ≡ are_one_slot (crl_in crl.now) (crl_in other.now)) }

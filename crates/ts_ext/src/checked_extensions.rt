@@ -62,6 +62,8 @@ impl<'a> CheckedExtensions<'a> {
     }
 }
 
+/// The extensions in the one SEQUENCE that an explicit tag holds, with the first rule that they
+/// break in a holder. It is refused where the shape is wrong or something follows the SEQUENCE.
 #[tactic(auto, unfolding(ts_shape::specs::Items::alone, ts_shape::specs::Items::each, ts_shape::specs::Items::of_tag))]
 #[inline(always)]
 fn judge_explicit<'a>(element: Element<'a>, holder: Holder) -> Result<CheckedExtensions<'a>, Fault>

@@ -65,6 +65,8 @@ impl<'a> IssuingDistributionPoint<'a> {
     }
 }
 
+/// The IssuingDistributionPoint (RFC 5280 5.2.5) that an element's content is, or the first rule
+/// that it breaks.
 #[tactic(auto, unfolding(crate::specs::Points::issuing_point_of))]
 fn read_issuing_point<'a>(element: Element<'a>) -> Result<IssuingDistributionPoint<'a>, Fault>
     ensures { Answers issuing_point_in result (issuing_point_of (now element.entry)) }

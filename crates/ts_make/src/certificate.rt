@@ -74,7 +74,7 @@ pub fn make_cert(alloc: Global, text: &CertText<'_>) -> Result<Vec<u8>, MakeFaul
     ensures made { (before after : List ℕ) × IsTimeOf before text.now.from
         × IsTimeOf after text.now.to
         × AnswersMade result (made before after text.now) }
-    // What is read from it is the description.
+    // Reading it gives the description.
     ensures described { IfOk result
         (λ v. (c : Certificate) × (certificate_of v.items ≡ Ok c) × IsDescribed text.now c) }
     // It is signed by the stand-in under the signer's key.

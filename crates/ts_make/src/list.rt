@@ -31,7 +31,8 @@ fn write_crl(
     this: &TimeText,
     next: &TimeText,
 ) -> Result<Vec<u8>, MakeFault>
-    ensures exact { Writes result (made_crl (time_octets this.now) (time_octets next.now) text.now) }
+    ensures exact { Writes result
+        (made_crl (time_octets this.now) (time_octets next.now) text.now) }
     ensures sayable { OnOk result (IsSayableCrl text.now) }
 {
     let mut fields = write_crl_tbs(alloc, text, this, next)?;

@@ -241,6 +241,7 @@ impl<'a> Name<'a> {
     }
 }
 
+/// The name that an element's content is, or the first rule that it breaks.
 #[inline(always)]
 fn read_name<'a>(element: Element<'a>) -> Result<Name<'a>, Fault>
     ensures { Answers rdns_in result (name_of (now element.entry)) }
@@ -264,6 +265,7 @@ impl<'a> Rdn<'a> {
     }
 }
 
+/// The relative distinguished name that an element's content is, or the first rule that it breaks.
 fn read_rdn<'a>(element: Element<'a>) -> Result<Rdn<'a>, Fault>
     ensures { Answers attributes_in result (rdn_of (now element.entry)) }
 {

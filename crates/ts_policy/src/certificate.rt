@@ -61,6 +61,7 @@ impl<'a> Certificate<'a> {
     }
 }
 
+/// Whether a mapping has anyPolicy on either side.
 fn names_any(mappings: &[Mapping<'_>]) -> bool
     ensures { result ≡ maps_any_of mappings.now }
 {

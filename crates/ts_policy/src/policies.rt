@@ -203,6 +203,7 @@ fn tops<'a>(
         .collect(alloc)
 }
 
+/// The labels above of those links whose own label is alive.
 fn above_alive<'a>(
     alloc: Global,
     links: &[Link<'a>],
@@ -249,12 +250,14 @@ fn accepts_any(user: &[&[u8]]) -> bool
     user.is_empty() || names_any(user)
 }
 
+/// Whether anyPolicy is among the user's policies.
 fn names_any(user: &[&[u8]]) -> bool
     ensures { result ≡ list_any (λ p. same p.now anyPolicy) user.now }
 {
     user.iter().any(|p| is_any(p))
 }
 
+/// The user's policies that were found, in the user's order.
 fn members<'a>(
     alloc: Global,
     found: &Labels<'a>,
