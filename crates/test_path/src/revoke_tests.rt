@@ -283,7 +283,7 @@ const CHECKED: [(&[u8], &[u8], &[u8], Status, u32); 9] = [
     (L_U1, R_NAMED_6, FORGED, Status::Revoked(6), 2),
     // Pass 1 decides.
     (L_U1, U1, Y_6, Status::Revoked(6), 2),
-    // A list of another issuer, and one for the reasons of no point.
+    // A CRL of another issuer, and one for the reasons of no point.
     (L_U1, STRANGE, U1, Status::Good, 1),
     (L_REASONS, X_REST, U1_1, Status::Revoked(1), 1),
 ];

@@ -9,7 +9,7 @@ use ts_der::tag::INTEGER;
 use ts_der::{Element, Fault};
 use ts_shape::FromElement;
 
-/// An entry of a list that was read before, of which no more is read again than its serial number.
+/// An entry of a CRL that was read before, of which no more is read again than its serial number.
 #[derive(Clone, Copy)]
 pub(crate) struct Mark<'a> {
     /// The content octets of the serial number.

@@ -94,7 +94,7 @@ fn judge<'a>(element: Element<'a>, holder: Holder) -> Result<CheckedExtensions<'
     }
 }
 
-/// The same for any list.
+/// The list that a SEQUENCE's content is, and the first rule that it breaks, without the fast path.
 #[inline(always)]
 pub(crate) fn judge_each<'a>(
     element: Element<'a>,

@@ -40,7 +40,7 @@ fn write_certificate(
     element(alloc, SEQUENCE, &fields)
 }
 
-/// The same, where it can be read.
+/// Writes a certificate, and refuses it where it can't be read.
 fn write_readable(
     alloc: Global,
     text: &CertText<'_>,

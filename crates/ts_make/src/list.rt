@@ -42,7 +42,7 @@ fn write_crl(
     element(alloc, SEQUENCE, &fields)
 }
 
-/// The same, unless it breaks a rule that has a place.
+/// Writes a CRL, and refuses it where it breaks a rule that has a place.
 fn write_whole_crl(
     alloc: Global,
     text: &CrlText<'_>,
@@ -63,21 +63,21 @@ fn write_whole_crl(
     }
 }
 
-/// The DER of the list that a description says, signed by the stand-in under the signer's key.
+/// The DER of the CRL that a description says, signed by the stand-in under the signer's key.
 ///
 /// # Errors
 ///
 /// `TooLong` exactly where the octets would be more than 4,194,304; `Unreadable` exactly where a
-/// rule that has a place is broken: a moment lies outside the years 0 to 9999, which no list can
-/// say, or the extensions are not those that a list may have; `Memory` only where memory ran out. A
+/// rule that has a place is broken: a moment lies outside the years 0 to 9999, which no CRL can
+/// say, or the extensions are not those that a CRL may have; `Memory` only where memory ran out. A
 /// critical extension that is not processed is no error, nor is a base number without a number:
-/// what is made is the list that says it, which reading refuses.
+/// what is made is the CRL that says it, which reading refuses.
 pub fn make_crl(alloc: Global, text: &CrlText<'_>) -> Result<Vec<u8>, MakeFault>
-    // It is the one list that says the description, where a list may be so long.
+    // It is the one CRL that says the description, where a CRL may be so long.
     ensures made { (this next : List ℕ) × IsTimeOf this text.now.this_update
         × IsTimeOf next text.now.next_update
         × AnswersCrl IsTaken result (made_crl this next text.now) }
-    // It has the shape of the list that the description says, and reading gives that list, or
+    // It has the shape of the CRL that the description says, and reading gives that CRL, or
     // refuses it for its first critical extension that is not processed, or as a delta without a
     // number.
     ensures described { IfOk result
