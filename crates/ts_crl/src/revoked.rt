@@ -20,6 +20,6 @@ pub struct Revoked<'a> {
     pub(crate) findings: Findings<'a>,
     // The entries were read.
     ghost read: { refusal (revoked_of (now element)) ≡ None },
-    // What was found is found in these.
+    // The findings are those of these entries.
     ghost found: { findings_in findings ≡ findings_of (items_at entry_in (inside (now element))) },
 }

@@ -82,7 +82,7 @@ pub fn make_cert(alloc: Global, text: &CertText<'_>) -> Result<Vec<u8>, MakeFaul
         × IsSignedBy text.now.signer.now c) }
     // Moments outside of the years 0 to 9999 have no encoding.
     ensures years { OnOk result (IsInYears 0 9999 text.now.from × IsInYears 0 9999 text.now.to) }
-    // For no other reason is refused what was written.
+    // A certificate that was written is refused for no other reason.
     ensures refused { IfErr result (IsRefusal text.now) }
 {
     write_readable(

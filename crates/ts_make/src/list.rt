@@ -90,7 +90,7 @@ pub fn make_crl(alloc: Global, text: &CrlText<'_>) -> Result<Vec<u8>, MakeFault>
     // Moments outside of the years 0 to 9999 have no encoding.
     ensures years { OnOk result (IsInYears 0 9999 text.now.this_update
         × IsInYears 0 9999 text.now.next_update) }
-    // For no other reason is refused what was written.
+    // A CRL that was written is refused for no other reason.
     ensures refused { IfErr result (IsCrlRefusal text.now) }
 {
     write_whole_crl(

@@ -185,7 +185,7 @@ fn issuer_domains<'a>(alloc: Global, mappings: &[Mapping<'a>]) -> Result<Vec<&'a
     mappings.iter().map(|m| m.issuer_domain).collect(alloc)
 }
 
-/// What a certificate maps.
+/// The issuer domain policies of the mappings, as a set.
 fn mapped_by<'a>(alloc: Global, mappings: &[Mapping<'a>]) -> Result<Labels<'a>, AllocError>
     ensures { IfOk result (λ labels. (p : Label)
         → has labels p ≡ layers.is_from (map mapping_in mappings.now) p) }

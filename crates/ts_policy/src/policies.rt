@@ -19,8 +19,8 @@ use std::marker::Model;
 
 /// The policies of the certificates of a path that were taken so far, from the trust anchor's side.
 ///
-/// Each call but [`is_empty`](Policies::is_empty) takes the value, so after a refusal of memory
-/// there is none.
+/// Each call but [`is_empty`](Policies::is_empty) takes the value, so there is none left when
+/// memory has run out.
 #[derive(Drop)]
 pub struct Policies<'a> {
     taken: Vec<Certificate<'a>>,
