@@ -19,6 +19,8 @@ const NEW: [u8; 36] = [
     0, 0, 5, 1, 0, 0, 0, 1, 0,
 ];
 
+/// What migrating a record of these octets onto two empty disks answers, and the two disks after
+/// it.
 fn migrated(
     alloc: Global,
     octets: &[u8],
@@ -100,6 +102,7 @@ struct Ended {
     b: MemDisk,
 }
 
+/// What migrating the record answers where a disk stops so, and the three disks after it.
 fn stopped(alloc: Global, stop: Stop) -> Result<Ended, AllocError> {
     let mut old = disk(alloc, 0, stop)?;
     let mut a = disk(alloc, 1, stop)?;

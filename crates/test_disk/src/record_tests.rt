@@ -56,10 +56,12 @@ const BODY: [u8; 10] = [0, 0, 0, 5, 1, 0, 0, 0, 1, 0];
 
 const OLD: [u8; 8] = [0x54, 0x53, 0x52, 0x45, 0x43, 0, 0, 1];
 
+/// A disk without octets.
 fn empty(alloc: Global) -> Result<MemDisk, AllocError> {
     MemDisk::new(alloc, Vec::new(alloc))
 }
 
+/// The fault with which opening disks of these octets is refused; none where they open.
 fn fault_of(alloc: Global, a: &[u8], b: &[u8]) -> Result<Option<Fault>, AllocError> {
     let a = MemDisk::new(alloc, a.to_vec(alloc)?)?;
     let b = MemDisk::new(alloc, b.to_vec(alloc)?)?;
@@ -337,6 +339,7 @@ fn with_four_bodies(alloc: Global) -> Result<Option<(MemDisk, MemDisk)>, Fail> {
     Ok(Some(record.close()))
 }
 
+/// Whether opening succeeded, or was refused with a fault that names the image as the cause.
 fn is_named(fault: Option<Fault>) -> bool {
     matches!(
         fault,

@@ -480,6 +480,7 @@ fn a_failed_disk_is_answered(rt: HostRuntime) -> Result<(), Fail> {
     Ok(())
 }
 
+/// A peer around a server on new disks. An error where the server could not be made.
 fn peer(alloc: Global, me: u8, nodes: u8) -> Result<ServerPeer<MemDisk, Applies>, AllocError>
     requires from { 1 ≤ me }
     requires to { me ≤ nodes }

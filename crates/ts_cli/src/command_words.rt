@@ -89,6 +89,7 @@ fn command_id(matches: &ArgMatches<'_>) -> Result<Option<[u8; 16]>, CommandFault
     }
 }
 
+/// The change that `trustd command purposes` asks for: an anchor's purposes are set to these.
 fn purposes(alloc: Global, matches: &ArgMatches<'_>) -> Result<Change, CommandFault>
     ensures { IfOk result (SaysChange (codes "purposes") (rows_of (found_of matches.now))) }
 {

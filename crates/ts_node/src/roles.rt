@@ -49,6 +49,7 @@ impl<C: Command> Roles<C> {
         })
     }
 
+    /// Makes the change of a step of the acceptor. The roles then stand for the step's facts too.
     fn keep_accept(&mut self, step: AcceptorStep<C>)
         requires { acceptor_steps.IsLatest self.old.acceptor step }
         ensures stand { (facts : List (Fact C)) → StandFor self.old facts
@@ -60,6 +61,7 @@ impl<C: Command> Roles<C> {
         self.acceptor.keep(step);
     }
 
+    /// Makes the change of a step of the proposer. The roles then stand for the step's facts too.
     fn keep_propose(&mut self, step: ProposerStep<C>)
         requires latest { proposer_steps.IsLatest self.old.proposer step }
         requires used { AllUsed step.facts.items }
@@ -76,6 +78,7 @@ impl<C: Command> Roles<C> {
         self.proposer.keep(step);
     }
 
+    /// Makes the change of a step of the log. The roles then stand for the step's facts too.
     fn keep_learn(&mut self, step: LogStep<C>)
         requires { log_steps.IsLatest self.old.log step }
         ensures stand { (facts : List (Fact C)) → StandFor self.old facts

@@ -9,12 +9,14 @@ use ts_synod::{Ballot, Codec, Fact};
 /// The most octets of a record's body.
 pub(crate) const MAX_BODY: usize = 4_194_500;
 
+/// Whether a number is a position of the log, which are 1 to 1,000,000.
 fn is_position(position: u32) -> bool
     ensures { (result ≡ true) ↔ IsPosition position }
 {
     1 <= position && position <= 1_000_000
 }
 
+/// Whether a number is a ballot: a round of 1 to 4,294,967,295, times 16, plus a node of 1 to 9.
 fn is_ballot(ballot: Ballot) -> bool
     ensures { (result ≡ true) ↔ IsBallot ballot }
 {

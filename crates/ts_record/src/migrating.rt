@@ -49,6 +49,8 @@ struct OldRecord<C> {
     contents: Contents<C>,
 }
 
+/// Reads the octets of a disk as a record of version 1. They are refused where they begin with no
+/// header of version 1, or what follows it can't be read.
 fn read_old<C: Codec>(alloc: Global, octets: &[u8]) -> Result<OldRecord<C>, Fault>
     ensures owner { IfOk result (λ old. IsOldOf
         (record { node = old.node; nodes = old.nodes }) octets.now) }

@@ -44,6 +44,7 @@ pub(crate) fn move_behind<C: Codec>(facts: &mut Vec<Fact<C>>, more: &mut Vec<Fac
     prove!(moved.is_ok());
 }
 
+/// Writes octets behind their length in four octets.
 fn push_blob(out: &mut Vec<u8>, octets: &[u8]) -> Result<(), AllocError>
     requires { length octets.now < 2 ^ 32 }
     ensures { OnOk result (out.new.items ≡ out.old.items ++ blob octets.now) }
@@ -53,6 +54,7 @@ fn push_blob(out: &mut Vec<u8>, octets: &[u8]) -> Result<(), AllocError>
     Ok(())
 }
 
+/// Writes a command's octets behind their length in four octets.
 fn push_command<C: Codec>(alloc: Global, out: &mut Vec<u8>, command: &C) -> Result<(), AllocError>
     requires { length (C.octets command.now) < 2 ^ 32 }
     ensures { OnOk result (out.new.items ≡ out.old.items ++ blob (C.octets command.now)) }
@@ -62,6 +64,7 @@ fn push_command<C: Codec>(alloc: Global, out: &mut Vec<u8>, command: &C) -> Resu
     push_blob(out, &octets)
 }
 
+/// Writes the kind of a fact, and the number that every kind begins with: a round or a position.
 fn push_kind(out: &mut Vec<u8>, kind: u8, number: u32) -> Result<(), AllocError>
     ensures { OnOk result (out.new.items ≡ out.old.items ++ kind ∷ to_be_bytes w32 number) }
 {
@@ -70,6 +73,7 @@ fn push_kind(out: &mut Vec<u8>, kind: u8, number: u32) -> Result<(), AllocError>
     Ok(())
 }
 
+/// Writes the encoding of a fact.
 fn push_encoding<C: Codec>(
     alloc: Global,
     out: &mut Vec<u8>,
@@ -101,6 +105,7 @@ fn push_encoding<C: Codec>(
     Ok(())
 }
 
+/// The encodings of facts, one after another.
 fn encoded<C: Codec>(alloc: Global, facts: &[Fact<C>]) -> Result<Vec<u8>, AllocError>
     requires { length (encodings C.octets facts.now) < 2 ^ 32 }
     ensures { IfOk result (λ octets. octets.items ≡ encodings C.octets facts.now) }

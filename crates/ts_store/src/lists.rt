@@ -151,6 +151,8 @@ fn add_last(lists: &mut Vec<StoredCrl>, new: StoredCrl) -> Result<Option<Refusal
     Ok(None)
 }
 
+/// Puts a CRL into its slot, or adds it where no CRL has the slot. It can be refused, and then
+/// nothing changes.
 fn put_in(
     lists: &mut Vec<StoredCrl>,
     alloc: Global,
@@ -166,6 +168,7 @@ fn put_in(
     }
 }
 
+/// Removes the CRL of this id. It is refused where there is none.
 fn remove_from(lists: &mut Vec<StoredCrl>, id: &[u8]) -> Option<Refusal>
     ensures { Becomes result lists.old.items lists.new.items (drop_list id.now lists.old.items) }
 {

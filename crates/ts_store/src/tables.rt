@@ -103,6 +103,8 @@ impl Tables {
         }
     }
 
+    /// Loads a CRL from its octets, among the delta CRLs or the complete ones. It can be refused,
+    /// and then nothing changes.
     fn load(&mut self, alloc: Global, octets: &Octets) -> Result<Option<Refusal>, AllocError>
         ensures done { IfOk result (λ refusal. Becomes refusal self.old self.new
             (load_crl octets.now self.old)) }
@@ -127,6 +129,8 @@ impl Tables {
         }
     }
 
+    /// Removes the CRL of this id, which is a complete one or a delta CRL. It is refused where
+    /// there is none.
     fn remove(&mut self, id: &[u8]) -> Option<Refusal>
         ensures { Becomes result self.old self.new (drop_crl id.now self.old) }
     {
