@@ -485,7 +485,8 @@ fn peer(alloc: Global, me: u8, nodes: u8) -> Result<ServerPeer<MemDisk, Applies>
     requires from { 1 ≤ me }
     requires to { me ≤ nodes }
     requires few { nodes ≤ 9 }
-    ensures { IfOk result (λ peer. IsSound state_of octets_of ⟦<Applies as Machine<Command>>⟧.commands peer.server.node) }
+    ensures { IfOk result (λ peer. IsSound state_of octets_of
+        ⟦<Applies as Machine<Command>>⟧.commands peer.server.node) }
 {
     match server(alloc, me, nodes, u64::MAX)? {
         Some(server) => Ok(ServerPeer::new(alloc, server)),

@@ -214,7 +214,7 @@ fn target_reply<'a, S: SignatureCheck>(
     }
 }
 
-/// The reply to a question over the tables of a store, which are lent: to any but one for commands.
+/// The reply to a question over the borrowed tables of a store: to any but one for commands.
 pub(crate) fn reply_over<S: SignatureCheck>(
     alloc: Global,
     check: &S,

@@ -16,7 +16,8 @@ pub(crate) const LIVE_GATE: usize = 24;
 /// written, as a torn write could open it.
 pub(crate) fn shut<D: Disk>(disk: &mut D, is_live: bool, owner: &Owner) -> Result<(), DiskFault>
     requires durable { IsDurable (D.state disk.old) }
-    requires earlier { is_live ≡ true → IsEarlier (header_of_owner owner.now) (D.state disk.old).read }
+    requires earlier { is_live ≡ true
+        → IsEarlier (header_of_owner owner.now) (D.state disk.old).read }
     requires shut { is_live ≡ false → IsShut (D.state disk.old).read }
     ensures durable { OnOk result (IsDurable (D.state disk.new)) }
     ensures shut { OnOk result (IsShut (D.state disk.new).read) }

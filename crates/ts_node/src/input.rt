@@ -51,7 +51,7 @@ pub struct Output<C, O, A> {
 /// Why a node answers nothing.
 #[derive(Debug, PartialEq, Eq, Clone, Copy)]
 pub enum NodeFault {
-    /// A growth was refused, and nothing else happened.
+    /// An allocation was refused, and nothing else happened.
     Memory,
     /// A device failed in this call. The node is broken until it is opened again.
     DiskFailed,

@@ -71,8 +71,8 @@ impl<D: Disk, C: Command + Codec, M: Machine<C>> Node<D, C, M> {
         ensures owner { IfOk result (λ node. (choice : Choice)
             × IsChosen choice (D.state a).read (D.state b).read
             × (config node ≡ record { nodes = choice.owner.nodes; me = choice.owner.node })) }
-        // Where what is read opens to facts as the record of a member, these are the node's, and it
-        // is that member; or memory or a device failed.
+        // Where the two images open to facts as the record of a member, these are the node's, and
+        // it is that member; or memory or a device failed.
         ensures only { (whose : Member) (kept : List (Fact C))
             → OpensTo C.octets whose kept (D.state a).read (D.state b).read
             → MatchResult result (λ node. (facts node ≡ kept) × (owner node ≡ whose))

@@ -34,7 +34,8 @@ impl<C: Command> Roles<C> {
         requires { nodes ≤ 9 }
         ensures stand { IfOk result (λ roles. StandFor roles facts.now) }
         ensures volatile { IfOk result (λ roles. volatile_of roles ≡ initial) }
-        ensures config { IfOk result (λ roles. config_of roles ≡ record { nodes = nodes; me = me }) }
+        ensures config { IfOk result
+            (λ roles. config_of roles ≡ record { nodes = nodes; me = me }) }
     {
         let acceptor = Acceptor::open(alloc, me, nodes, facts)?;
         let log = Log::open(alloc, me, nodes, facts)?;

@@ -25,8 +25,8 @@ fn is_ballot(ballot: Ballot) -> bool
 
 /// How many octets a command has, if it has some and a record can keep them.
 fn command_size<C: Codec>(alloc: Global, command: &C) -> Result<Option<usize>, AllocError>
-    ensures some { IfOk result (λ found. IfSome found (λ size. (size ≡ length (C.octets command.now))
-        × (1 ≤ size) × (size ≤ 4194500))) }
+    ensures some { IfOk result (λ found. IfSome found
+        (λ size. (size ≡ length (C.octets command.now)) × (1 ≤ size) × (size ≤ 4194500))) }
     ensures none { IfOk result (λ found. IfNone found (1 ≤ length (C.octets command.now)
         → length (C.octets command.now) ≤ 4194500 → ⊥)) }
 {

@@ -64,7 +64,8 @@ fn push_certificates_of(out: &mut Vec<u8>, certificates: &[Vec<u8>]) -> Result<(
 /// Writes an octet of the number of certificates, and each behind its length.
 fn push_certificates(out: &mut Vec<u8>, certificates: &OctetStrings) -> Result<(), AllocError>
     requires { are_certificates 33 certificates.now ≡ true }
-    ensures { OnOk result (out.new.items ≡ out.old.items ++ certificates_encoding certificates.now) }
+    ensures { OnOk result (out.new.items
+        ≡ out.old.items ++ certificates_encoding certificates.now) }
 {
     out.push(certificates.len() as u8)?;
     push_certificates_of(out, certificates.as_slice())

@@ -10,7 +10,7 @@ use ts_disk::DiskFault;
 /// What a call of a record answers in place of a value.
 #[derive(Clone, Copy, Debug, PartialEq, Eq)]
 pub enum Fault {
-    /// A growth was refused, and nothing else happened.
+    /// An allocation was refused, and nothing else happened.
     Memory,
     /// A device failed in this call. The record is broken until it is opened again.
     DiskFailed,

@@ -11,8 +11,8 @@
 //!
 //! - `Record::format`: `first`, `second`: the octets; `opens`: each pair of images opens to no
 //!   facts.
-//! - `Record::open`: `opens`: each pair of images opens to the facts; `only`: where what is read
-//!   opens to facts as the record of a node, these are answered, and it is that node's, or memory
+//! - `Record::open`: `opens`: each pair of images opens to the facts; `only`: where the two images
+//!   open to facts as the record of a node, these are answered, and it is that node's, or memory
 //!   or a device failed; `moments`: a crash within the call leaves nothing new; `fault`: where each
 //!   fault comes from; `same`, `owner`.
 //! - `Record::append`: `moments`: at every moment each pair of images opens to the facts before, or

@@ -158,7 +158,7 @@ impl<D: Disk, C: Codec> Record<D, C> {
             × ((D.state opened.b).read ≡ (D.state b).read))
             (λ refused. ((D.state refused.a).read ≡ (D.state a).read)
             × ((D.state refused.b).read ≡ (D.state b).read)) }
-        // Where what is read opens to facts as the record of a member, these are the record's, and
+        // Where the two images open to facts as the record of a member, these are the record's, and
         // it is that member's; or memory or a device failed.
         ensures only { (owner : Member) (facts : List (Fact C))
             → OpensTo C.octets owner facts (D.state a).read (D.state b).read

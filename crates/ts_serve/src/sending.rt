@@ -55,7 +55,7 @@ pub fn write_octets<W: Write>(writer: &mut W, octets: &[u8]) -> Result<(), Serve
     Err(ServeFault::Write)
 }
 
-/// Writes an answer that is lent.
+/// Writes a borrowed answer.
 fn send_lent<W: Write>(alloc: Global, writer: &mut W, frame: &Frame) -> Result<(), ServeFault>
     ensures sent { OnOk result (Appends (W.contents writer.old) (W.contents writer.new)
         (text (frame.now ∷ []))) }

@@ -45,13 +45,13 @@
 //!   them; the fold over two lists.
 //!
 //! A CRL is kept in the slot of its issuer, its issuing distribution point
-//! and its authority key identifier; complete lists and deltas have slots of their own.
-//! [`StoredCrl::crl`] lends the list and [`TrustAnchor::certificate`] the certificate, which are
+//! and its authority key identifier; complete CRLs and delta CRLs have slots of their own.
+//! [`StoredCrl::crl`] borrows the CRL and [`TrustAnchor::certificate`] the certificate, which are
 //! read once, when they come.
 //!
 //! Clients choose the ids. They are kept in an ordered map, so that a look-up takes a number of
 //! steps that grows with the logarithm of their number whatever ids are chosen; no ids collide, as
-//! they would in a table whose hash is known. A load is compared with the lists that are kept, at
+//! they would in a table whose hash is known. A load is compared with the CRLs that are kept, at
 //! most 1,024.
 //!
 //! Out of memory is answered as `AllocError`.
