@@ -18,7 +18,7 @@ pub struct Owner {
     pub generation: u64,
 }
 
-/// What an image looks like: below 25 octets; with a closed live gate; live with a wrong header; or
+/// What an image looks like: below 25 octets; with a clear live byte; live with a wrong header; or
 /// live.
 #[derive(Clone, Copy, Debug, PartialEq, Eq)]
 pub enum Look {
@@ -92,8 +92,8 @@ fn is_same_owner(first: Owner, second: Owner) -> bool
     first.node == second.node && first.nodes == second.nodes && first.group == second.group
 }
 
-/// The disk in use: the one that is live beside a closed one, or of two live ones of the same owner
-/// the one of the greater generation; none otherwise.
+/// The disk in use: the one that is live beside one that is not, or of two live ones of the same
+/// owner the one of the greater generation; none otherwise.
 fn pick(a: Look, b: Look) -> Option<Choice>
     ensures { result ≡ choice_of a b }
 {

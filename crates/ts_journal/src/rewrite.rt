@@ -12,8 +12,8 @@ use ts_disk::{Disk, DiskFault, put};
 
 pub(crate) const LIVE_GATE: usize = 24;
 
-/// Closes the live gate of a disk of an earlier generation, and syncs. A closed gate is never
-/// written, as a torn write could open it.
+/// Clears the live byte of a disk of an earlier generation, and syncs. A clear live byte is never
+/// written, as a torn write could set it.
 pub(crate) fn shut<D: Disk>(disk: &mut D, is_live: bool, owner: &Owner) -> Result<(), DiskFault>
     requires durable { IsDurable (D.state disk.old) }
     requires earlier { is_live ≡ true
@@ -33,7 +33,7 @@ pub(crate) fn shut<D: Disk>(disk: &mut D, is_live: bool, owner: &Owner) -> Resul
     }
 }
 
-/// Writes the octets before the live gate of a shut disk, and a text after it.
+/// Writes the octets before the live byte of a shut disk, and a text after it.
 pub(crate) fn begin<D: Disk>(disk: &mut D, octets: &[u8], text: &[u8]) -> Result<(), DiskFault>
     requires durable { IsDurable (D.state disk.old) }
     requires shut { IsShut (D.state disk.old).read }

@@ -6,7 +6,7 @@ ghost use Rattle.ts_record.specs.Facts.{AllFit, Fits, IsBallot, IsPosition, enco
 use std::alloc::{AllocError, Global};
 use ts_synod::{Ballot, Codec, Fact};
 
-/// The most octets of a record's body.
+/// The most octets of an entry of a record.
 pub(crate) const MAX_BODY: usize = 4_194_500;
 
 /// Whether a number is a position of the log, which are 1 to 1,000,000.

@@ -1,4 +1,4 @@
-//! The facts that make up the force of a list, each once.
+//! The facts that a list of facts is equivalent to (`SameForce`), each once.
 
 ghost use Rattle.std.specs.Prelude.{◌≡◌, ◌≤◌, ◌^◌, ◌++◌, [], suc, length, Some, IfOk, OnOk};
 ghost use Rattle.ts_synod.specs.Force.{round_used_by, used_round, greater_vote};
@@ -193,8 +193,9 @@ fn listed<C: Codec>(
     Ok(out)
 }
 
-/// The facts that make up the force of these, in time that is linear in them and in the last
-/// position.
+/// Of these facts those that a rewrite copies: the greatest round, and for each position the
+/// greatest promise, the vote of the greatest ballot and the command learned. The time is linear in
+/// the facts and in the last position.
 pub(crate) fn compact<C: Codec>(
     alloc: Global,
     facts: &[Fact<C>],

@@ -22,7 +22,7 @@ pub enum Fault {
     NotFormatted,
     /// The first disk has a record of version 1, which `Record::migrate` reads.
     OldVersion,
-    /// The gate, length or body that begins at this offset can't be read.
+    /// The commit byte, length or entry that begins at this offset can't be read.
     Damaged(usize),
 }
 

@@ -20,7 +20,7 @@
 //!   `refused`: at a fault the facts stay, and so does the rewrite; `memory`, `failed`, `broken`,
 //!   `stays`.
 //! - `Record::compact`: one step of a rewrite on the other disk. `moments`: at every moment each
-//!   pair of images opens to facts of the same force; `from`: before the last step to the facts,
+//!   pair of images opens to equivalent facts; `from`: before the last step to the facts,
 //!   from the disk in use; `steps`, `force`, `opens`, `owner`; `refused`, `memory`, `failed`,
 //!   `broken`, `stays`, `exhausted`, `last`.
 //! - `Record::migrate`: a record of version 1, written again on two other disks. `opens`: each pair

@@ -1,4 +1,4 @@
-//! Facts are read from a body.
+//! Facts are read from an entry.
 
 ghost use Rattle.std.specs.Prelude.{◌≡◌, ◌⊎◌, ◌≤◌, ◌<◌, ◌+◌, ◌^◌, ◌++◌, ◌∷◌, [], ℕ, List, length};
 ghost use Rattle.std.specs.Prelude.{drop, take, MatchOption, MatchResult, IfSome, IfOk, OnOk};
@@ -218,8 +218,8 @@ fn fact_at<'a, C: Codec>(
     }
 }
 
-/// Reads the facts of a whole body after those that are there. False where the body is not a list
-/// of facts; then what is there after those has no meaning.
+/// Reads the facts of a whole entry, and adds them to the list. False where the entry is not a list
+/// of facts; then what was added has no meaning.
 pub(crate) fn read_facts<'a, C: Codec>(
     alloc: Global,
     body: &'a [u8],

@@ -152,7 +152,7 @@ impl<D: Disk, C: Codec> Record<D, C> {
         // No rewrite is begun: one that was not switched is forgotten.
         ensures idle { IfOk result (λ opened. opened.rewrite ≡ idle) }
         ensures whole { IfOk result (λ opened. opened.broken ≡ false) }
-        // What a read gives stays.
+        // A read of each disk gives the same octets as before.
         ensures same { MatchResult result
             (λ opened. ((D.state opened.a).read ≡ (D.state a).read)
             × ((D.state opened.b).read ≡ (D.state b).read))
@@ -296,10 +296,10 @@ impl<D: Disk, C: Codec> Record<D, C> {
     }
 
     /// Makes one step of a rewrite of the record on its other disk. The first decides what is
-    /// copied, closes that disk's live gate where it is open, and syncs; the second writes its
-    /// header, of the next generation; then each copies a fact, as a body of its own; and the last
-    /// one opens the live gate, so that the record is on that disk. Facts may be appended between
-    /// two steps, and are copied too. Memory is reserved before the first device call.
+    /// copied, clears that disk's live byte where it is set, and syncs; the second writes its
+    /// header, of the next generation; then each copies a fact, as an entry of its own; and the
+    /// last one sets the live byte, so that the record is on that disk. Facts may be appended
+    /// between two steps, and are copied too. Memory is reserved before the first device call.
     pub fn compact(&mut self, alloc: Global) -> Result<Progress, Fault>
         ensures steps { IfOk result (λ answer. Steps (course self.old) answer (course self.new)) }
 
@@ -309,7 +309,7 @@ impl<D: Disk, C: Codec> Record<D, C> {
         // At a fault the facts stay, and so do the disk in use, its generation and the rewrite.
         ensures refused { OnErr result (course self.new ≡ course self.old) }
 
-        // At every moment each pair of images opens to facts of the same force.
+        // At every moment each pair of images opens to equivalent facts (`SameForce`).
         ensures moments { self.old.broken ≡ false
             → EveryPair (OpensToForce C.octets (member self.old) self.old.facts)
             (D.state self.old.a) (D.state self.old.b) (D.state self.new.a)
@@ -326,7 +326,7 @@ impl<D: Disk, C: Codec> Record<D, C> {
             (OpensToFrom C.octets (member self.new) self.new.swapped self.new.facts)
             (D.state self.new.a) (D.state self.new.b)) }
 
-        // The facts to be copied are of the force of all.
+        // The facts afterwards are equivalent to those before.
         ensures force { OnOk result (SameForce self.new.facts self.old.facts) }
 
         ensures fault { IfErr result (λ fault. (fault ≡ Memory) ⊎ (fault ≡ DiskFailed)

@@ -1,4 +1,4 @@
-//! Facts are written as a body.
+//! Facts are written as an entry.
 
 ghost use Rattle.std.specs.Prelude.{◌≡◌, ◌≤◌, ◌+◌, ◌^◌, ◌<◌, ◌++◌, length, IfOk, OnOk, cond, []};
 ghost use Rattle.std.specs.Prelude.{◌∷◌, vec_len, vec_capacity};
@@ -117,7 +117,7 @@ fn encoded<C: Codec>(alloc: Global, facts: &[Fact<C>]) -> Result<Vec<u8>, AllocE
     Ok(octets)
 }
 
-/// What follows the gate of a body.
+/// What follows the commit byte of an entry: its length, its octets, and a clear commit byte.
 fn framed(alloc: Global, body: &[u8]) -> Result<Vec<u8>, AllocError>
     requires { length body.now ≤ 4194500 }
     ensures { IfOk result (λ octets. octets.items ≡ entry body.now) }
@@ -128,7 +128,7 @@ fn framed(alloc: Global, body: &[u8]) -> Result<Vec<u8>, AllocError>
     Ok(out)
 }
 
-/// What follows the gate of a body of these facts.
+/// What follows the commit byte of an entry of these facts.
 pub(crate) fn entry_of<C: Codec>(alloc: Global, facts: &[Fact<C>]) -> Result<Vec<u8>, AllocError>
     requires { length (encodings C.octets facts.now) ≤ 4194500 }
     ensures { IfOk result (λ octets. octets.items ≡ entry (encodings C.octets facts.now)) }
@@ -138,7 +138,7 @@ pub(crate) fn entry_of<C: Codec>(alloc: Global, facts: &[Fact<C>]) -> Result<Vec
     Ok(out)
 }
 
-/// The same for one fact.
+/// What follows the commit byte of an entry of one fact.
 pub(crate) fn entry_of_one<C: Codec>(alloc: Global, fact: &Fact<C>) -> Result<Vec<u8>, AllocError>
     requires { length (encoding C.octets fact.now) ≤ 4194500 }
     ensures { IfOk result (λ octets. octets.items ≡ entry (encoding C.octets fact.now)) }
