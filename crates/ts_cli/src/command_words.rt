@@ -64,7 +64,7 @@ pub enum Change {
     Noop,
 }
 
-/// The id of an anchor or a list that an argument gives.
+/// The id of an anchor or a CRL that an argument gives.
 pub(crate) fn digest_at(matches: &ArgMatches<'_>, id: &str) -> Result<[u8; 32], CommandFault>
     ensures { IfOk result (IsDigestAt id.now (rows_of (found_of matches.now))) }
 {

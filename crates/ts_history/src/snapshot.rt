@@ -218,7 +218,7 @@ impl<'a> Snapshot<'a> {
         self.anchors.as_slice()
     }
 
-    /// The complete lists, in their order.
+    /// The complete CRLs, in their order.
     pub fn complete(&self) -> &[&'a StoredCrl]
         ensures { map (λ c. c.now) result.now ≡ self.now.complete }
     {

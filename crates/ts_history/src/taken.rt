@@ -47,7 +47,7 @@ pub(crate) enum Change {
     SetsPurposes { at: usize },
     /// The command's list is the last one of its kind.
     AddsCrl { kind: Kind },
-    /// The command's list is at this place, where another list of its slot was.
+    /// The command's CRL is at this place, where another CRL of its slot was.
     PutsCrl { kind: Kind, at: usize },
     /// The list at this place is removed.
     RemovesCrl { kind: Kind, at: usize },

@@ -53,7 +53,7 @@ impl<D: Disk> Journal<D> {
         }
     }
 
-    /// Appends an entry, given as what follows its commit byte (its length, its octets, and the next
+    /// Appends an entry, given as what follows its commit byte (its length, its octets and the next
     /// commit byte, which is clear), by four calls of the disk in use. At every moment each pair of
     /// images opens to the entries before, or to those and the new one, and from the disk in use.
     pub fn append(&mut self, octets: &[u8]) -> Result<(), DiskFault>

@@ -32,9 +32,9 @@
 //!   64 that it makes, in their order; `given`: those that it took are not given out; `ends`: it
 //!   leaves such a message only where it has looked at 64, or where a record can't keep its facts
 //!   with the others at once; `alone`: an input that makes no such message is handled as by
-//!   `handle`. So a group of one node knows a command after one append instead of four. Where memory is refused once the
-//!   roles are ahead of the record the node is broken, as after a device's failure, and nothing
-//!   of the turn is kept.
+//!   `handle`. So a group of one node knows a command after one append instead of four. Where
+//!   memory is refused once the roles are ahead of the record the node is broken, as after a
+//!   device's failure, and nothing of the turn is kept.
 //! - `headline`: what is promised of every run of nodes (`specs/Run`). `calls_are_allowed`:
 //!   these runs are the lists of calls that meet their contracts, with stops between and within
 //!   them.

@@ -62,7 +62,7 @@ impl CrlKeyword {
     }
 }
 
-/// A word that says something of a list, decoded.
+/// A word that says something of a CRL, decoded.
 #[derive(Drop)]
 pub enum CrlWord<'a> {
     Entry(EntryText),

@@ -56,7 +56,7 @@ fn is_given(frames: &[Frame]) -> bool
     messages.len() <= MAX_WAITING && messages.len() == *count as usize && are_messages(messages)
 }
 
-/// Whether this is what a message is answered.
+/// Whether these frames are an answer to a message.
 fn is_delivered(frames: &[Frame]) -> bool {
     matches!(
         frames,

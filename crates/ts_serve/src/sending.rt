@@ -99,7 +99,7 @@ pub(crate) fn send_all<W: Write>(
     Ok(())
 }
 
-/// Hands on what a writer holds back.
+/// Flushes a writer.
 pub(crate) fn flush<W: Write>(writer: &mut W) -> Result<(), ServeFault>
     ensures same { Keeps (W.contents writer.old) (W.contents writer.new) }
     ensures fault { IfErr result (λ fault. fault ≡ ServeFault.Write) }
@@ -110,7 +110,7 @@ pub(crate) fn flush<W: Write>(writer: &mut W) -> Result<(), ServeFault>
     }
 }
 
-/// Writes the answer to a fault in a frame's place, and returns what ends the stream.
+/// Writes the answer to a wrong frame, and gives the fault that ends the stream.
 pub(crate) fn refuse<W: Write>(alloc: Global, writer: &mut W, fault: FrameFault) -> ServeFault
     ensures { Refuses fault (W.contents writer.old) result (W.contents writer.new) }
 {

@@ -116,7 +116,7 @@ where
     Err(ServeFault::ReadLimit)
 }
 
-/// What the end of a stream comes to.
+/// How a stream that has ended was served: well, or `Cut` where it ended within a frame.
 fn end_of(feed: &Feed) -> Result<(), ServeFault>
     ensures whole { OnOk result (feed.now ≡ []) }
     ensures cut { IfErr result (λ fault. (fault ≡ ServeFault.Cut) × (feed.now ≢ [])) }

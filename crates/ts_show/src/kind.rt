@@ -98,7 +98,7 @@ fn are_question(alloc: Global, octets: &[u8]) -> Result<bool, AllocError>
     }
 }
 
-/// What octets hold: the first of a record, a certificate, a list, a command and a question that
+/// What octets hold: the first of a record, a certificate, a CRL, a command and a question that
 /// they are, a record by its first five octets alone.
 ///
 /// # Errors

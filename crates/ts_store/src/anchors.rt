@@ -92,7 +92,7 @@ impl Anchors {
     }
 }
 
-/// The SHA-256 of octets: the id of an anchor's certificate, and of a list.
+/// The SHA-256 of octets: the id of an anchor's certificate, and of a CRL.
 pub fn digest(octets: &[u8]) -> [u8; 32]
     ensures { result ≡ sha256 octets.now }
 {

@@ -32,7 +32,7 @@ pub enum Command {
         id: [u8; 16],
         crl: CrlOctets,
     },
-    /// Removes the list that has this SHA-256 digest.
+    /// Removes the CRL that has this SHA-256 digest.
     DropCrl {
         id: [u8; 16],
         crl: [u8; 32],

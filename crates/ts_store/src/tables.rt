@@ -34,7 +34,7 @@ impl Model for Tables {
 }
 
 impl Tables {
-    /// No anchors and no lists.
+    /// Tables without anchors and CRLs.
     pub fn new(alloc: Global) -> Tables
         ensures { result ≡ no_tables }
     {
@@ -52,14 +52,14 @@ impl Tables {
         self.anchors.as_slice()
     }
 
-    /// The complete lists, in their order.
+    /// The complete CRLs, in their order.
     pub fn crls(&self) -> &[StoredCrl]
         ensures { result.now ≡ self.now.complete }
     {
         self.complete.as_slice()
     }
 
-    /// The deltas, in their order.
+    /// The delta CRLs, in their order.
     pub fn deltas(&self) -> &[StoredCrl]
         ensures { result.now ≡ self.now.deltas }
     {
@@ -141,7 +141,7 @@ impl Tables {
     }
 }
 
-/// Why octets are no list that is kept.
+/// Why octets are no CRL that is kept.
 fn refusal(fault: CrlFault<'_>) -> Refusal
     ensures { result ≡ refusal_of (fault_in fault.entry) }
 {

@@ -26,8 +26,8 @@ pub fn equal_verdicts<C, O, T, Q, V>()
     ensures { (store : Store C O T Q V) → EqualVerdicts store }
 {}
 
-/// Two nodes with one volatile part and equivalent facts (`SameForce`) make the same step. A restart
-/// forgets the volatile part, so a node that restarts from other, equivalent facts goes on alike
+/// Two nodes with one volatile part and equivalent facts (`SameForce`) make the same step. A
+/// restart forgets the volatile part, so a node that restarts from equivalent facts goes on alike
 /// ('Paxos Made Simple' 2.5: what stable storage must keep).
 pub fn step_by_force<C, O, T, Q, V>()
     ensures { (store : Store C O T Q V) → StepByForce store }
