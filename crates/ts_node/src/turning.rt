@@ -24,7 +24,7 @@ use ts_disk::Disk;
 use ts_record::Fault;
 use ts_synod::{Codec, Command, Message};
 
-/// One of the messages is to this node.
+/// Whether one of the messages is to this node.
 fn has_own<C>(messages: &[Message<C>], me: u8) -> bool
     ensures { result ≡ has_own me messages.now }
 {

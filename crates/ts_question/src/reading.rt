@@ -104,7 +104,7 @@ fn policies(alloc: Global, octets: &[u8]) -> Result<(Oids, &[u8]), ReadFault>
     Ok((Oids::new(oids), rest))
 }
 
-/// So many subtrees.
+/// So many subtrees, and what follows them.
 fn subtrees_of(
     alloc: Global,
     count: usize,
@@ -135,7 +135,7 @@ pub(crate) fn subtrees(alloc: Global, octets: &[u8]) -> Result<(OctetStrings, &[
     subtrees_of(alloc, count, rest)
 }
 
-/// So many certificates.
+/// So many certificates, and what follows them.
 fn certificates_of(
     alloc: Global,
     count: usize,

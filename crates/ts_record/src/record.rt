@@ -193,7 +193,7 @@ impl<D: Disk, C: Codec> Record<D, C> {
         &self.ledger.facts
     }
 
-    /// A device failed in an earlier call.
+    /// Whether a device failed in an earlier call.
     pub fn is_broken(&self) -> bool
         ensures { result ≡ self.now.broken }
     {
