@@ -89,7 +89,7 @@ const ROWS: &[(&[u8], &[u8])] = &[
     ),
 ];
 
-/// Streams with a fault in a frame's place, which are answered up to it, and the fault's code.
+/// Streams with a wrong frame, which are answered up to it, and the fault's code.
 const FAULTS: &[(&[u8], u8)] = &[
     (b"\x00\x80\x00\x01", 1),
     (b"\x00\x00\x00\x02\x03\x15", 2),

@@ -151,7 +151,7 @@ fn faults_are_named(rt: HostRuntime) -> Result<(), Fail> {
     Ok(())
 }
 
-/// Whether a fault in a frame's place is answered, and again once more has come, which stays.
+/// Whether a wrong frame is answered, and again once more has come, which stays.
 fn is_answered_again(alloc: Global) -> Result<bool, AllocError> {
     let mut feed = Feed::new(alloc);
     let was_empty = feed.is_empty();

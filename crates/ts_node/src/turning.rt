@@ -268,8 +268,8 @@ impl<D: Disk, C: Command + Codec, M: Machine<C>> Node<D, C, M> {
         }
     }
 
-    /// What a fault of the record comes to at the end of a turn: where no device failed, the roles
-    /// are ahead of it.
+    /// The node's fault for a fault of the record at the end of a turn: where no device failed, the
+    /// roles are ahead of the record, and the node is broken.
     fn stop(&mut self, fault: Fault) -> NodeFault
         ensures failed { fault ≡ DiskFailed
             → (result ≡ NodeFault.DiskFailed) × (self.new ≡ self.old) }
