@@ -149,8 +149,8 @@ fn was_refused(said: &[u8], end: Result<(), ServeFault>) -> bool {
             .any(|frame| matches!(frame, [0, 0, 0, 3, 2, 0x25, 1..=3]))
 }
 
-/// What a server whose disks do not fail answers to a stream, and how it ends. An error where memory
-/// was refused.
+/// What a server whose disks do not fail answers to a stream, and how it ends. An error where
+/// memory was refused.
 fn answers(
     alloc: Global,
     server: &mut Served,

@@ -17,7 +17,8 @@
 //!
 //! The crate has values alone: no socket, no file, no clock, no randomness. Below it `ts_guard`
 //! lets through what was sealed with a key; here the key is found by the number that the client
-//! names, and of what was let through only what the key's role may ask is handed on, frame by frame.
+//! names, and of what was let through only what the key's role may ask is handed on, frame by
+//! frame.
 //!
 //! What is proved of each call:
 //!

@@ -129,8 +129,8 @@ fn end_of(feed: &Feed) -> Result<(), ServeFault>
 }
 
 /// Answers the requests that a reader gives, on a writer, each when its turn comes, up to the end
-/// of the stream or to a wrong frame, whose answer comes last. An interrupted read or
-/// write is tried again.
+/// of the stream or to a wrong frame, whose answer comes last. An interrupted read or write is
+/// tried again.
 ///
 /// # Errors
 ///

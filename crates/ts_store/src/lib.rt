@@ -23,8 +23,8 @@
 //! - [`Command::add_anchor`], [`Command::load_crl`], [`CertificateOctets::new`],
 //!   [`CrlOctets::new`]: `TooLong` exactly above the limit.
 //! - [`Purposes::new`]: `None` exactly where the list is longer than 16 or not strictly ascending.
-//! - [`Command::read`]: `exact`: the result by the definition of reading (`specs/Reading`); `found`,
-//!   `only`: a command is read exactly from the octets that are its encoding.
+//! - [`Command::read`]: `exact`: the result by the definition of reading (`specs/Reading`);
+//!   `found`, `only`: a command is read exactly from the octets that are its encoding.
 //! - [`Command::octets`]: `encoded`: the encoding; `fits`: each command has one.
 //! - `impl ts_synod::Command`, `impl ts_synod::Codec` for [`Command`]: a command is one of the
 //!   protocol, and is kept in a record by its one encoding (`specs/Octets`).
