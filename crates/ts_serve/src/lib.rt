@@ -16,13 +16,13 @@
 //! reply: Done 0, Started, Settled, Unknown, Prefix, Answer, Done 0 or 1 for a step of a rewrite,
 //! or NodeFault. Take is answered with the outbox's messages as frames and Done with their count,
 //! and the outbox is empty then; Identify with which node of which group it is. A frame of kind 20
-//! to 28 is no request: it is the fault Kind. A fault in a frame's place is answered with
-//! FrameFault, and ends the stream.
+//! to 28 is no request: it is the fault Kind. A wrong frame is answered with FrameFault, and ends
+//! the stream.
 //!
 //! - [`Server::new`], [`Server::close`]: the node, given back too where memory is refused.
 //! - [`Server::take_own`]: from now on the node takes its messages to itself.
 //! - [`Server::answer_frame`]: one frame: the text of the answers of its turn, or why there is
-//!   none; [`refusal`]: the text for a fault in a frame's place. `ts_links` serves many connections
+//!   none; [`refusal`]: the text for a wrong frame's fault. `ts_links` serves many connections
 //!   by these two.
 //! - [`Server::has_failed`]: whether the node broke in a turn; each turn says so.
 //! - [`serve`]: `served`: where the reader tells its octets, what is written is the text of the

@@ -142,14 +142,14 @@ impl<D: Disk, M: Machine<Command, Outcome = Outcome, Question = Question, Answer
         self.alloc
     }
 
-    /// A stream of which nothing has come.
+    /// A stream of which no octet has come.
     pub(crate) fn feed(&self) -> Feed
         ensures { result ≡ [] }
     {
         Feed::new(self.alloc)
     }
 
-    /// Answers a fault in a frame's place, and returns what ends the stream.
+    /// Answers a wrong frame, and gives the fault that ends the stream.
     pub(crate) fn refuse<W: Write>(&self, fault: FrameFault, writer: &mut W) -> ServeFault
         ensures { Refuses fault (W.contents writer.old) result (W.contents writer.new) }
     {

@@ -16,7 +16,7 @@ pub enum Frame {
     Question { question: Question },
     /// The messages to other nodes are taken.
     Take,
-    /// What came of the command of this id is asked for.
+    /// The outcome of the command of this id is asked for.
     Outcome { id: [u8; 16] },
     /// The node is to ask others for what it lacks.
     CatchUp,
@@ -38,7 +38,7 @@ pub enum Frame {
     Unknown,
     /// The node could not handle the frame.
     NodeFault { fault: NodeFault },
-    /// This is wrong in a frame's place.
+    /// The octets that came are no frame: this is wrong with them.
     FrameFault { fault: FrameFault },
     /// So many commands are known.
     Prefix { prefix: u32 },
