@@ -33,6 +33,7 @@ fn anchor() -> [u8; 32] {
     hasher.finalize()
 }
 
+/// The terms of a question at a moment in June, with no flag, purpose, policy or subtree.
 fn terms(alloc: Global) -> Terms {
     Terms {
         moment: JUNE,

@@ -381,8 +381,8 @@ const REPLIES: &[(&[u8], &str, &[u8])] = &[
     ),
 ];
 
-/// The same of questions of which a part can't be read: the initial subtrees, or the certificate
-/// that is the first, the second, the 16th or the 33rd.
+/// Questions of which a part can't be read, with their replies: the initial subtrees, or the
+/// certificate that is the first, the second, the 16th or the 33rd.
 const MALFORMED: &[(&[u8], &str, &[u8])] = &[
     // R, L; a permitted subtree with no base: Truncated at 2.
     (
@@ -426,7 +426,7 @@ const MALFORMED: &[(&[u8], &str, &[u8])] = &[
         "LLLLLLLLLLLLLLLm",
         b"\x00\x00\x00\x04\x07\x10\x10\x00\x00\x00\x25",
     ),
-    // A search, M with 31 times A and m: the same of the last.
+    // A search, M with 31 times A and m: TimeForm at 37 of the last.
     (
         b"\x02\x00\x00\x00\x00\x6a\x1c\xcb\x80\x10\x00\x00\x00\x04\x00\x00\x00\x00\x00\x21",
         "MAAAAAAAAAAAAAAAAAAAAAAAAAAAAAAAm",

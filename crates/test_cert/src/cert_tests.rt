@@ -111,6 +111,7 @@ const TOO_LARGE: [u8; 65_537] = [0x30; 65_537];
 /// algorithm of its key, its key and its signature.
 type Parts<'a> = (&'a [u8], &'a [u8], &'a [u8], &'a [u8], &'a [u8], &'a [u8]);
 
+/// Reads a certificate, and gives the parts that the rows show.
 fn parts<'a>(octets: &'a [u8]) -> Option<Parts<'a>> {
     let cert = Cert::read(octets).ok()?;
     let SubjectPublicKeyInfo {

@@ -38,6 +38,7 @@ type Short<'a> = (&'a [u8], &'a [u8], &'a [u8], &'a [u8]);
 /// How many octets there are, the first, and the last.
 type Ends = (usize, Option<u8>, Option<u8>);
 
+/// How many octets there are, with the first and the last.
 fn ends(octets: &[u8]) -> Ends {
     (
         octets.len(),

@@ -23,10 +23,12 @@ fn text(name: General<'_>) -> Option<&[u8]> {
     }
 }
 
+/// The text of the first of several general names.
 fn first(names: GeneralNames<'_>) -> Option<&[u8]> {
     text(names.iter().next()?)
 }
 
+/// The text of the first name of the first distribution point.
 fn first_point(points: DistributionPoints<'_>) -> Option<&[u8]> {
     match points.iter().next()?.name? {
         PointName::FullName(names) => first(names),

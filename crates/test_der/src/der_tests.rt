@@ -16,7 +16,7 @@ const OID_FORM: Place = (DerFault::OidForm, 0);
 
 const TEXT_FORM: Place = (DerFault::TextForm, 0);
 
-/// What is read, or the fault and its place.
+/// The value that a reading gives, or the fault and its place.
 fn placed<T>(read: Result<T, Fault>) -> Result<T, Place> {
     match read {
         Ok(value) => Ok(value),
@@ -24,7 +24,7 @@ fn placed<T>(read: Result<T, Fault>) -> Result<T, Place> {
     }
 }
 
-/// The fault that refuses what is read, and its place.
+/// The fault of a reading that is refused, and its place.
 fn refusal<T: Drop>(read: Result<T, Fault>) -> Option<Place> {
     placed(read).err()
 }
@@ -141,6 +141,7 @@ fn a_default_is_absent(rt: HostRuntime) {
     }
 }
 
+/// Reads the first element of an input as a BOOLEAN.
 fn boolean(octets: &[u8]) -> Result<bool, Fault> {
     first(octets)?.boolean()
 }
@@ -198,6 +199,7 @@ fn integers(rt: HostRuntime) {
     }
 }
 
+/// Reads the first element of an input as a small INTEGER.
 fn small(octets: &[u8]) -> Result<u32, Fault> {
     first(octets)?.small()
 }
@@ -236,10 +238,12 @@ fn bits<'a>(octets: &'a [u8]) -> (Result<u8, Place>, &'a [u8]) {
     }
 }
 
+/// Reads the first element of an input as a BIT STRING of named bits.
 fn named_bits(octets: &[u8]) -> Result<Bits<'_>, Fault> {
     first(octets)?.named_bits()
 }
 
+/// Reads the first element of an input as a BIT STRING without unused bits.
 fn whole_octets(octets: &[u8]) -> Result<&[u8], Fault> {
     first(octets)?.whole_octets()
 }
@@ -358,10 +362,12 @@ fn object_identifiers(rt: HostRuntime) {
     assert!(rt; (refused, oid(&octets)) == (None, (Some(OID_FORM), b"".as_slice())));
 }
 
+/// Reads the first element of an input as a text in UTF-8.
 fn utf8(octets: &[u8]) -> Result<&str, Fault> {
     first(octets)?.utf8()
 }
 
+/// Reads the first element of an input as ASCII.
 fn ascii(octets: &[u8]) -> Result<&[u8], Fault> {
     first(octets)?.ascii()
 }
@@ -382,6 +388,7 @@ fn texts(rt: HostRuntime) {
     }
 }
 
+/// Reads the first element of an input as a SET OF.
 fn set_of(octets: &[u8]) -> Result<Reader<'_>, Fault> {
     first(octets)?.set_of()
 }

@@ -3,6 +3,7 @@
 use std::alloc::{AllocError, Global};
 use ts_der::{Fault, Oid, OidRef, OidTextError, Reader};
 
+/// Reads an OBJECT IDENTIFIER, with its tag and length.
 fn oid_in(element: &[u8]) -> Result<OidRef<'_>, Fault> {
     Reader::new(element).element(0x06)?.oid()
 }

@@ -59,6 +59,7 @@ const LISTS: [(&[u8], Option<&[u8]>); 16] = [
     (b"\x30\x08\x06\x01\x01\x06\x01\x01\x05\x00", Some(b"\x01")),
 ];
 
+/// The content of the first object identifier of a list that occurs twice.
 fn repeated(octets: &[u8]) -> Result<Option<&[u8]>, Fault> {
     let found: Option<OidRef> = first_repeated(Reader::new(octets).next()?);
     Ok(found.map(|oid| oid.content))

@@ -7,6 +7,7 @@ use ts_shape::SequenceOf;
 /// 1.2.3 and 1.2.4.
 const TWO: [u8; 10] = [0x30, 0x08, 0x06, 0x02, 0x2A, 0x03, 0x06, 0x02, 0x2A, 0x04];
 
+/// Reads a SEQUENCE OF object identifiers.
 fn identifiers(octets: &[u8]) -> Result<SequenceOf<'_, OidRef<'_>>, Fault> {
     SequenceOf::read(Reader::new(octets).next()?)
 }

@@ -4,7 +4,7 @@ use std::alloc::{AllocError, Global};
 use ts_der::{DerFault, Fault};
 use ts_shape::{CertFault, CertRule};
 
-/// The fault that refuses what is read, and its place.
+/// The fault of a reading that is refused, and its place.
 pub fn place<T: Drop>(read: Result<T, Fault>) -> Option<(DerFault, usize)> {
     match read {
         Ok(_) => None,

@@ -9,6 +9,7 @@ type Read = Result<(i64, bool), DerFault>;
 
 const REFUSED: Read = Err(DerFault::TimeForm);
 
+/// Reads a text as a UTCTime, and prints the moment again.
 fn utc(text: &[u8]) -> Read {
     let moment = read_utc(text)?;
     match print_utc(moment) {
@@ -17,6 +18,7 @@ fn utc(text: &[u8]) -> Read {
     }
 }
 
+/// Reads a text as a GeneralizedTime, and prints the moment again.
 fn general(text: &[u8]) -> Read {
     let moment = read_general(text)?;
     match print_general(moment) {

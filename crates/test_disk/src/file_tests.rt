@@ -60,6 +60,8 @@ struct Patchy {
     wanted: &'static [u8],
 }
 
+/// A file that holds the ten digits, with the first write that fails and the octets that it can be
+/// synced with.
 fn with_ten_octets(
     alloc: Global,
     fails_at: u64,

@@ -7,8 +7,8 @@ use ts_disk::{DiskCall, MemDisk, Torn};
 use ts_record::{Fault, Record, Refused};
 use ts_synod::Fact;
 
-/// A record of version 1: the header of node 1 of 3, a body with the fact that round 1 was used,
-/// and a closed gate.
+/// A record of version 1: the header of node 1 of 3, an entry with the fact that round 1 was used,
+/// and a clear commit byte.
 const OLD: [u8; 27] = [
     0x54, 0x53, 0x52, 0x45, 0x43, 0, 0, 1, 1, 3, 0, 0, 0, 0, 0, 0, 1, 0, 0, 0, 5, 1, 0, 0, 0, 1, 0,
 ];
@@ -19,6 +19,8 @@ const NEW: [u8; 36] = [
     0, 0, 5, 1, 0, 0, 0, 1, 0,
 ];
 
+/// What migrating a record of these octets onto two empty disks answers, and the two disks after
+/// it.
 fn migrated(
     alloc: Global,
     octets: &[u8],
@@ -63,7 +65,7 @@ fn what_is_no_old_record_has_its_fault(rt: HostRuntime) -> Result<(), Fail> {
     Ok(())
 }
 
-/// A record of version 1 with two bodies: that round 1 was used; and a promise, a vote for the
+/// A record of version 1 with two entries: that round 1 was used; and a promise, a vote for the
 /// command 7 8, and that the command 9 is chosen.
 const FOUR_FACTS: [u8; 74] = [
     0x54, 0x53, 0x52, 0x45, 0x43, 0, 0, 1, 1, 3, 0, 0, 0, 0, 0, 0, 1, 0, 0, 0, 5, 1, 0, 0, 0, 1, 1,
@@ -100,6 +102,7 @@ struct Ended {
     b: MemDisk,
 }
 
+/// What migrating the record answers where a disk stops so, and the three disks after it.
 fn stopped(alloc: Global, stop: Stop) -> Result<Ended, AllocError> {
     let mut old = disk(alloc, 0, stop)?;
     let mut a = disk(alloc, 1, stop)?;

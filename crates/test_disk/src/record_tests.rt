@@ -56,10 +56,12 @@ const BODY: [u8; 10] = [0, 0, 0, 5, 1, 0, 0, 0, 1, 0];
 
 const OLD: [u8; 8] = [0x54, 0x53, 0x52, 0x45, 0x43, 0, 0, 1];
 
+/// A disk without octets.
 fn empty(alloc: Global) -> Result<MemDisk, AllocError> {
     MemDisk::new(alloc, Vec::new(alloc))
 }
 
+/// The fault with which opening disks of these octets is refused; none where they open.
 fn fault_of(alloc: Global, a: &[u8], b: &[u8]) -> Result<Option<Fault>, AllocError> {
     let a = MemDisk::new(alloc, a.to_vec(alloc)?)?;
     let b = MemDisk::new(alloc, b.to_vec(alloc)?)?;
@@ -208,7 +210,7 @@ fn every_kind_of_fact_comes_back(rt: HostRuntime) -> Result<(), Fail> {
     Ok(())
 }
 
-/// A first disk in use with a body, and a second that is shut.
+/// A first disk in use with an entry, and a second that is shut.
 const WHOLE: [u8; 36] = [
     0x54, 0x53, 0x52, 0x45, 0x43, 0, 0, 2, 1, 3, 0, 0, 0, 0, 0, 0, 0, 0, 0, 0, 0, 0, 0, 1, 1, 1, 0,
     0, 0, 5, 1, 0, 0, 0, 1, 0,
@@ -298,7 +300,7 @@ fn a_crash_leaves_the_facts_before_or_after(rt: HostRuntime) -> Result<(), Fail>
     Ok(())
 }
 
-/// A record of four bodies.
+/// A record of four entries.
 fn with_four_bodies(alloc: Global) -> Result<Option<(MemDisk, MemDisk)>, Fail> {
     let (mut a, mut b) = (empty(alloc)?, empty(alloc)?);
     Record::<MemDisk, Word>::format(&mut a, &mut b, 1, 3, 0)?;
@@ -337,6 +339,7 @@ fn with_four_bodies(alloc: Global) -> Result<Option<(MemDisk, MemDisk)>, Fail> {
     Ok(Some(record.close()))
 }
 
+/// Whether opening succeeded, or was refused with a fault that names the image as the cause.
 fn is_named(fault: Option<Fault>) -> bool {
     matches!(
         fault,

@@ -7,10 +7,12 @@ use ts_disk::{MemDisk, Torn};
 use ts_record::{Fault, Progress, Record};
 use ts_synod::Fact;
 
+/// A disk without octets.
 fn empty(alloc: Global) -> Result<MemDisk, AllocError> {
     MemDisk::new(alloc, Vec::new(alloc))
 }
 
+/// The greatest round that the facts use; 0 where they use none.
 fn greatest(facts: &[Fact<Word>]) -> u32 {
     let mut most = 0;
     for fact in facts {

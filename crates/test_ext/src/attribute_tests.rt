@@ -43,7 +43,7 @@ fn name<'a>(tag: u8, value: &'a [u8]) -> Attribute<'a> {
     }
 }
 
-/// The fault that refuses what is read, and its place.
+/// The fault of a reading that is refused, and its place.
 pub fn place<T: Drop>(read: Result<T, Fault>) -> Option<(DerFault, usize)> {
     match read {
         Ok(_) => None,

@@ -9,6 +9,7 @@ const KEY_COMPROMISE: &[u8] = b"\x04\x04\x03\x02\x06\x40";
 
 const AA_COMPROMISE: &[u8] = b"\x04\x05\x03\x03\x07\x00\x80";
 
+/// Reads a ReasonFlags, and gives the set of its reasons.
 fn reasons(octets: &[u8]) -> Result<ReasonSet, Fault> {
     Ok(ReasonFlags::read(value(octets)?)?.reasons())
 }

@@ -60,6 +60,8 @@ const HOST: &[u8] = b"\x04\x05\x30\x03\x82\x01\x61";
 /// An address of 5 octets.
 const FIVE: &[u8] = b"\x04\x09\x30\x07\x87\x05\x0a\x00\x00\x01\x02";
 
+/// Reads an extension's value, from the element of its object identifier and that of its OCTET
+/// STRING.
 fn ext<'a>(holder: Holder, oid: &'a [u8], octets: &'a [u8]) -> Result<Ext<'a>, Fault> {
     Ext::read(
         holder,

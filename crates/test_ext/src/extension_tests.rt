@@ -48,6 +48,7 @@ const TAGGED_FIVE: &[u8] =
 /// The subject's alternative name, without a name.
 const NO_NAME: &[u8] = b"\x30\x0b\x30\x09\x06\x03\x55\x1d\x11\x04\x02\x30\x00";
 
+/// Reads a list of extensions.
 fn extensions(octets: &[u8]) -> Result<Extensions<'_>, Fault> {
     Extensions::read(Reader::new(octets).next()?)
 }

@@ -11,10 +11,12 @@ const DIRECTORY: &[u8] = b"\xa4\x0e\x30\x0c\x31\x0a\x30\x08\x06\x03\x55\x04\x0a\
 /// The names of two hosts, example.com and example.org.
 const HOSTS: &[u8] = b"\x30\x1a\x82\x0bexample.com\x82\x0bexample.org";
 
+/// Reads a GeneralName.
 fn general(octets: &[u8]) -> Result<General<'_>, Fault> {
     General::read(Reader::new(octets).next()?)
 }
 
+/// Reads a list of GeneralNames.
 fn names(octets: &[u8]) -> Result<GeneralNames<'_>, Fault> {
     SequenceOf::read(Reader::new(octets).next()?)
 }

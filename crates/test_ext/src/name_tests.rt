@@ -33,6 +33,7 @@ const PAIR: &[u8] =
 const TURNED: &[u8] =
     b"\x30\x17\x31\x15\x30\x08\x06\x03\x55\x04\x0a\x0c\x01a\x30\x09\x06\x03\x55\x04\x03\x13\x02B\x20";
 
+/// Reads a distinguished name.
 fn name(octets: &[u8]) -> Result<Name<'_>, Fault> {
     Name::read(Reader::new(octets).element(0x30)?)
 }

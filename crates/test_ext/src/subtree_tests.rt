@@ -18,10 +18,12 @@ const FROM_ONE: &[u8] = b"\x30\x08\x82\x03a.b\x80\x01\x01";
 /// The same with a maximum of 5.
 const TO_FIVE: &[u8] = b"\x30\x08\x82\x03a.b\x81\x01\x05";
 
+/// Reads a GeneralSubtree.
 fn element(octets: &[u8]) -> Result<Subtree<'_>, Fault> {
     Subtree::read_element(Reader::new(octets).element(0x30)?)
 }
 
+/// Reads a list of GeneralSubtrees.
 fn list(octets: &[u8]) -> Result<SequenceOf<'_, Subtree<'_>>, Fault> {
     SequenceOf::read(Reader::new(octets).next()?)
 }

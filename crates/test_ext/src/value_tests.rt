@@ -12,7 +12,7 @@ pub(crate) fn value(octets: &[u8]) -> Result<Element<'_>, Fault> {
     Reader::new(octets).next()?.reader().next()
 }
 
-/// What is read, or why it is refused.
+/// The value that a reading gives, or why it is refused.
 pub(crate) fn answer<T>(read: Result<T, Fault>) -> Result<T, Refusal> {
     match read {
         Ok(value) => Ok(value),
@@ -20,11 +20,12 @@ pub(crate) fn answer<T>(read: Result<T, Fault>) -> Result<T, Refusal> {
     }
 }
 
+/// The fault that a reading gives, and its place; `None` where it succeeds.
 pub(crate) fn refusal<T: Drop>(read: Result<T, Fault>) -> Option<Refusal> {
     read.err().map(|fault| (fault.kind, fault.at))
 }
 
-/// The octets of a number of a list.
+/// The octets of a CRL's number.
 fn number(octets: &[u8]) -> Result<&[u8], Fault> {
     Ok(CrlNumber::read(value(octets)?)?.octets)
 }

@@ -38,6 +38,7 @@ pub(crate) const CONTENTS: &[&[u8]] = &[
 /// The same, one after another.
 pub(crate) const ALL: &[u8] = b"0112223333444445555556666666777777778888888889999999999";
 
+/// A session of this key and nonce, with the challenge of the samples.
 pub(crate) fn session(key_id: u32, nonce: [u8; 32]) -> Session {
     Session {
         key_id,

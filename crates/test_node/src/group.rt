@@ -78,12 +78,14 @@ impl Model for Sent {
     ghost invariant = { λ sent. InputFits (λ number. number.value ∷ []) sent.input };
 }
 
+/// Whether a number is a position of the log, which are 1 to 1,000,000.
 fn is_position(position: u32) -> bool
     ensures { IsTrue result → IsPosition position }
 {
     1 <= position && position <= 1_000_000
 }
 
+/// Whether a number is a ballot: a round of 1 to 4,294,967,295, times 16, plus a node of 1 to 9.
 fn is_ballot(ballot: Ballot) -> bool
     ensures { IsTrue result → IsBallot ballot }
 {
@@ -516,10 +518,13 @@ impl Group {
         })
     }
 
+    /// Whether the votes that were sent make a vote's command chosen: one of them completes a
+    /// majority with it.
     fn is_chosen(&self, vote: Voted) -> bool {
         self.votes.iter().any(|other| vote.is_majority(*other))
     }
 
+    /// Whether no member has learned another command than this at a position.
     fn agrees_on(&self, position: u32, command: Number) -> bool {
         self.members
             .iter()
@@ -588,6 +593,7 @@ impl Group {
         Ok(())
     }
 
+    /// The place of the first message that was not delivered.
     fn undelivered(&self) -> Option<usize> {
         self.sent.iter().position(|sent| !sent.is_delivered)
     }

@@ -26,7 +26,7 @@ fn classic_run(group: &mut Group) -> Result<u32, AllocError> {
 fn both_commands_are_learned_in_one_order(rt: HostRuntime) -> Result<(), Fail> {
     let mut group = Group::new(rt.alloc(), NO_TROUBLE)?;
     let left = classic_run(&mut group)?;
-    // Where one growth is refused, a node answers so once and the run is the same, or a disk in
+    // Where one allocation is refused, a node answers so once and the run is the same, or a disk in
     // memory has failed.
     assert!(rt; group.agrees && group.refusals < 2);
     let is_whole = left == 40 && group.have_learned(&[Number { value: 2 }, Number { value: 1 }]);

@@ -46,6 +46,7 @@ struct Event {
     stops: bool,
 }
 
+/// The event that this happens at a node, which does not stop.
 fn at(node: u8, happens: Happens) -> Event {
     Event {
         node,
@@ -193,6 +194,7 @@ fn chosen_by(alloc: Global, records: &Records) -> Result<Vec<(u32, u8)>, AllocEr
     Ok(chosen)
 }
 
+/// Whether one of the events submits this command.
 fn is_submitted(events: &[Event], value: u8) -> bool {
     for event in events {
         if matches!(event.happens, Happens::Submit(submitted) if submitted == value) {
@@ -225,6 +227,7 @@ struct Seen {
     broken: u64,
 }
 
+/// The sums of two counts, field by field.
 fn sum_of(a: Seen, b: Seen) -> Seen {
     Seen {
         lists: a.lists.saturating_add(b.lists),

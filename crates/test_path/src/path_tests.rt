@@ -88,6 +88,7 @@ fn judge_three(alloc: Global, middle: &'static [u8]) -> Option<Option<(u8, u8)>>
     Some(answer(&verdict))
 }
 
+/// The position and the number of the reason why a chain is not valid; `None` where it is.
 fn answer(verdict: &Verdict<'_>) -> Option<(u8, u8)> {
     match verdict {
         Verdict::Valid(_) => None,

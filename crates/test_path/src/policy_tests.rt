@@ -58,6 +58,7 @@ const ROWS: [(&str, &str, &str, &str); 21] = [
 /// Each of three policies is mapped to each.
 const ALL_TO_ALL: &str = "123/1>1,1>2,1>3,2>1,2>2,2>3,3>1,3>2,3>3";
 
+/// The octets of the policy that has this name in the rows.
 fn octets(name: &str) -> &'static [u8] {
     for &(known, octets) in &NAMES {
         if known == name {
@@ -67,6 +68,7 @@ fn octets(name: &str) -> &'static [u8] {
     b""
 }
 
+/// The name that a policy has in the rows.
 fn name(octets: &[u8]) -> &'static str {
     for &(name, known) in &NAMES {
         if known == octets {
@@ -76,6 +78,7 @@ fn name(octets: &[u8]) -> &'static str {
     "?"
 }
 
+/// The policies that a text of a row names.
 fn labels(alloc: Global, names: &str) -> Result<Vec<&'static [u8]>, AllocError> {
     let mut labels = Vec::new(alloc);
     for name in ["3", "2", "1", "4", "5", "9", "*"] {
@@ -86,6 +89,7 @@ fn labels(alloc: Global, names: &str) -> Result<Vec<&'static [u8]>, AllocError> 
     Ok(labels)
 }
 
+/// The mappings of a text such as `1>3,2>3`.
 fn mappings(alloc: Global, text: &str) -> Result<Vec<Mapping<'static>>, AllocError> {
     let mut mappings = Vec::new(alloc);
     for pair in text.split(',') {
@@ -99,6 +103,7 @@ fn mappings(alloc: Global, text: &str) -> Result<Vec<Mapping<'static>>, AllocErr
     Ok(mappings)
 }
 
+/// The certificate that a word of a row describes.
 fn certificate(alloc: Global, text: &str) -> Result<Certificate<'static>, AllocError> {
     let (stated, mapped) = text.split_once('/').unwrap_or((text, ""));
     let policies = if stated.contains('-') {
@@ -116,6 +121,7 @@ fn certificate(alloc: Global, text: &str) -> Result<Certificate<'static>, AllocE
     })
 }
 
+/// The certificates that a row describes, with spaces between them.
 fn chain(alloc: Global, text: &str) -> Result<Vec<Certificate<'static>>, AllocError> {
     let mut chain = Vec::new(alloc);
     for word in text.split(' ') {

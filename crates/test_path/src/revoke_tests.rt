@@ -42,6 +42,7 @@ fn under(cert: &[u8], first: &[u8], second: &[u8]) -> Option<Status> {
     under_two(cert, first, second, D_1)
 }
 
+/// The status in June under two CRLs and a delta CRL.
 fn under_two<'x>(cert: &[u8], first: &'x [u8], second: &'x [u8], delta: &[u8]) -> Option<Status> {
     let cert = Cert::read(cert).ok()?;
     let lists = [Crl::read(first).ok()?, Crl::read(second).ok()?];
@@ -282,7 +283,7 @@ const CHECKED: [(&[u8], &[u8], &[u8], Status, u32); 9] = [
     (L_U1, R_NAMED_6, FORGED, Status::Revoked(6), 2),
     // Pass 1 decides.
     (L_U1, U1, Y_6, Status::Revoked(6), 2),
-    // A list of another issuer, and one for the reasons of no point.
+    // A CRL of another issuer, and one for the reasons of no point.
     (L_U1, STRANGE, U1, Status::Good, 1),
     (L_REASONS, X_REST, U1_1, Status::Revoked(1), 1),
 ];

@@ -49,6 +49,7 @@ enum Told {
     SearchLimit,
 }
 
+/// What a search answered, without its policies.
 fn summary(answer: &Answer<'_>) -> Told {
     match answer {
         Answer::Found { anchor, chain, .. } => Told::Found(*anchor, front(chain)),

@@ -14,12 +14,14 @@ pub(crate) struct Counting {
 }
 
 impl Counting {
+    /// A check that was not asked yet.
     pub(crate) fn new() -> Counting {
         Counting {
             asked: Cell::new(0),
         }
     }
 
+    /// How often the check was asked.
     pub(crate) fn asked(&self) -> u32 {
         self.asked.get()
     }

@@ -89,7 +89,7 @@ const ROWS: &[(&[u8], &[u8])] = &[
     ),
 ];
 
-/// Streams with a fault in a frame's place, which are answered up to it, and the fault's code.
+/// Streams with a wrong frame, which are answered up to it, and the fault's code.
 const FAULTS: &[(&[u8], u8)] = &[
     (b"\x00\x80\x00\x01", 1),
     (b"\x00\x00\x00\x02\x03\x15", 2),
@@ -149,8 +149,8 @@ fn was_refused(said: &[u8], end: Result<(), ServeFault>) -> bool {
             .any(|frame| matches!(frame, [0, 0, 0, 3, 2, 0x25, 1..=3]))
 }
 
-/// What a server whose disks do not fail answers to a stream, and how it ends. An error where memory
-/// was refused.
+/// What a server whose disks do not fail answers to a stream, and how it ends. An error where
+/// memory was refused.
 fn answers(
     alloc: Global,
     server: &mut Served,
@@ -480,11 +480,13 @@ fn a_failed_disk_is_answered(rt: HostRuntime) -> Result<(), Fail> {
     Ok(())
 }
 
+/// A peer around a server on new disks. An error where the server could not be made.
 fn peer(alloc: Global, me: u8, nodes: u8) -> Result<ServerPeer<MemDisk, Applies>, AllocError>
     requires from { 1 ≤ me }
     requires to { me ≤ nodes }
     requires few { nodes ≤ 9 }
-    ensures { IfOk result (λ peer. IsSound state_of octets_of ⟦<Applies as Machine<Command>>⟧.commands peer.server.node) }
+    ensures { IfOk result (λ peer. IsSound state_of octets_of
+        ⟦<Applies as Machine<Command>>⟧.commands peer.server.node) }
 {
     match server(alloc, me, nodes, u64::MAX)? {
         Some(server) => Ok(ServerPeer::new(alloc, server)),

@@ -151,7 +151,7 @@ fn faults_are_named(rt: HostRuntime) -> Result<(), Fail> {
     Ok(())
 }
 
-/// Whether a fault in a frame's place is answered, and again once more has come, which stays.
+/// Whether a wrong frame is answered, and again once more has come, which stays.
 fn is_answered_again(alloc: Global) -> Result<bool, AllocError> {
     let mut feed = Feed::new(alloc);
     let was_empty = feed.is_empty();
@@ -168,11 +168,13 @@ fn a_fault_is_answered_again(rt: HostRuntime) -> Result<(), Fail> {
     Ok(())
 }
 
+/// Whether a frame is written as these octets.
 fn is_written(alloc: Global, frame: Frame, octets: &[u8]) -> bool {
     let mut out = Vec::new(alloc);
     write_frame(alloc, &mut out, &frame).is_ok() && out.as_slice() == octets
 }
 
+/// A frame that says that a command was applied at position 1.
 fn settled() -> Frame {
     Frame::Settled {
         position: 1,
@@ -180,6 +182,7 @@ fn settled() -> Frame {
     }
 }
 
+/// A prepare request for ballot 17 at position 1, from node 1 to node 2.
 fn prepare() -> Frame {
     Frame::Peer(Message {
         from: 1,

@@ -25,6 +25,7 @@ const UPPER: &str = "Ba7816bf8f01cfea414140de5dae2223b00361a396177a9cb410ff61f20
 /// One digit is missing.
 const SHORT: &str = "a7816bf8f01cfea414140de5dae2223b00361a396177a9cb410ff61f20015ad";
 
+/// The key "a" of the stand-in, with these parameters.
 fn key(parameters: Option<&[u8]>) -> WorkingKey<'_> {
     WorkingKey {
         algorithm: &STAND_IN_OID,

@@ -102,6 +102,7 @@ const NO_ROWS: &[&[u8]] = &[
     b"\x01\x64\x64\x64\x64\x64\x64\x64\x64\x64\x64\x64\x64\x64\x64\x64\x64\x64\x64\x64\x64\x64\x64\x64\x64\x64\x64\x64\x64\x64\x64\x64\x64\x00\x05\x31\x00",
 ];
 
+/// Whether octets are read as a question that is written as the same octets.
 fn is_question(alloc: Global, octets: &[u8]) -> Result<bool, AllocError> {
     match Question::read(alloc, octets)? {
         Some(question) => Ok(question.octets(alloc)?.as_slice() == octets),
@@ -109,6 +110,7 @@ fn is_question(alloc: Global, octets: &[u8]) -> Result<bool, AllocError> {
     }
 }
 
+/// Whether octets are read as an answer that is written as the same octets.
 fn is_answer(alloc: Global, octets: &[u8]) -> Result<bool, AllocError> {
     match Answer::read(alloc, octets)? {
         Some(answer) => Ok(answer.octets(alloc)?.as_slice() == octets),
@@ -175,6 +177,7 @@ fn answers_are_read_and_written_again(rt: HostRuntime) -> Result<(), Fail> {
     Ok(())
 }
 
+/// Terms with no flag, purpose, policy or subtree, after the first k commands where k is given.
 fn terms(alloc: Global, k: Option<u32>) -> Terms {
     Terms {
         moment: 1_780_272_000,
@@ -202,11 +205,14 @@ fn strings(alloc: Global, count: usize, size: usize) -> Result<Vec<Vec<u8>>, All
     Ok(strings)
 }
 
+/// Whether a question for a chain of so many certificates of so many octets is within the limits.
 fn is_chain(alloc: Global, k: u32, count: usize, size: usize) -> Result<bool, AllocError> {
     let certificates = strings(alloc, count, size)?;
     Ok(Question::chain(terms(alloc, Some(k)), [7; 32], certificates).is_ok())
 }
 
+/// Whether a question for a search is within the limits, with so many excluded subtrees of so many
+/// octets and so many empty certificates.
 fn is_search(
     alloc: Global,
     subtrees: usize,

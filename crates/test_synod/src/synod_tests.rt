@@ -29,6 +29,7 @@ impl Command for Text {
     }
 }
 
+/// How many messages there are, and to which node the last one goes; zeros where there are none.
 fn ends_of(messages: &Vec<Message<Text>>) -> (usize, u8) {
     match messages.last() {
         Some(message) => (messages.len(), message.to),

@@ -384,7 +384,7 @@ impl<C: Command> Acceptor<C> {
         Ok(step)
     }
 
-    /// Puts a step in force, which takes no memory.
+    /// Makes a step's change, which takes no memory.
     pub fn keep(&mut self, step: Step<C>)
         requires { IsLatest self.old step }
         ensures state { (facts : List (Fact C)) → StandsFor self.old facts

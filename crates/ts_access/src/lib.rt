@@ -17,7 +17,8 @@
 //!
 //! The crate has values alone: no socket, no file, no clock, no randomness. Below it `ts_guard`
 //! lets through what was sealed with a key; here the key is found by the number that the client
-//! names, and of what was let through only what the key's role may ask is handed on, frame by frame.
+//! names, and of what was let through only what the key's role may ask is handed on, frame by
+//! frame.
 //!
 //! What is proved of each call:
 //!
@@ -33,7 +34,7 @@
 //! - [`Entrance::push`], [`Entrance::take`], [`Entrance::seal`]: the step from one stage to another
 //!   or exactly why there is none, and then nothing is let through any more (`specs/Entering`,
 //!   `specs/Lines`); and what was handed on of what came (`specs/Entered`).
-//! - [`Visitor::push`], [`Visitor::take`], [`Visitor::seal`]: the same of a client, which hands on
+//! - [`Visitor::push`], [`Visitor::take`], [`Visitor::seal`]: the step of a client, which hands on
 //!   each content (`specs/Visiting`).
 //! - [`laws::only_what_the_role_may_ask`]: over every list of calls in any order: what came is a
 //!   greeting that names a key and records with this key's tags on this connection, and what was

@@ -13,6 +13,7 @@ pub(crate) enum Mark {
 }
 
 impl Mark {
+    /// Whether an octet is this mark.
     fn is_at(self, octet: u8) -> bool
         ensures { result ≡ is_mark self octet }
     {

@@ -1,4 +1,4 @@
--- What private clauses see of a trust anchor that path validation is lent.
+-- What private clauses see of a trust anchor that path validation borrows.
 use Rattle.std.specs.Prelude.{ℕ, List, map, take, Option, Some, None, if◌then◌else◌}
 use Rattle.ts_cert.specs.CertView.{cert_in}
 use Rattle.ts_path.specs.Asked.{TrustAnchor}

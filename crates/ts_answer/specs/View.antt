@@ -1,5 +1,5 @@
 -- What private clauses see of the parts of a question that were read, and of what path validation
--- is lent.
+-- borrows.
 use Rattle.std.specs.Prelude.{◌≡◌, ℕ, List, map, Option, Some}
 use Rattle.ts_cert.specs.CertView.{cert_in, certificate_in}
 use Rattle.ts_constraint.specs.View.{bases_in}

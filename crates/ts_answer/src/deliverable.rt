@@ -8,12 +8,14 @@ ghost use Rattle.ts_record.specs.Facts.{IsBallot, IsPosition};
 use ts_store::Command;
 use ts_synod::{Ballot, Body, Message};
 
+/// Whether a number is a position of the log, which are 1 to 1,000,000.
 fn is_position(position: u32) -> bool
     ensures { IsTrue result ↔ IsPosition position }
 {
     1 <= position && position <= 1_000_000
 }
 
+/// Whether a number is a ballot: a round of 1 to 4,294,967,295, times 16, plus a node of 1 to 9.
 fn is_ballot(ballot: Ballot) -> bool
     ensures { IsTrue result ↔ IsBallot ballot }
 {

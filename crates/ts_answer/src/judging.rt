@@ -67,7 +67,7 @@ fn inputs_of<'a>(
     }
 }
 
-/// The verdict on a chain under an anchor, over the lists of a store.
+/// The verdict on a chain under an anchor, over the CRLs of a store.
 fn verdict_under<'a, S: SignatureCheck>(
     alloc: Global,
     check: &S,
@@ -123,7 +123,7 @@ fn chain_reply<'a, S: SignatureCheck>(
     Ok(reply)
 }
 
-/// The answer of the search through a pool, over the lists of a store.
+/// The answer of the search through a pool, over the CRLs of a store.
 fn found_under<'a, S: SignatureCheck>(
     alloc: Global,
     check: &S,
@@ -214,7 +214,7 @@ fn target_reply<'a, S: SignatureCheck>(
     }
 }
 
-/// The reply to a question over the tables of a store, which are lent: to any but one for commands.
+/// The reply to a question over the borrowed tables of a store: to any but one for commands.
 pub(crate) fn reply_over<S: SignatureCheck>(
     alloc: Global,
     check: &S,

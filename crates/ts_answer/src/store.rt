@@ -1,4 +1,4 @@
-//! What path validation is lent of the tables of a store.
+//! The anchors and CRLs that path validation borrows from the tables of a store.
 
 ghost use Rattle.std.specs.Prelude.{◌≡◌, map, option_map, IfOk};
 ghost use Rattle.ts_crl.specs.ListView.{crl_in};
@@ -15,7 +15,7 @@ use ts_history::LentAnchor;
 use ts_path::Anchor;
 use ts_store::StoredCrl;
 
-/// The lists, lent. None is read again.
+/// The CRLs, borrowed. None is read again.
 pub(crate) fn lists_of<'a>(
     alloc: Global,
     stored: &[&'a StoredCrl],
@@ -42,7 +42,7 @@ pub(crate) fn anchor_of<'a>(anchors: &[LentAnchor<'a>], id: &[u8; 32]) -> Option
     None
 }
 
-/// The anchors of the store, lent. No certificate is read again.
+/// The anchors of the store, borrowed. No certificate is read again.
 pub(crate) fn trusted_of<'a>(
     alloc: Global,
     stored: &[LentAnchor<'a>],

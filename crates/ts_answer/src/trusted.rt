@@ -1,4 +1,4 @@
-//! Trust anchors of a store, as path validation is lent them.
+//! Trust anchors of a store, as path validation borrows them.
 
 ghost use Rattle.std.specs.Prelude.{◌≡◌, ◌≤◌, Some, None, length, map, take, option_map, IfOk};
 ghost use Rattle.ts_history.specs.Contents.{anchor_in as lent_in};

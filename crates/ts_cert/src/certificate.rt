@@ -53,9 +53,9 @@ impl<'a> Cert<'a> {
     /// 5280 4.1, 4.2).
     #[inline(always)]
     pub fn read(octets: &'a [u8]) -> Result<Cert<'a>, CertFault>
-        // What is read is encoded so.
+        // The octets encode the certificate that is given.
         ensures found { IfOk result (λ cert. IsCertificate octets.now (cert_in cert)) }
-        // What is encoded so is read.
+        // A certificate that the octets encode is the one that is given.
         ensures only { (c : Certificate) → IsCertificate octets.now c
             → IsOkAnd result (λ cert. cert_in cert ≡ c) }
         ensures fault { refusal result ≡ certificate_fault octets.now }

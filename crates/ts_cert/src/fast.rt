@@ -1,8 +1,8 @@
 //! Fast path. `false` or `None` means undecided; the caller then uses the full reader. Removing it
 //! changes speed alone.
 //!
-//! The layout of a certificate of version 3 with extensions, in UTCTimes, without unique
-//! identifiers, as most are: by offsets alone, in one walk that keeps nothing.
+//! The layout of a certificate of version 3 that has extensions and UTCTimes and no unique
+//! identifiers, as most certificates do. One walk finds it by offsets alone and keeps nothing else.
 
 ghost use Rattle.std.specs.Prelude.{◌≡◌, ◌≤◌, ◌+◌, IfSome, List, Option, length, true, unwrap_or};
 ghost use Rattle.std.specs.Prelude.{[], ℕ};
@@ -106,7 +106,8 @@ fn is_rsa(octets: &[u8], at: usize) -> bool
     lie_between(rest, &RSA_LOW, &RSA_HIGH)
 }
 
-/// The same for ECDSA, without parameters (RFC 5758 3.2).
+/// The least octets that an AlgorithmIdentifier of ECDSA, which has no parameters (RFC 5758 3.2),
+/// may begin with, and the greatest.
 const ECDSA_LOW: [u8; 16] = [
     0x30, 0x0A, 0x06, 0x08, 0x2A, 0x86, 0x48, 0xCE, 0x3D, 0x04, 0x03, 0x00, 0x00, 0x00, 0x00, 0x00,
 ];
@@ -128,7 +129,8 @@ fn is_ecdsa(octets: &[u8], at: usize) -> bool
     lie_between(rest, &ECDSA_LOW, &ECDSA_HIGH)
 }
 
-/// The same for a key on a named curve (RFC 5480 2.1.1).
+/// The least octets that an AlgorithmIdentifier of a key on a named curve (RFC 5480 2.1.1) may
+/// begin with, and the greatest.
 const CURVE_LOW: [u8; 16] = [
     0x30, 0x00, 0x06, 0x07, 0x2A, 0x86, 0x48, 0xCE, 0x3D, 0x02, 0x01, 0x06, 0x00, 0x00, 0x00, 0x00,
 ];

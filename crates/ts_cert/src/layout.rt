@@ -59,7 +59,8 @@ fn end_of(octets: &[u8], at: usize) -> usize
     }
 }
 
-/// The same for an element of this tag; the offset itself, where none of that tag is there.
+/// Where the element of this tag ends that is at an offset; the offset itself, where none of this
+/// tag is there.
 fn end_if(octets: &[u8], at: usize, tag: u8) -> usize
     requires { at ≤ length octets.now }
     ensures within { result ≤ length octets.now }

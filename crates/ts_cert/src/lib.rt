@@ -1,5 +1,5 @@
-//! X.509 certificates (RFC 5280 4.1), read where they lie: no memory, no copy, and of
-//! octets that are none the first rule that is broken, with its place.
+//! X.509 certificates (RFC 5280 4.1), read in place, without allocation or copy. Octets that are no
+//! certificate are refused by the first rule that they break, with its place.
 //!
 //! ```text
 //! // a fault is the first broken rule, with its offset
@@ -8,21 +8,21 @@
 //! let usage = cert.key_usage();                  // None where the extension does not stand
 //! ```
 //!
-//! `Cert::read` reads a whole certificate where it lies: no memory, no copy. A `Cert` is its octets
-//! and the offsets at which its parts begin; each field is read there when it is asked for, as a
-//! slice of the source. Of a name and of the extensions the headers alone are read again; serial
-//! number, times, key and algorithms are parsed where they are. `specs/Encoding.antt` stands beside
-//! RFC 5280 section 4.1: for each SEQUENCE one relation between octets and a record whose fields
-//! have the standard's names.
+//! `Cert::read` reads a whole certificate in place, without allocation or copy. A `Cert` is its
+//! octets and the offsets at which its parts begin; each field is read there when it is asked for,
+//! as a slice of the source. Of a name and of the extensions the headers alone are read again;
+//! serial number, times, key and algorithms are parsed where they are. `specs/Encoding.antt` stands
+//! beside RFC 5280 section 4.1: for each SEQUENCE one relation between octets and a record whose
+//! fields have the standard's names.
 //!
-//! - `Cert::read`: what is read is encoded so: the octets are the certificate that the record says,
-//!   at most 65,536; both algorithm identifiers are one; a unique identifier stands from version 2
-//!   on alone, extensions in version 3 alone; no extension occurs twice; the value of each known
-//!   one is encoded as that extension asks and keeps the rules of such a value (`found`
-//!   (`IsCertificate`)); what is encoded so is read, as that record (`only`); a refusal is the
-//!   first rule that is broken, with its place, and comes exactly then: more than 65,536 octets;
-//!   the shape from front to back (`specs/Table.antt` is the shape as a table in the words of the
-//!   standard's ASN.1, names and all); two algorithm identifiers that differ;
+//! - `Cert::read`: where it succeeds, the octets are the certificate that the record says, at most
+//!   65,536; both algorithm identifiers are one; unique identifiers occur only from version 2 on,
+//!   extensions only in version 3; no extension occurs twice; the value of each known one is
+//!   encoded as that extension asks and keeps the rules of such a value (`found`
+//!   (`IsCertificate`)); octets that encode a certificate are read, as that record (`only`); a
+//!   refusal is the first rule that is broken, with its place, and comes exactly then: more than
+//!   65,536 octets; the shape from front to back (`specs/Table.antt` is the shape as a table in the
+//!   words of the standard's ASN.1, names and all); two algorithm identifiers that differ;
 //!   `ExtensionsInOldVersion` at the first field that the version does not have;
 //!   `DuplicateExtension` at the first extension that repeats one before it; then the first rule
 //!   that the value of a known extension breaks, one extension after another (`fault`
@@ -45,7 +45,7 @@
 //! - `Cert::is_self_issued`: true exactly where issuer and subject are one name in canonical form.
 //! - `OwnedCert::read`: a copy of the octets, or `Memory`, exactly where no rule is broken; else
 //!   `Unreadable` with the first rule that is (`kept`, `refused`).
-//! - `OwnedCert::of`: the same of octets that are shared (`ts_octets`), which are not copied.
+//! - `OwnedCert::of`: as `read`, but the octets are shared (`ts_octets`) and not copied.
 //! - `OwnedCert::view`, `octets`: the certificate that these octets are, without reading them
 //!   again; the octets (`found`, `exact`; its clause).
 //! - within: of every `Cert` the octets are a certificate whose parts begin at the offsets that it

@@ -110,7 +110,7 @@ impl OwnedCert {
         Ok(OwnedCert { octets, layout })
     }
 
-    /// The certificate, lent. Its octets are not read again.
+    /// The certificate, borrowed from these octets, which are not read again.
     pub fn view(&self) -> Cert<'_>
         ensures found { IsCertificate self.now (cert_in result) }
         ensures exact { certificate_of self.now ≡ Ok (cert_in result) }

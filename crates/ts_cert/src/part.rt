@@ -94,7 +94,8 @@ pub(crate) fn name_from(octets: &[u8], at: usize) -> Name<'_>
 
 /// The unique identifier of this tag that begins at an offset, if one does.
 pub(crate) fn unique_id_from(octets: &[u8], at: usize, tag: u8) -> Option<Bits<'_>>
-    requires { ∥ ((x : Option (ℕ × List ℕ)) × HoldsIfAny tag IsUniqueIdentifier octets.now at x) ∥₁ }
+    requires { ∥ ((x : Option (ℕ × List ℕ))
+        × HoldsIfAny tag IsUniqueIdentifier octets.now at x) ∥₁ }
     ensures { (x : Option (ℕ × List ℕ)) → HoldsIfAny tag IsUniqueIdentifier octets.now at x
         → option_map parts_of result ≡ x }
 {

@@ -24,7 +24,8 @@ fn full_layout(octets: &[u8]) -> Result<Layout, CertFault>
     Ok(layout_of(octets, parts.fields.version))
 }
 
-/// The same, with the fast path first.
+/// The layout of octets that are a certificate, or the first rule that they break, with the fast
+/// path first.
 #[inline(always)]
 pub(crate) fn read_layout(octets: &[u8]) -> Result<Layout, CertFault>
     ensures laid { IfOk result (AreLaidOut octets.now) }
@@ -37,7 +38,7 @@ pub(crate) fn read_layout(octets: &[u8]) -> Result<Layout, CertFault>
     }
 }
 
-/// Any certificate that octets are.
+/// The certificate that octets are, or the first rule that they break, without the fast path.
 #[cold]
 #[inline(never)]
 fn full_cert(octets: &[u8]) -> Result<Cert<'_>, CertFault>
@@ -47,8 +48,9 @@ fn full_cert(octets: &[u8]) -> Result<Cert<'_>, CertFault>
     Ok(Cert { octets, layout })
 }
 
-/// The same, with the fast path first. It is not inlined: for a caller that asks for nothing but an
-/// `Ok` the record would not be made, nor its time be measured.
+/// The certificate that octets are, or the first rule that they break, with the fast path first. It
+/// is not inlined: for a caller that looks at nothing but `Ok`, the record would not be made, and a
+/// measurement would leave out its time.
 #[inline(never)]
 pub(crate) fn read_cert(octets: &[u8]) -> Result<Cert<'_>, CertFault>
     ensures { Answers cert_in result (certificate_of octets.now) }

@@ -27,6 +27,7 @@ impl Period {
     ghost use Rattle.std.specs.Prelude.{◌≡◌};
     ghost use Rattle.ts_cert.specs.Period.{validity_in};
 
+    /// The period that keeps a validity.
     pub(crate) fn of(validity: Validity) -> Period
         ensures { validity_in result ≡ validity }
     {
@@ -36,6 +37,7 @@ impl Period {
         }
     }
 
+    /// The validity that a period keeps.
     pub(crate) fn validity(self) -> Validity
         ensures { result ≡ validity_in self }
     {

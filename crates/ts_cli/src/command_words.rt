@@ -64,7 +64,7 @@ pub enum Change {
     Noop,
 }
 
-/// The id of an anchor or a list that an argument gives.
+/// The id of an anchor or a CRL that an argument gives.
 pub(crate) fn digest_at(matches: &ArgMatches<'_>, id: &str) -> Result<[u8; 32], CommandFault>
     ensures { IfOk result (IsDigestAt id.now (rows_of (found_of matches.now))) }
 {
@@ -89,6 +89,7 @@ fn command_id(matches: &ArgMatches<'_>) -> Result<Option<[u8; 16]>, CommandFault
     }
 }
 
+/// The change that `trustd command purposes` asks for: an anchor's purposes are set to these.
 fn purposes(alloc: Global, matches: &ArgMatches<'_>) -> Result<Change, CommandFault>
     ensures { IfOk result (SaysChange (codes "purposes") (rows_of (found_of matches.now))) }
 {

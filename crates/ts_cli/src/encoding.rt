@@ -240,7 +240,7 @@ pub fn question_octets(
     }
 }
 
-/// The name of an anchor or a list: the SHA-256 of its octets in lower-case hexadecimal digits, by
+/// The name of an anchor or a CRL: the SHA-256 of its octets in lower-case hexadecimal digits, by
 /// which the store knows it.
 ///
 /// # Errors

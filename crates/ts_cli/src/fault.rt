@@ -40,7 +40,7 @@ pub enum WrongValue {
     Addresses,
     /// No id of a command.
     CommandId,
-    /// No id of an anchor or a list.
+    /// No id of an anchor or a CRL.
     Digest,
     /// No moment.
     Time,

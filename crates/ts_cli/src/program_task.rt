@@ -23,6 +23,8 @@ const MANY: u32 = 1_000_000;
 /// The most nodes, which is the most addresses.
 const MAX_NODES: usize = 9;
 
+/// The task that `trustd format` asks for, where the number of nodes is 1 to 9 and the node is one
+/// of them.
 fn format(alloc: Global, matches: &ArgMatches<'_>) -> Result<Task, CommandFault>
     ensures { IfOk result (SaysTask (codes "format") (rows_of (found_of matches.now))) }
 {
@@ -36,6 +38,7 @@ fn format(alloc: Global, matches: &ArgMatches<'_>) -> Result<Task, CommandFault>
     })
 }
 
+/// The task that `trustd migrate` asks for.
 fn migrate(alloc: Global, matches: &ArgMatches<'_>) -> Result<Task, CommandFault>
     ensures { IfOk result (SaysTask (codes "migrate") (rows_of (found_of matches.now))) }
 {
@@ -45,6 +48,7 @@ fn migrate(alloc: Global, matches: &ArgMatches<'_>) -> Result<Task, CommandFault
     })
 }
 
+/// The task that `trustd submit` asks for. It waits for 0 seconds where no time is given.
 fn submit(alloc: Global, matches: &ArgMatches<'_>) -> Result<Task, CommandFault>
     ensures { IfOk result (SaysTask (codes "submit") (rows_of (found_of matches.now))) }
 {
@@ -55,6 +59,7 @@ fn submit(alloc: Global, matches: &ArgMatches<'_>) -> Result<Task, CommandFault>
     })
 }
 
+/// The task that `trustd ask` asks for.
 fn ask(alloc: Global, matches: &ArgMatches<'_>) -> Result<Task, CommandFault>
     ensures { IfOk result (SaysTask (codes "ask") (rows_of (found_of matches.now))) }
 {
@@ -66,6 +71,8 @@ fn ask(alloc: Global, matches: &ArgMatches<'_>) -> Result<Task, CommandFault>
     })
 }
 
+/// The task that `trustd carry` asks for, where 1 to 9 addresses are given and each has the form of
+/// an address.
 fn carry(alloc: Global, matches: &ArgMatches<'_>) -> Result<Task, CommandFault>
     ensures { IfOk result (SaysTask (codes "carry") (rows_of (found_of matches.now))) }
 {

@@ -55,6 +55,7 @@ pub struct TermWords {
     pub purpose: Option<Oid>,
 }
 
+/// The moment that the argument `at` gives. It is refused where it is no time.
 fn moment_at(matches: &ArgMatches<'_>) -> Result<i64, CommandFault>
     ensures { IfOk result (IsMomentAt (codes "at") (rows_of (found_of matches.now))) }
 {
@@ -79,6 +80,7 @@ pub(crate) fn position_at(matches: &ArgMatches<'_>) -> Result<Option<u32>, Comma
     }
 }
 
+/// The flags that are set among the arguments.
 fn flags_in(matches: &ArgMatches<'_>) -> Flags
     ensures { result ≡ flags_in (rows_of (found_of matches.now)) }
 {
@@ -104,6 +106,7 @@ pub(crate) fn policies_at(alloc: Global, matches: &ArgMatches<'_>) -> Result<Oid
     Ok(Oids::new(oids))
 }
 
+/// The terms of a question that the arguments give.
 fn terms_at(alloc: Global, matches: &ArgMatches<'_>) -> Result<TermWords, CommandFault>
     ensures { IfOk result (AreTerms (rows_of (found_of matches.now))) }
 {
@@ -143,6 +146,7 @@ fn search_files(alloc: Global, matches: &ArgMatches<'_>) -> Result<Vec<String>, 
     Ok(files)
 }
 
+/// The question that `trustd question chain` asks for.
 fn chain(alloc: Global, matches: &ArgMatches<'_>) -> Result<QuestionWords, CommandFault>
     ensures { IfOk result (SaysQuestion (codes "chain") (rows_of (found_of matches.now))) }
 {
@@ -154,6 +158,7 @@ fn chain(alloc: Global, matches: &ArgMatches<'_>) -> Result<QuestionWords, Comma
     })
 }
 
+/// The question that `trustd question search` asks for.
 fn search(alloc: Global, matches: &ArgMatches<'_>) -> Result<QuestionWords, CommandFault>
     ensures { IfOk result (SaysQuestion (codes "search") (rows_of (found_of matches.now))) }
 {

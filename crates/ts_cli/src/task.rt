@@ -122,7 +122,7 @@ pub enum Task {
     Command(CommandWords),
     /// Write an encoded question.
     Question(QuestionWords),
-    /// Print the id of an anchor or list.
+    /// Print the id of an anchor or a CRL.
     Id {
         /// The certificate or list.
         file: String,

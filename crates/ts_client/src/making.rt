@@ -1,5 +1,5 @@
 //! Files for the programs of a client: encoded commands and questions; the ids of anchors and
-//! lists; what files hold.
+//! CRLs; what files hold.
 
 use crate::fault::Fault;
 use crate::files::{MAX_SHOWN, read_at_most, read_within, second};
@@ -57,7 +57,7 @@ pub(crate) fn put(rt: &impl Print, octets: &[u8]) -> Result<(), Fault> {
 ///
 /// # Errors
 ///
-/// Those of the file with the certificate or list; `BadCrl` where an issuer of the list is given
+/// Those of the file with the certificate or CRL; `BadCrl` where an issuer of the CRL is given
 /// and something speaks against it; `TooLong`; `File` where no id can be drawn; `Write`.
 pub fn make_command(
     rt: &(impl AllocGlobal + Files + Clock + Print + Eprint),

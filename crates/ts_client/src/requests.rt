@@ -77,7 +77,7 @@ pub struct Said {
     pub ended: Ended,
 }
 
-/// What is said of the answer to a command.
+/// The line that reports the answer to a command, and how the task ends.
 fn submit_said(alloc: Global, answer: &Frame) -> Result<Said, Fault> {
     match answer {
         Frame::Started { position, ballot } => {
@@ -195,7 +195,7 @@ pub(crate) fn server_at<'a, R: Files + Net + RandomSource + Eprint>(
 }
 
 /// Submits a command to the server at an address, and waits for so many seconds until it is known
-/// to be chosen. The line that says where and what came of it.
+/// to be chosen. Gives the line that says its position and its outcome.
 fn submit_for<R: Files + Net + Clock + RandomSource + Eprint>(
     rt: &R,
     alloc: Global,

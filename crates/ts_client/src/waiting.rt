@@ -12,8 +12,8 @@ use std::time::{Duration, Instant};
 use ts_store::Command;
 use ts_wire::Frame;
 
-/// How many milliseconds pass before the first look at what became of a command. Each time it is
-/// twice as long, up to [`LONGEST`].
+/// How many milliseconds pass before the node is first asked for a command's outcome. Each time it
+/// is twice as long, up to [`LONGEST`].
 const FIRST: u64 = 10;
 
 /// The longest pause between two looks, in milliseconds.
@@ -31,8 +31,8 @@ fn left<R: Clock>(rt: &R, start: Instant, longest: Duration) -> Result<u64, Faul
     Ok(u64::try_from(left).unwrap_or(u64::MAX))
 }
 
-/// Submits a command, and waits for at most so long until the node knows it to be chosen. What the
-/// node said last.
+/// Submits a command, and waits for at most so long until the node knows it to be chosen. Gives the
+/// node's last answer.
 ///
 /// # Errors
 ///

@@ -11,10 +11,10 @@
 //!
 //! A part is three definitions and a law. The definitions: which octets a value has (`encode`),
 //! which values have octets (`Fits`), and how it is read at the front of others (a `Reader`: the
-//! value and the octets after it, or none). The law is `Part encode Fits read` (`proofs/Laws`):
-//! what is read is encoded so and fits, and what fits and is encoded so is read, whatever follows
-//! it. So no two values have one encoding (`one`), and a call that answers as its reader does
-//! promises `found` and `only`.
+//! value and the octets after it, or none). The law is `Part encode Fits read` (`proofs/Laws`): a
+//! value that is read fits, and its encoding is what was there; and a value that fits is read from
+//! its encoding, whatever follows that. So no two values have one encoding (`one`), and a call that
+//! answers as its reader does promises `found` and `only`.
 //!
 //! # A row
 //!
@@ -23,7 +23,7 @@
 //!
 //! - `part that holds`: a part whose value meets a test (`that_part`, `test_part`).
 //! - `part and others`: a part, and others after it (`and_part`).
-//! - `part then others`: the same where the part decides how the others are read (`then_part`).
+//! - `part then others`: a part, and others that are read by its value (`then_part`).
 //! - `parts into make`: the value that parts make up (`into_part`).
 //! - `by_kind rows`: an octet of the kind, and the fields of that kind, by a table (`case`,
 //!   `kind_part`); `of_kind` where the octet was read before, `code_at` where there are no fields.
@@ -43,7 +43,8 @@
 //! takes its steps from `proofs/Loops`. The octets of kinds are constants in the code, which the
 //! table names.
 //!
-//! - [`reading`]: the parts at the front of octets, lent; each gives what its reader gives.
+//! - [`reading`]: the parts at the front of octets, borrowed; each call gives what its reader
+//!   gives.
 //! - [`writing`]: the parts after other octets: their encoding.
 //!
 //! # Not promised

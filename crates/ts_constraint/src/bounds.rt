@@ -59,8 +59,8 @@ impl<'a> Bounds<'a> {
         Ok(Bounds { alloc, sources })
     }
 
-    /// Adds what a certificate asks of the names of those that follow it (RFC 5280 6.1.4 (g)).
-    /// Where memory runs out, the bounds stay as they were.
+    /// Adds the name constraints of a certificate, which bind the names of those that follow it
+    /// (RFC 5280 6.1.4 (g)). Where memory runs out, the bounds stay as they were.
     pub fn narrow(&mut self, cert: &Cert<'a>) -> Result<(), AllocError>
         ensures ok { OnOk result (self.new
             ≡ self.old ++ source_of (cert_in cert.now).tbsCertificate ∷ []) }

@@ -59,8 +59,8 @@ impl<'a> Directories<'a> {
         is_front(entries[end - 1].name, name.name)
     }
 
-    /// Whether a name lies in the subtree of one of these, which are compared with it one by one.
-    /// It takes no memory.
+    /// Whether a name lies in the subtree of one of these, which are compared with it one by one,
+    /// without an allocation.
     pub(crate) fn has_one_by_one(&self, name: Name<'_>) -> bool
         ensures { result ≡ has_directory self.now.entries.items (canon_name (rdns_in name.entry)) }
     {

@@ -15,7 +15,7 @@ use ts_name::General;
 /// mask has a bit.
 #[derive(Clone, Copy)]
 pub(crate) struct Masked {
-    /// The address of the range, without the bits that the mask doesn't have.
+    /// The address of the range, with each bit 0 that the mask doesn't have.
     pub(crate) base: u128,
     pub(crate) mask: u128,
 }

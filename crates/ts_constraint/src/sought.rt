@@ -20,6 +20,8 @@ pub(crate) enum Sought<'a> {
 }
 
 impl<'a> Sought<'a> {
+    /// A general name, prepared for look-ups. A distinguished name for which allocation fails stays
+    /// as it is.
     pub(crate) fn new(alloc: Global, name: General<'a>) -> Self
         ensures { name_in result ≡ general_in name.entry }
     {

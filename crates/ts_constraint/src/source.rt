@@ -49,7 +49,7 @@ impl<'a> Source<'a> {
         })
     }
 
-    /// What a certificate asks of the names of those that follow it.
+    /// The source that a certificate's name constraints are for the names of those that follow it.
     pub(crate) fn of(alloc: Global, cert: &Cert<'a>) -> Result<Self, AllocError>
         ensures { IfOk result (λ s. s ≡ source_of (cert_in cert.now).tbsCertificate) }
     {

@@ -33,7 +33,7 @@ use ts_ext::{
 use ts_field::{AlgorithmIdentifier, Stamp, Time};
 use ts_name::Name;
 
-/// The greatest number of octets that a list may have in this profile.
+/// The greatest number of octets that a CRL may have in this profile.
 pub const MAX_CRL: usize = 4_194_304;
 
 /// A CRL as it lies in the source (RFC 5280 5.1).
@@ -54,26 +54,26 @@ pub struct Crl<'a> {
 }
 
 impl<'a> Crl<'a> {
-    /// The list that octets are.
+    /// The CRL that octets are.
     ///
     /// # Errors
     ///
     /// The first rule that is broken, with its place: first more than 4,194,304 octets (`TooLarge`
     /// at 0); then the shape from front to back, a version other than 2 (`Version`) in its place;
-    /// then `AlgorithmMismatch`, at the algorithm identifier beside the signature; then, of a list
+    /// then `AlgorithmMismatch`, at the algorithm identifier beside the signature; then, of a CRL
     /// without a version, `ExtensionsInOldVersion` at the first element that holds extensions; then
     /// `DuplicateExtension` at the first extension that repeats one of its own list; then the first
     /// rule that a value breaks, extension after extension, whose place is 0 where it is not one of
     /// DER.
     ///
     /// Then the rules of this profile, which have no place: `NoNextUpdate`; `CriticalCrlExtension`,
-    /// for the first critical extension of the list, then of its entries, that is not read there;
+    /// for the first critical extension of the CRL, then of its entries, that is not read there;
     /// `Indirect`; `RelativeName`;
     /// `DeltaCrl`.
     pub fn read(octets: &'a [u8]) -> Result<Crl<'a>, CrlFault<'a>>
-        // What is read is encoded so.
+        // The octets encode the CRL that is given.
         ensures found { IfOk result (λ crl. IsCertificateList octets.now (crl_in crl)) }
-        // What is encoded so is read.
+        // A CRL that the octets encode is the one that is given.
         ensures only { (c : CertificateList) → IsCertificateList octets.now c
             → IsOkAnd result (λ crl. crl_in crl ≡ c) }
         ensures fault { option_map fault_in (refusal result) ≡ crl_fault octets.now }
@@ -104,21 +104,21 @@ impl<'a> Crl<'a> {
         self.version
     }
 
-    /// The issuer of the list (RFC 5280 5.1.2.3).
+    /// The issuer of the CRL (RFC 5280 5.1.2.3).
     pub fn issuer(self) -> Name<'a>
         ensures { rdns_in result ≡ (crl_in self.entry).tbsCertList.issuer }
     {
         self.issuer
     }
 
-    /// When the list was issued (RFC 5280 5.1.2.4).
+    /// When the CRL was issued (RFC 5280 5.1.2.4).
     pub fn this_update(self) -> Time
         ensures { result ≡ (crl_in self.entry).tbsCertList.thisUpdate }
     {
         self.this_update.time()
     }
 
-    /// By when the next list is issued (RFC 5280 5.1.2.5).
+    /// By when the next CRL is issued (RFC 5280 5.1.2.5).
     pub fn next_update(self) -> Option<Time>
         ensures { result ≡ (crl_in self.entry).tbsCertList.nextUpdate }
     {
@@ -128,7 +128,7 @@ impl<'a> Crl<'a> {
         }
     }
 
-    /// The certificates that are revoked; `None` where the list has no such field, which is not a
+    /// The certificates that are revoked; `None` where the CRL has no such field, which is not a
     /// field without entries (RFC 5280 5.1.2.6).
     pub fn revoked(self) -> Option<Revoked<'a>>
         ensures { option_map entries_in result
@@ -148,7 +148,7 @@ impl<'a> Crl<'a> {
         find_entry(self, serial)
     }
 
-    /// The extensions of the list, where it has any (RFC 5280 5.1.2.7).
+    /// The extensions of the CRL, where it has any (RFC 5280 5.1.2.7).
     pub fn extensions(self) -> Option<Extensions<'a>>
         ensures { option_map extensions_in result ≡ (crl_in self.entry).tbsCertList.crlExtensions }
     {
@@ -158,14 +158,14 @@ impl<'a> Crl<'a> {
         }
     }
 
-    /// What the list covers, where it says so (RFC 5280 5.2.5).
+    /// What the CRL covers, where it says so (RFC 5280 5.2.5).
     pub fn scope(self) -> Option<IssuingDistributionPoint<'a>>
         ensures { option_map issuing_point_in result ≡ scope_of (crl_in self.entry) }
     {
         scope(&self)
     }
 
-    /// The number of the list, where it has one (RFC 5280 5.2.3).
+    /// The number of the CRL, where it has one (RFC 5280 5.2.3).
     pub fn crl_number(self) -> Option<CrlNumber<'a>>
         ensures { option_map (λ n. n.octets.now) result ≡ number_of (crl_in self.entry) }
     {
@@ -175,7 +175,7 @@ impl<'a> Crl<'a> {
         }
     }
 
-    /// The number of the list that this one states the changes of, where it is a delta (RFC 5280
+    /// The number of the CRL that this one states the changes of, where it is a delta (RFC 5280
     /// 5.2.4).
     pub fn base_crl_number(self) -> Option<CrlNumber<'a>>
         ensures { option_map (λ n. n.octets.now) result ≡ base_of (crl_in self.entry) }
@@ -186,7 +186,7 @@ impl<'a> Crl<'a> {
         }
     }
 
-    /// The key that signed the list, where it says so (RFC 5280 5.2.1).
+    /// The key that signed the CRL, where it says so (RFC 5280 5.2.1).
     pub fn authority_key_identifier(self) -> Option<AuthorityKeyIdentifier<'a>>
         ensures { option_map authority_key_in result ≡ key_of (crl_in self.entry) }
     {
@@ -212,6 +212,7 @@ impl<'a> Crl<'a> {
     }
 }
 
+/// The first entry of a CRL that has this serial number.
 fn find_entry<'a>(crl: Crl<'a>, serial: Integer<'_>) -> Option<Entry<'a>>
     ensures { option_map entry_in result ≡ first_entry serial.entry.octets.now (crl_in crl.entry) }
 {
@@ -222,7 +223,7 @@ fn find_entry<'a>(crl: Crl<'a>, serial: Integer<'_>) -> Option<Entry<'a>>
     }
 }
 
-/// The first rule that a list of the right shape breaks.
+/// The first rule that a CRL of the right shape breaks.
 pub(crate) fn broken_rule<'a>(crl: &Crl<'a>) -> Option<CrlFault<'a>>
     ensures { option_map fault_in result ≡ list_fault (located_list_in crl.now) }
 {
@@ -232,6 +233,7 @@ pub(crate) fn broken_rule<'a>(crl: &Crl<'a>) -> Option<CrlFault<'a>>
     }
 }
 
+/// The CRL that octets are, or the first rule that they break: the rules of the shape come first.
 #[tactic(auto, unfolding(crate::specs::Table::crl_of))]
 fn read_crl<'a>(octets: &'a [u8]) -> Result<Crl<'a>, CrlFault<'a>>
     ensures { AnswersBy crl_in fault_in result (crl_of octets.now) }

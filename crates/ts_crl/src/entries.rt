@@ -1,4 +1,4 @@
-//! The entries of a list, one after another.
+//! The entries of a CRL, one after another.
 
 ghost use Rattle.std.specs.List.{find};
 ghost use Rattle.std.specs.Prelude.{◌≡◌, map, option_map};

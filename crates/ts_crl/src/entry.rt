@@ -1,4 +1,4 @@
-//! Entries of a list.
+//! Entries of a CRL.
 
 ghost use Rattle.std.specs.Prelude.{◌≡◌, option_map};
 ghost use Rattle.ts_der.specs.Answer.{Answers};
@@ -15,7 +15,7 @@ use ts_ext::{Ext, Extensions, Holder, InvalidityDate, Known, ReasonCode};
 use ts_field::{Stamp, Time, next_integer, next_time};
 use ts_shape::{FromElement, tagged_as};
 
-/// A certificate that a list says to be revoked, as it lies in the source (RFC 5280 5.1.2.6).
+/// A certificate that a CRL says to be revoked, as it lies in the source (RFC 5280 5.1.2.6).
 #[derive(Clone, Copy)]
 pub struct Entry<'a> {
     pub(crate) serial_number: Integer<'a>,

@@ -1,9 +1,9 @@
 //! Rules of extensions, whose places count.
 
-/// A rule that the extensions of a list and of its entries keep.
+/// A rule that the extensions of a CRL and of its entries keep.
 #[derive(Clone, Copy)]
 pub(crate) enum ExtensionRule {
-    /// A list of version 1 has none (RFC 5280 5.1.2.1).
+    /// A CRL of version 1 has none (RFC 5280 5.1.2.1).
     OldVersion,
     /// None occurs twice (RFC 5280 4.2).
     Repeated,

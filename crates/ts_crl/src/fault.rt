@@ -1,4 +1,4 @@
-//! Why octets are no list that can be used.
+//! Why octets are no CRL that can be used.
 
 ghost use Rattle.std.specs.Prelude.{◌≡◌, Some};
 ghost use Rattle.ts_crl.specs.Fault.{fault_in, fault_code, fault_text};
@@ -7,7 +7,7 @@ use std::error::Error;
 use std::fmt;
 use ts_shape::CertFault;
 
-/// The first rule that a list breaks. The last five are of this profile, and have no place.
+/// The first rule that a CRL breaks. The last five are of this profile, and have no place.
 #[derive(Clone, Copy, Debug, PartialEq, Eq)]
 pub enum CrlFault<'a> {
     /// A rule that has a place.
@@ -17,12 +17,12 @@ pub enum CrlFault<'a> {
     /// A critical extension is not processed, by the content octets of its object identifier (RFC
     /// 5280 5.2, 5.3).
     CriticalCrlExtension(&'a [u8]),
-    /// The list states what has changed since another one, and has no number (RFC 5280 5.2.3,
+    /// The CRL states what has changed since another one, and has no number (RFC 5280 5.2.3,
     /// 5.2.4).
     DeltaCrl,
-    /// The list, or an entry of it, is for certificates of other issuers (RFC 5280 5.2.5, 5.3.3).
+    /// The CRL, or an entry of it, is for certificates of other issuers (RFC 5280 5.2.5, 5.3.3).
     Indirect,
-    /// The list's name is relative to that of its issuer (RFC 5280 5.2.5).
+    /// The CRL's name is relative to that of its issuer (RFC 5280 5.2.5).
     RelativeName,
 }
 

@@ -1,4 +1,4 @@
-//! What the rules of a list ask of the extensions of its entries.
+//! What the rules of a CRL ask of the extensions of its entries.
 
 ghost use Rattle.std.specs.Prelude.{◌≡◌, ◌||◌, [], ◌∷◌};
 ghost use Rattle.std.specs.Option.{option_copied};
@@ -16,11 +16,11 @@ ghost use Rattle.ts_crl.specs.Values.{is_known};
 use ts_ext::{Extension, Holder, Known};
 use ts_shape::CertFault;
 
-/// What the rules of a list ask of the extensions of its entries (RFC 5280 4.2, 5.1.2.1, 5.3),
+/// What the rules of a CRL ask of the extensions of its entries (RFC 5280 4.2, 5.1.2.1, 5.3),
 /// found while these are read.
 #[derive(Clone, Copy)]
 pub(crate) struct Findings<'a> {
-    /// The first element that holds extensions, of which a list of version 1 has none.
+    /// The first element that holds extensions, of which a CRL of version 1 has none.
     pub old_version: Option<CertFault>,
     /// The first extension that repeats one of its own entry.
     pub repeated: Option<CertFault>,

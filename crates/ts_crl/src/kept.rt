@@ -1,4 +1,4 @@
-//! A list that was read before. The names, the entries and the extensions in it are not read again.
+//! A CRL that was read before. The names, the entries and the extensions in it are not read again.
 
 ghost use Rattle.std.specs.Prelude.{option_map, IsOk};
 ghost use Rattle.ts_der.specs.Answer.{Answers};
@@ -30,7 +30,7 @@ use ts_field::{Stamp, next_algorithm, next_bits, next_time, read_algorithm};
 use ts_name::Name;
 use ts_shape::{CertFault, tagged_as};
 
-/// The tag of a list's extensions, which are explicit (RFC 5280 5.1).
+/// The tag of a CRL's extensions, which are explicit (RFC 5280 5.1).
 const CRL_EXTENSIONS: u8 = 0xA0;
 
 /// A distinguished name.
@@ -78,7 +78,7 @@ fn alone_in<'a>(element: Element<'a>) -> Result<ExtensionList<'a>, Fault>
     Ok(ExtensionList { element })
 }
 
-/// The extensions of a list, where they are next.
+/// The extensions of a CRL, where they are next.
 #[tactic(auto, unfolding(ts_shape::specs::Fields::optional_of, ts_der::specs::Reading::optional_at, crate::specs::Reading::wrapped_extensions_of))]
 fn next_extensions_if_any<'a>(fields: &mut Reader<'a>) -> Result<Option<Placed<'a>>, Fault>
     requires { IsOk (optional_of 0xA0 wrapped_extensions_of fields.now) }
@@ -153,7 +153,7 @@ fn signed_in<'a>(element: Element<'a>, first: Option<CertFault>) -> Result<Crl<'
     })
 }
 
-/// The list that octets are.
+/// The CRL that octets are.
 #[tactic(auto, unfolding(crate::specs::Reading::whole_of))]
 pub(crate) fn list_in(octets: &[u8], first: Option<CertFault>) -> Result<Crl<'_>, CertFault>
     requires { WasRead first octets.now }

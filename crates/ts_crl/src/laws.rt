@@ -27,14 +27,14 @@ pub fn one_list()
         → IsCertificateList octets d → c ≡ d }
 {}
 
-/// No two lists of octets are the fields of one list: what is signed can't be written in a second
+/// No two lists of octets are the fields of one CRL: what is signed can't be written in a second
 /// way.
 pub fn one_signed_content()
     ensures { (content other : List ℕ) (fields : TbsCertList) → IsTbsCertList content fields
         → IsTbsCertList other fields → content ≡ other }
 {}
 
-/// What a list and each of its entries say by an extension: nothing where it does not stand, else
+/// What a CRL and each of its entries say by an extension: nothing where it does not stand, else
 /// the one value that its octets encode. No reader of a field passes over a fault.
 pub fn no_missing_value()
     ensures scope { (octets : List ℕ) (c : CertificateList) → IsCertificateList octets c

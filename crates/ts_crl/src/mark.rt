@@ -9,7 +9,7 @@ use ts_der::tag::INTEGER;
 use ts_der::{Element, Fault};
 use ts_shape::FromElement;
 
-/// An entry of a list that was read before, of which no more is read again than its serial number.
+/// An entry of a CRL that was read before, of which no more is read again than its serial number.
 #[derive(Clone, Copy)]
 pub(crate) struct Mark<'a> {
     /// The content octets of the serial number.
@@ -34,6 +34,8 @@ impl<'a> FromElement<'a> for Mark<'a> {
     }
 }
 
+/// The serial number of the entry that an element is. It is refused where its content does not
+/// begin with an INTEGER; what follows that is not read.
 #[tactic(auto, unfolding(crate::specs::Marks::mark_of))]
 fn read_mark<'a>(element: Element<'a>) -> Result<Mark<'a>, Fault>
     ensures { Answers mark_as result (mark_of (now element.entry)) }

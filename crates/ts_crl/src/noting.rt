@@ -1,4 +1,4 @@
-//! Entries that are read once for their shape and for what the rules of a list ask of their
+//! Entries that are read once for their shape and for what the rules of a CRL ask of their
 //! extensions.
 
 ghost use Rattle.std.specs.Prelude.{◌≡◌, [], ◌∷◌, length};
@@ -71,7 +71,8 @@ fn or_fault(found: Option<CertFault>, rule: ExtensionRule, placed: Placed<'_>) -
     }
 }
 
-/// The same for extensions that are counted: one alone repeats none.
+/// A fault that was found before, else the first place at which an extension of an entry repeats
+/// one before it. The extensions are counted: one alone repeats none.
 fn or_repeat(found: Option<CertFault>, placed: Placed<'_>, count: usize) -> Option<CertFault>
     requires { count ≡ length (listed_in placed.list) }
     ensures { result ≡ (found or_else rule_fault_of Repeated EntryHolder (placed_in placed.entry)) }
@@ -100,7 +101,7 @@ fn note_placed<'a>(element: Element<'a>, findings: &mut Findings<'a>) -> Result<
     Ok(())
 }
 
-/// The same for extensions that may be next.
+/// Reads the extensions of an entry if they are next, and adds what is found in them.
 #[tactic(auto, unfolding(ts_shape::specs::Fields::optional_of, ts_der::specs::Reading::optional_at))]
 fn note_extensions_if_any<'a>(
     fields: &mut Reader<'a>,

@@ -1,4 +1,4 @@
-//! The numbers of lists.
+//! The numbers of CRLs.
 
 ghost use Rattle.std.specs.Prelude.{◌≡◌, int_lt, true, false};
 ghost use Rattle.ts_der.specs.Integer.{is_shortest, is_negative, twos_complement};
@@ -21,7 +21,7 @@ fn is_less(number: &[u8], other: &[u8]) -> bool
     }
 }
 
-/// Whether the number of a list is less than that of another.
+/// Whether the number of a CRL is less than that of another.
 pub fn is_lower_number(number: CrlNumber<'_>, other: CrlNumber<'_>) -> bool
     ensures { result ≡ int_lt (twos_complement number.entry.octets.now)
         (twos_complement other.entry.octets.now) }

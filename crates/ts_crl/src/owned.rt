@@ -1,4 +1,4 @@
-//! A list that is kept.
+//! A CRL that is kept.
 
 ghost use Rattle.std.specs.Prelude.{◌≡◌, ◌⊎◌, ℕ, List, Some, None, Ok, Err, option_map, IfErr};
 ghost use Rattle.std.specs.Prelude.{IsErrAnd};
@@ -25,12 +25,12 @@ use ts_digest::{Digest, Message, likely_hash};
 use ts_octets::Octets;
 use ts_shape::CertFault;
 
-/// Why a list is not kept.
+/// Why a CRL is not kept.
 #[derive(Clone, Copy, Debug, PartialEq, Eq)]
 pub enum OwnedCrlFault<'a> {
     /// Memory ran out.
     Memory,
-    /// The octets are no list that can be used: the first rule that they break.
+    /// The octets are no CRL that can be used: the first rule that they break.
     Unreadable(CrlFault<'a>),
 }
 
@@ -57,7 +57,7 @@ impl<'a> From<AllocError> for OwnedCrlFault<'a> {
 }
 
 /// A CRL with memory of its own. A contract sees it as its octets, which
-/// are a list.
+/// are a CRL.
 #[derive(Debug, Drop)]
 pub struct OwnedCrl {
     octets: Octets,
@@ -81,7 +81,7 @@ impl Model for OwnedCrl {
         × IsDigestOf crl.digest (list_of crl.octets).tbs };
 }
 
-/// Where the first extensions of the entries of a list are.
+/// Where the first extensions of the entries of a CRL are.
 fn first_extensions<'a>(crl: &Crl<'a>) -> Option<CertFault>
     ensures { result ≡ first_place (option_map revoked_in crl.now.revoked) }
 {
@@ -91,14 +91,14 @@ fn first_extensions<'a>(crl: &Crl<'a>) -> Option<CertFault>
     }
 }
 
-/// What has to be known of octets that are a list, to lend it again.
+/// What has to be known of octets that are a CRL so that `view` need not read it again.
 #[derive(Drop)]
 struct Checked {
     first: Option<CertFault>,
     digest: Digest,
 }
 
-/// The hash of what is signed of a list, by the function that its signature is likely to use.
+/// The hash of what is signed of a CRL, by the function that its signature is likely to use.
 fn digest_of(crl: &Crl<'_>) -> Digest
     ensures { IsDigestOf result (crl_in crl.now).tbs }
 {
@@ -108,7 +108,7 @@ fn digest_of(crl: &Crl<'_>) -> Digest
     )
 }
 
-/// What has to be known of octets that are a list, to lend it again.
+/// Checks octets, and gives what has to be known of a CRL so that `view` need not read it again.
 #[tactic(auto, unfolding(crate::specs::Table::crl_of))]
 fn check<'a>(octets: &'a [u8]) -> Result<Checked, CrlFault<'a>>
     ensures { Checks octets.now result }
@@ -123,14 +123,15 @@ fn check<'a>(octets: &'a [u8]) -> Result<Checked, CrlFault<'a>>
     }
 }
 
-/// What has to be known of shared octets that are a list, to lend it again.
+/// Checks shared octets, and gives what has to be known of a CRL so that `view` need not read it
+/// again.
 fn check_shared(octets: &Octets) -> Result<Checked, CrlFault<'_>>
     ensures { Checks octets.now result }
 {
     check(octets.as_slice())
 }
 
-/// A list that is lent with the hash of what is signed of it.
+/// A borrowed CRL, with the hash of the octets that are signed in it.
 fn with_digest<'a>(crl: Crl<'a>, digest: &'a Digest) -> Crl<'a>
     requires { IsDigestOf digest.now (crl_in crl).tbs }
     ensures { located_list_in result ≡ located_list_in crl.entry }
@@ -151,7 +152,7 @@ fn with_digest<'a>(crl: Crl<'a>, digest: &'a Digest) -> Crl<'a>
 }
 
 impl OwnedCrl {
-    /// A copy of octets that are a list.
+    /// A copy of octets that are a CRL.
     ///
     /// # Errors
     ///
@@ -200,7 +201,8 @@ impl OwnedCrl {
         })
     }
 
-    /// The list, lent. Its names, its entries and its extensions are not read again.
+    /// The CRL, borrowed from these octets. Its names, its entries and its extensions are not read
+    /// again.
     pub fn view(&self) -> Crl<'_>
         ensures found { IsCertificateList self.now (crl_in result) }
         ensures exact { crl_of self.now ≡ Ok (crl_in result) }
@@ -212,7 +214,7 @@ impl OwnedCrl {
         }
     }
 
-    /// The octets of the list.
+    /// The octets of the CRL.
     pub fn octets(&self) -> &[u8]
         ensures { result.now ≡ self.now }
     {

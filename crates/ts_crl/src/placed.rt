@@ -1,4 +1,4 @@
-//! Extensions of a list or of an entry, with their place.
+//! Extensions of a CRL or of an entry, with their place.
 
 ghost use Rattle.std.specs.Prelude.{option_map};
 ghost use Rattle.ts_der.specs.Answer.{Answers};
@@ -15,13 +15,13 @@ use ts_der::tag::SEQUENCE;
 use ts_der::{Element, Fault, Reader};
 use ts_shape::tagged_as;
 
-/// The tag of a list's extensions, which are explicit (RFC 5280 5.1).
+/// The tag of a CRL's extensions, which are explicit (RFC 5280 5.1).
 const CRL_EXTENSIONS: u8 = 0xA0;
 
-/// The extensions of a list or of an entry (RFC 5280 5.1.2.7, 5.3).
+/// The extensions of a CRL or of an entry (RFC 5280 5.1.2.7, 5.3).
 #[derive(Clone, Copy)]
 pub(crate) struct Placed<'a> {
-    /// The offset of the element that holds them: of a list the explicit tag, of an entry the
+    /// The offset of the element that holds them: of a CRL the explicit tag, of an entry the
     /// SEQUENCE.
     pub at: usize,
     /// The extensions.
@@ -76,7 +76,7 @@ pub(crate) fn next_extensions_if_any<'a>(
     }
 }
 
-/// The extensions of a list, where they are next.
+/// The extensions of a CRL, where they are next.
 #[tactic(auto, unfolding(ts_shape::specs::Fields::optional_of, ts_der::specs::Reading::optional_at))]
 pub(crate) fn next_wrapped_if_any<'a>(fields: &mut Reader<'a>) -> Result<Option<Placed<'a>>, Fault>
     ensures { Takes (option_map placed_in) fields.new result

@@ -39,7 +39,8 @@ fn unprocessed_in<'a>(holder: Holder, list: ExtensionList<'a>) -> Option<&'a [u8
     None
 }
 
-/// The same where there may be no extensions.
+/// The object identifier of the first critical extension that is not processed, where there may be
+/// no extensions.
 fn unprocessed_if_any<'a>(holder: Holder, placed: Option<Placed<'a>>) -> Option<&'a [u8]>
     ensures { option_copied result
         ≡ unprocessed_in_list holder (unwrap_or
@@ -48,7 +49,8 @@ fn unprocessed_if_any<'a>(holder: Holder, placed: Option<Placed<'a>>) -> Option<
     unprocessed_in(holder, placed?.list)
 }
 
-/// The same for entries, where there may be no list of them: it was found when they were read.
+/// The object identifier of the first critical extension of entries that is not processed, where
+/// there may be no list of entries. It was found when they were read.
 fn unprocessed_of_entries_if_any<'a>(revoked: Option<Revoked<'a>>) -> Option<&'a [u8]>
     ensures { option_copied result
         ≡ unprocessed_of (unwrap_or (option_map (map unlocated_entry)
@@ -57,7 +59,7 @@ fn unprocessed_of_entries_if_any<'a>(revoked: Option<Revoked<'a>>) -> Option<&'a
     revoked?.findings.unprocessed
 }
 
-/// The object identifier of the first critical extension of a list, then of its entries, that is
+/// The object identifier of the first critical extension of a CRL, then of its entries, that is
 /// not processed.
 fn unprocessed<'a>(crl: &Crl<'a>) -> Option<&'a [u8]>
     ensures { option_copied result ≡ unprocessed_of_list (crl_in crl.now) }
@@ -80,7 +82,7 @@ fn has_issuer_if_any(revoked: Option<Revoked<'_>>) -> bool
     }
 }
 
-/// What a list covers, where it says so.
+/// What a CRL covers, where it says so.
 pub(crate) fn scope<'a>(crl: &Crl<'a>) -> Option<IssuingDistributionPoint<'a>>
     ensures { option_map issuing_point_in result ≡ scope_of (crl_in crl.now) }
 {
@@ -94,7 +96,7 @@ pub(crate) fn scope<'a>(crl: &Crl<'a>) -> Option<IssuingDistributionPoint<'a>>
     }
 }
 
-/// Whether a list, or an entry of it, is for certificates of other issuers.
+/// Whether a CRL, or an entry of it, is for certificates of other issuers.
 fn is_indirect(crl: &Crl<'_>) -> bool
     ensures { result ≡ is_indirect_list (crl_in crl.now) }
 {
@@ -105,7 +107,7 @@ fn is_indirect(crl: &Crl<'_>) -> bool
     stated || has_issuer_if_any(crl.revoked)
 }
 
-/// Whether the name of a list is relative to that of its issuer.
+/// Whether the name of a CRL is relative to that of its issuer.
 fn is_relative(crl: &Crl<'_>) -> bool
     ensures { result ≡ is_relative_list (crl_in crl.now) }
 {
@@ -115,21 +117,21 @@ fn is_relative(crl: &Crl<'_>) -> bool
     }
 }
 
-/// Whether a list states what has changed since another one (RFC 5280 5.2.4).
+/// Whether a CRL states what has changed since another one (RFC 5280 5.2.4).
 pub(crate) fn is_delta(crl: &Crl<'_>) -> bool
     ensures { result ≡ is_delta_list (crl_in crl.now) }
 {
     is_among(Known::DeltaCrlIndicator, crl.extensions)
 }
 
-/// Whether a list has a number (RFC 5280 5.2.3).
+/// Whether a CRL has a number (RFC 5280 5.2.3).
 fn has_number(crl: &Crl<'_>) -> bool
     ensures { result ≡ has_number_of_list (crl_in crl.now) }
 {
     is_among(Known::CrlNumber, crl.extensions)
 }
 
-/// The first rule of this profile that a list breaks.
+/// The first rule of this profile that a CRL breaks.
 pub(crate) fn profile_fault<'a>(crl: &Crl<'a>) -> Option<CrlFault<'a>>
     ensures { option_map fault_in result ≡ profile_fault_of (crl_in crl.now) }
 {

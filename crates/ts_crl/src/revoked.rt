@@ -1,4 +1,4 @@
-//! The entries of a list.
+//! The entries of a CRL.
 
 ghost use Rattle.std.specs.Prelude.{◌≡◌, None};
 ghost use Rattle.ts_der.specs.Answer.{refusal};
@@ -12,14 +12,14 @@ ghost use Rattle.ts_crl.specs.Reading.{entry_in, revoked_of};
 use crate::findings::Findings;
 use ts_der::Element;
 
-/// The certificates that a list says to be revoked, of which there may be none (RFC 5280 5.1.2.6).
+/// The certificates that a CRL says to be revoked, of which there may be none (RFC 5280 5.1.2.6).
 #[derive(Clone, Copy)]
 pub struct Revoked<'a> {
     pub(crate) element: Element<'a>,
-    /// What the rules of a list ask of the extensions of the entries.
+    /// What the rules of a CRL ask of the extensions of the entries.
     pub(crate) findings: Findings<'a>,
     // The entries were read.
     ghost read: { refusal (revoked_of (now element)) ≡ None },
-    // What was found is found in these.
+    // The findings are those of these entries.
     ghost found: { findings_in findings ≡ findings_of (items_at entry_in (inside (now element))) },
 }

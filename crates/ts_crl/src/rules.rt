@@ -1,4 +1,4 @@
-//! Rules of a list and of its extensions that have a place.
+//! Rules of a CRL and of its extensions that have a place.
 
 ghost use Rattle.std.specs.Prelude.{◌≡◌, [], map, unwrap_or, option_map};
 ghost use Rattle.ts_ext.specs.declared.known.Holder.TheVariants.{List as ListHolder};
@@ -25,7 +25,7 @@ use ts_ext::{Extension, Holder, Known};
 use ts_shape::{CertFault, CertRule, first_repeated};
 
 /// An extension under the object identifier of the one whose rules its value keeps: a base number
-/// keeps those of the number of a list (RFC 5280 5.2.4).
+/// keeps those of the number of a CRL (RFC 5280 5.2.4).
 fn as_ruled<'a>(extension: Extension<'a>) -> Extension<'a>
     ensures { located_as result ≡ located_as_ruled (located_as extension.entry) }
 {
@@ -37,7 +37,7 @@ fn as_ruled<'a>(extension: Extension<'a>) -> Extension<'a>
     }
 }
 
-/// The first rule that the values of the extensions of a list break.
+/// The first rule that the values of the extensions of a CRL break.
 fn list_values_fault(list: ExtensionList<'_>) -> Option<CertFault>
     ensures { result ≡ values_fault_of ListHolder (map located_as_ruled (listed_in list.entry)) }
 {
@@ -83,6 +83,7 @@ pub(crate) fn rule_fault<'a>(
     }
 }
 
+/// The first place at which extensions break a rule; none where they are absent.
 fn fault_if_any(
     rule: ExtensionRule,
     holder: Holder,
@@ -105,14 +106,15 @@ fn entries_fault(rule: ExtensionRule, revoked: Revoked<'_>) -> Option<CertFault>
     }
 }
 
-/// The same where there may be no list of entries.
+/// The first place at which the extensions of entries break a rule, where there may be no list of
+/// entries.
 fn entries_fault_if_any(rule: ExtensionRule, revoked: Option<Revoked<'_>>) -> Option<CertFault>
     ensures { result ≡ entries_fault_of rule (unwrap_or (option_map revoked_in revoked.entry) []) }
 {
     entries_fault(rule, revoked?)
 }
 
-/// The first place at which the extensions of entries, and then those of the list, break a rule.
+/// The first place at which the extensions of entries, and then those of the CRL, break a rule.
 fn fault_by_place(rule: ExtensionRule, crl: &Crl<'_>) -> Option<CertFault>
     ensures { result ≡ fault_by_place_of rule (located_list_in crl.now) }
 {
@@ -122,6 +124,7 @@ fn fault_by_place(rule: ExtensionRule, crl: &Crl<'_>) -> Option<CertFault>
     }
 }
 
+/// The first place at which a CRL of version 1 has extensions, which that version does not allow.
 fn version_fault(crl: &Crl<'_>) -> Option<CertFault>
     ensures { result ≡ version_fault_of crl.now.version (located_list_in crl.now) }
 {
@@ -131,6 +134,8 @@ fn version_fault(crl: &Crl<'_>) -> Option<CertFault>
     }
 }
 
+/// The fault of a CRL whose two algorithm identifiers differ (RFC 5280 5.1.1.2), at the one beside
+/// the signature.
 fn algorithms_fault(crl: &Crl<'_>) -> Option<CertFault>
     ensures { result ≡ algorithms_fault_of (located_list_in crl.now) }
 {
@@ -143,7 +148,7 @@ fn algorithms_fault(crl: &Crl<'_>) -> Option<CertFault>
     None
 }
 
-/// The first of these rules that a list breaks.
+/// The first of these rules that a CRL breaks.
 pub(crate) fn placed_fault(crl: &Crl<'_>) -> Option<CertFault>
     ensures { result ≡ placed_fault_of (located_list_in crl.now) }
 {

@@ -1,4 +1,4 @@
-//! The shape of a list: what is signed, the algorithm, the signature.
+//! The shape of a CRL: what is signed, the algorithm, the signature.
 
 ghost use Rattle.ts_der.specs.Answer.{Answers};
 ghost use Rattle.ts_der.specs.View.{now};
@@ -40,7 +40,7 @@ fn read_signed<'a>(element: Element<'a>) -> Result<Crl<'a>, CertFault>
     })
 }
 
-/// The list that octets are, with nothing after it.
+/// The CRL that octets are, with nothing after it.
 #[tactic(auto, unfolding(crate::specs::Reading::whole_of))]
 fn read_whole(octets: &[u8]) -> Result<Crl<'_>, CertFault>
     ensures { Answers located_list_in result (whole_of octets.now) }
@@ -51,7 +51,7 @@ fn read_whole(octets: &[u8]) -> Result<Crl<'_>, CertFault>
     Ok(crl)
 }
 
-/// The same, of octets that are not too many.
+/// The CRL that octets are, of at most `MAX_CRL` octets and with nothing after it.
 #[tactic(auto, unfolding(crate::specs::Reading::shape_of))]
 pub(crate) fn read_shape(octets: &[u8]) -> Result<Crl<'_>, CertFault>
     ensures { Answers located_list_in result (shape_of octets.now) }

@@ -1,4 +1,4 @@
-//! Slots: lists of one issuer, one scope and one authority key.
+//! Slots: CRLs of one issuer, one scope and one authority key.
 
 ghost use Rattle.std.specs.List.{find};
 ghost use Rattle.std.specs.Prelude.{◌≡◌, option_map, IfOk};
@@ -63,7 +63,7 @@ fn octets_among<'a>(known: Known, extensions: Extensions<'a>) -> Option<&'a [u8]
     }
 }
 
-/// The octets of an extension's value in a list.
+/// The octets of an extension's value in a CRL.
 fn value_octets<'a>(known: Known, crl: &Crl<'a>) -> Option<&'a [u8]>
     ensures { option_map (λ o. o.now) result ≡ octets_of known (crl_in crl.now) }
 {
@@ -85,7 +85,7 @@ fn is_same_value(value: Option<&[u8]>, other: Option<&[u8]>) -> bool
     }
 }
 
-/// Whether two lists have the same issuing distribution point, and the same authority key
+/// Whether two CRLs have the same issuing distribution point, and the same authority key
 /// identifier.
 fn have_same_values(crl: &Crl<'_>, other: &Crl<'_>) -> bool
     ensures { result ≡ have_same_values_of (crl_in crl.now) (crl_in other.now) }
@@ -99,6 +99,8 @@ fn have_same_values(crl: &Crl<'_>, other: &Crl<'_>) -> bool
     )
 }
 
+/// Whether two CRLs are of one slot: issuer, issuing distribution point and authority key
+/// identifier are the same. They are compared without an allocation.
 #[tactic(auto, unfolding(crate::specs::Slots::is_same_slot))]
 fn are_of_one_slot(crl: &Crl<'_>, other: &Crl<'_>) -> bool
     ensures { result ≡ are_one_slot (crl_in crl.now) (crl_in other.now) }
@@ -106,6 +108,8 @@ fn are_of_one_slot(crl: &Crl<'_>, other: &Crl<'_>) -> bool
     is_same(crl.issuer(), other.issuer()) && have_same_values(crl, other)
 }
 
+/// Whether two CRLs are of one slot, as `are_of_one_slot` answers, where memory may be used to
+/// compare the issuers.
 #[tactic(auto, unfolding(crate::specs::Slots::is_same_slot))]
 fn are_of_one_slot_in(alloc: Global, crl: &Crl<'_>, other: &Crl<'_>) -> Result<bool, AllocError>
     ensures { IfOk result (λ same. same ≡ are_one_slot (crl_in crl.now) (crl_in other.now)) }
@@ -115,7 +119,7 @@ fn are_of_one_slot_in(alloc: Global, crl: &Crl<'_>, other: &Crl<'_>) -> Result<b
 }
 
 impl<'a> Crl<'a> {
-    /// Whether two lists are of one slot: their issuers are the same, and so are the octets of
+    /// Whether two CRLs are of one slot: their issuers are the same, and so are the octets of
     /// their issuing distribution points and of their authority key identifiers, or both have none
     /// (RFC 5280 6.3.3 (c)).
     pub fn is_same_slot(self, other: Crl<'_>) -> bool
@@ -124,8 +128,8 @@ impl<'a> Crl<'a> {
         are_of_one_slot(&self, &other)
     }
 
-    /// The same, in time that grows with the lists' octets and not with the product of their
-    /// numbers of attributes.
+    /// Whether two CRLs are of one slot, as `is_same_slot` answers, in time that grows with the
+    /// CRLs' octets and not with the product of their numbers of attributes.
     ///
     /// # Errors
     ///
@@ -137,7 +141,7 @@ impl<'a> Crl<'a> {
         are_of_one_slot_in(alloc, &self, &other)
     }
 
-    /// Whether the list states what has changed since another one (RFC 5280 5.2.4).
+    /// Whether the CRL states what has changed since another one (RFC 5280 5.2.4).
     pub fn is_delta(self) -> bool
         ensures { result ≡ is_delta_list (crl_in self.entry) }
     {

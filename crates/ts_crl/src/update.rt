@@ -1,4 +1,4 @@
-//! When the next list is issued.
+//! When the next CRL is issued.
 
 ghost use Rattle.ts_shape.specs.Fields.{optional_of};
 ghost use Rattle.ts_shape.specs.Steps.{Takes};

@@ -48,7 +48,7 @@ fn value_in<'a>(holder: Holder, known: Known, list: ExtensionList<'a>) -> Option
     value_of(holder, find_in(known, list)?)
 }
 
-/// The same where there may be no extensions.
+/// The value of the first extension that is this one, where there may be no extensions.
 pub(crate) fn value_if_any<'a>(
     holder: Holder,
     known: Known,
@@ -74,7 +74,7 @@ pub(crate) fn with_number<'a>(extension: Extension<'a>) -> Extension<'a>
     }
 }
 
-/// The value of the first deltaCRLIndicator of a list, as that of cRLNumber.
+/// The value of the first deltaCRLIndicator of a CRL, as that of cRLNumber.
 fn base_in<'a>(list: ExtensionList<'a>) -> Option<Ext<'a>>
     ensures { option_map ext_in result
         ≡ value_of_if_any ListHolder (option_map said_with_number
@@ -86,7 +86,8 @@ fn base_in<'a>(list: ExtensionList<'a>) -> Option<Ext<'a>>
     )
 }
 
-/// The same where there may be no extensions.
+/// The value of the first deltaCRLIndicator of a CRL, as that of cRLNumber, where there may be no
+/// extensions.
 pub(crate) fn base_if_any<'a>(placed: Option<Placed<'a>>) -> Option<Ext<'a>>
     ensures { option_map ext_in result
         ≡ value_of_if_any ListHolder (option_map said_with_number
@@ -103,7 +104,7 @@ fn is_in(known: Known, list: ExtensionList<'_>) -> bool
     find_in(known, list).is_some()
 }
 
-/// The same where there may be no extensions.
+/// Whether some extension is this one, where there may be no extensions.
 pub(crate) fn is_among(known: Known, placed: Option<Placed<'_>>) -> bool
     ensures { result ≡ list_any (is_known known)
         (unwrap_or (option_map unlocated_extensions (option_map placed_in placed.entry)) []) }

@@ -1,4 +1,4 @@
-//! The version of a list.
+//! The version of a CRL.
 
 ghost use Rattle.ts_der.specs.Answer.{Answers};
 ghost use Rattle.ts_der.specs.View.{now};
@@ -9,7 +9,7 @@ use ts_der::tag::INTEGER;
 use ts_der::{Element, Reader};
 use ts_shape::{CertFault, CertRule};
 
-/// The version of a list (RFC 5280 5.1.2.1).
+/// The version of a CRL (RFC 5280 5.1.2.1).
 #[derive(Clone, Copy, Debug, PartialEq, Eq)]
 pub enum ListVersion {
     /// Version 1, which is not written.

@@ -16,6 +16,7 @@ pub enum Torn {
     Byte(u8),
 }
 
+/// Writes octets at an offset. An offset behind the end changes nothing.
 fn write_within(image: &mut Vec<u8>, at: usize, octets: &[u8]) -> Result<(), AllocError>
     ensures { OnOk result (image.new.items ≡ written_within image.old.items at octets.now) }
 {
@@ -25,6 +26,8 @@ fn write_within(image: &mut Vec<u8>, at: usize, octets: &[u8]) -> Result<(), All
     overwrite(image, at, octets)
 }
 
+/// Changes what a crash leaves by a write that no sync followed: not at all, by the octets written,
+/// or by one octet instead of each of them.
 fn tear(
     alloc: Global,
     torn: Torn,
@@ -44,6 +47,8 @@ fn tear(
     }
 }
 
+/// Makes a call's change to what a read gives and to what a crash leaves. A sync makes the two
+/// alike.
 fn step(
     alloc: Global,
     torn: Torn,

@@ -8,7 +8,7 @@ use std::alloc::{AllocError, AllocFailed};
 /// What a call of a disk answers in place of a value.
 #[derive(Clone, Copy, Debug, PartialEq, Eq)]
 pub enum DiskFault {
-    /// A growth was refused before the device was asked.
+    /// An allocation was refused before the device was asked.
     Memory,
     /// The device failed, and counted it.
     Failed,

@@ -15,7 +15,7 @@ use std::alloc::{AllocError, Global};
 
 const MAX_LEN: usize = (1 << 63) - 1;
 
-/// A disk in memory. A growth that it is refused is a failure of the device.
+/// A disk in memory. An allocation that it is refused is a failure of the device.
 #[derive(Drop)]
 pub struct MemDisk {
     alloc: Global,

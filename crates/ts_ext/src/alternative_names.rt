@@ -51,6 +51,7 @@ impl<'a> AlternativeNames<'a> {
     }
 }
 
+/// The GeneralNames that an element's content is, or the first rule that it breaks.
 fn read_alternative_names<'a>(element: Element<'a>) -> Result<AlternativeNames<'a>, Fault>
     ensures { Answers alternatives_in result (general_names_of (now element.entry)) }
 {

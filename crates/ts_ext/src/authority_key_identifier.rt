@@ -78,6 +78,8 @@ impl<'a> AuthorityKeyIdentifier<'a> {
     }
 }
 
+/// The AuthorityKeyIdentifier (RFC 5280 4.2.1.1) that an element's content is, or the first rule
+/// that it breaks.
 #[tactic(auto, unfolding(crate::specs::AuthorityKey::authority_key_of))]
 fn read_authority_key<'a>(element: Element<'a>) -> Result<AuthorityKeyIdentifier<'a>, Fault>
     ensures { Answers authority_key_in result (authority_key_of (now element.entry)) }

@@ -45,6 +45,8 @@ impl BasicConstraints {
         BasicConstraints::of_element(element)
     }
 
+    /// The BasicConstraints (RFC 5280 4.2.1.9) that an element's content is, or the first rule that
+    /// it breaks.
     #[tactic(auto, unfolding(crate::specs::Reading::basic_constraints_of))]
     fn of_element(element: Element<'_>) -> Result<BasicConstraints, Fault>
         ensures { Answers (λ b. b) result (basic_constraints_of (now element.entry)) }

@@ -53,6 +53,8 @@ impl<'a> CertificatePolicies<'a> {
     }
 }
 
+/// The certificatePolicies (RFC 5280 4.2.1.4) that an element's content is, or the first rule that
+/// it breaks.
 fn read_certificate_policies<'a>(element: Element<'a>) -> Result<CertificatePolicies<'a>, Fault>
     ensures { Answers policies_in result (certificate_policies_of (now element.entry)) }
 {

@@ -62,6 +62,8 @@ impl<'a> CheckedExtensions<'a> {
     }
 }
 
+/// The extensions in the one SEQUENCE that an explicit tag holds, with the first rule that they
+/// break in a holder. It is refused where the shape is wrong or something follows the SEQUENCE.
 #[tactic(auto, unfolding(ts_shape::specs::Items::alone, ts_shape::specs::Items::each, ts_shape::specs::Items::of_tag))]
 #[inline(always)]
 fn judge_explicit<'a>(element: Element<'a>, holder: Holder) -> Result<CheckedExtensions<'a>, Fault>
@@ -92,7 +94,7 @@ fn judge<'a>(element: Element<'a>, holder: Holder) -> Result<CheckedExtensions<'
     }
 }
 
-/// The same for any list.
+/// The list that a SEQUENCE's content is, and the first rule that it breaks, without the fast path.
 #[inline(always)]
 pub(crate) fn judge_each<'a>(
     element: Element<'a>,

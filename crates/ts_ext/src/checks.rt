@@ -41,7 +41,7 @@ fn check_content(known: Known, element: Element<'_>) -> Result<Option<CertRule>,
     }
 }
 
-/// The same for the one value within an OCTET STRING.
+/// The rule beside those of DER that the one value within an OCTET STRING breaks.
 #[tactic(auto, unfolding(ts_shape::specs::Items::alone, ts_shape::specs::Items::each, ts_shape::specs::Items::of_tag))]
 #[inline(always)]
 fn check_alone(known: Known, octets: Element<'_>) -> Result<Option<CertRule>, Fault>
@@ -53,7 +53,8 @@ fn check_alone(known: Known, octets: Element<'_>) -> Result<Option<CertRule>, Fa
     Ok(rule)
 }
 
-/// The same for an extension that is read there, if it is one.
+/// The rule beside those of DER that the value of an extension breaks, if it is one that is read in
+/// its holder.
 #[tactic(auto, unfolding(crate::specs::Ext::ext_of))]
 #[inline(always)]
 fn check(known: Option<Known>, octets: Element<'_>) -> Result<Option<CertRule>, Fault>

@@ -67,6 +67,7 @@ impl<'a> BaseCrlNumber<'a> {
     }
 }
 
+/// The cRLNumber (RFC 5280 5.2.3) that an element's content is. A negative number is refused.
 #[tactic(auto, unfolding(crate::specs::Reading::crl_number_of))]
 fn read_crl_number<'a>(element: Element<'a>) -> Result<CrlNumber<'a>, Fault>
     ensures { Answers (λ n. n.octets.now) result (crl_number_of (now element.entry)) }
@@ -83,6 +84,7 @@ fn read_crl_number<'a>(element: Element<'a>) -> Result<CrlNumber<'a>, Fault>
     })
 }
 
+/// The BaseCRLNumber (RFC 5280 5.2.4) that an element's content is.
 #[tactic(auto, unfolding(crate::specs::Reading::base_crl_number_of))]
 fn read_base_crl_number<'a>(element: Element<'a>) -> Result<BaseCrlNumber<'a>, Fault>
     ensures { Answers (λ n. n.octets.now) result (base_crl_number_of (now element.entry)) }

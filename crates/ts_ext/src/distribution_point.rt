@@ -108,6 +108,8 @@ impl<'a> DistributionPoint<'a> {
     }
 }
 
+/// The DistributionPoint (RFC 5280 4.2.1.13) that an element's content is, or the first rule that
+/// it breaks.
 #[tactic(auto, unfolding(crate::specs::Points::point_of))]
 fn read_point<'a>(element: Element<'a>) -> Result<DistributionPoint<'a>, Fault>
     ensures { Answers point_in result (point_of (now element.entry)) }

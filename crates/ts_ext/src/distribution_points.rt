@@ -49,6 +49,7 @@ impl<'a> DistributionPoints<'a> {
     }
 }
 
+/// The CRLDistributionPoints that an element's content is, or the first rule that it breaks.
 fn read_distribution_points<'a>(element: Element<'a>) -> Result<DistributionPoints<'a>, Fault>
     ensures { Answers points_in result (points_of (now element.entry)) }
 {

@@ -135,6 +135,8 @@ impl<'a> Ext<'a> {
     }
 }
 
+/// The value of an extension with this object identifier, from the OCTET STRING that holds it. An
+/// extension that is not known for the holder keeps its octets unread.
 #[tactic(auto, unfolding(crate::specs::Ext::ext_of))]
 #[inline(always)]
 fn read_ext<'a>(holder: Holder, oid: OidRef<'a>, octets: Element<'a>) -> Result<Ext<'a>, Fault>

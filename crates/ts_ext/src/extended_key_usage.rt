@@ -30,7 +30,8 @@ impl<'a> ExtendedKeyUsage<'a> {
     /// OBJECT IDENTIFIER) and
     /// `OidForm`; then `Empty` where there is none.
     pub fn read(element: Element<'a>) -> Result<ExtendedKeyUsage<'a>, Fault>
-        ensures found { IfOk result (λ x. AreKeyPurposes element.entry.content.now (purposes_in x)) }
+        ensures found { IfOk result
+            (λ x. AreKeyPurposes element.entry.content.now (purposes_in x)) }
         ensures only { (xs : List (List ℕ)) → AreKeyPurposes element.entry.content.now xs
             → IsOkAnd result (λ x. purposes_in x ≡ xs) }
         ensures fault { option_map about (refusal result)
@@ -48,6 +49,8 @@ impl<'a> ExtendedKeyUsage<'a> {
     }
 }
 
+/// The extKeyUsage (RFC 5280 4.2.1.12) that an element's content is, or the first rule that it
+/// breaks.
 fn read_extended_key_usage<'a>(element: Element<'a>) -> Result<ExtendedKeyUsage<'a>, Fault>
     ensures { Answers purposes_in result (ext_key_usage_of (now element.entry)) }
 {

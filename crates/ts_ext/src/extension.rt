@@ -10,15 +10,16 @@ use ts_der::tag::{BOOLEAN, OCTET_STRING, SEQUENCE};
 use ts_der::{Element, Fault, OidRef};
 use ts_shape::{FromElement, Keyed, tagged_as};
 
-/// An extension of a certificate, of a list or of an entry, as it lies in the source (RFC 5280 4.1,
-/// 4.2).
+/// An extension of a certificate, of a CRL or of a CRL entry, as it lies in the source (RFC 5280
+/// 4.1, 4.2).
 #[derive(Clone, Copy)]
 pub struct Extension<'a> {
     /// The offset of its SEQUENCE.
     pub at: usize,
-    /// What it is known by.
+    /// The object identifier of its type.
     pub id: OidRef<'a>,
-    /// Whether who does not process it is to refuse what holds it.
+    /// Whether it is critical: whoever does not process it has to refuse the certificate, CRL or
+    /// entry.
     pub critical: bool,
     /// The OCTET STRING that holds its value.
     pub value: Element<'a>,

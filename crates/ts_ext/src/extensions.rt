@@ -103,6 +103,7 @@ impl<'a> Extensions<'a> {
     }
 }
 
+/// The Extensions that an element's content is, or the first rule that it breaks.
 fn read_extensions<'a>(element: Element<'a>) -> Result<Extensions<'a>, Fault>
     ensures { Answers all_located_in result (all_located_of (now element.entry)) }
 {

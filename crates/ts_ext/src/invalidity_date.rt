@@ -47,6 +47,8 @@ impl InvalidityDate {
     }
 }
 
+/// The invalidityDate (RFC 5280 5.3.2) that an element's content is. It is refused where the
+/// content is no GeneralizedTime.
 #[tactic(auto, unfolding(crate::specs::Reading::invalidity_date_of))]
 fn read_invalidity_date(element: Element<'_>) -> Result<InvalidityDate, Fault>
     ensures { Answers (λ d. d.seconds) result (invalidity_date_of (now element.entry)) }

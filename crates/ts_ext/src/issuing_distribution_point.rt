@@ -25,11 +25,11 @@ const INDIRECT_CRL: u8 = 0x84;
 
 const ONLY_ATTRIBUTE_CERTS: u8 = 0x85;
 
-/// What a list covers (RFC 5280 5.2.5): where it is found, and of which certificates and for which
+/// What a CRL covers (RFC 5280 5.2.5): its distribution point, the kinds of certificates, and the
 /// reasons.
 #[derive(Clone, Copy)]
 pub struct IssuingDistributionPoint<'a> {
-    /// The names of the list.
+    /// The name of the distribution point.
     pub name: Option<PointName<'a>>,
     /// It has certificates of subjects that are no authorities alone.
     pub only_user_certs: bool,
@@ -65,6 +65,8 @@ impl<'a> IssuingDistributionPoint<'a> {
     }
 }
 
+/// The IssuingDistributionPoint (RFC 5280 5.2.5) that an element's content is, or the first rule
+/// that it breaks.
 #[tactic(auto, unfolding(crate::specs::Points::issuing_point_of))]
 fn read_issuing_point<'a>(element: Element<'a>) -> Result<IssuingDistributionPoint<'a>, Fault>
     ensures { Answers issuing_point_in result (issuing_point_of (now element.entry)) }

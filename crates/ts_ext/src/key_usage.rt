@@ -54,6 +54,7 @@ impl<'a> KeyUsage<'a> {
     }
 }
 
+/// The KeyUsage (RFC 5280 4.2.1.3) that an element's content is, or the first rule that it breaks.
 #[tactic(auto, unfolding(crate::specs::Reading::key_usage_of))]
 fn read_key_usage<'a>(element: Element<'a>) -> Result<KeyUsage<'a>, Fault>
     ensures { Answers (λ u. bits_in u.bits) result (key_usage_of (now element.entry)) }

@@ -1,6 +1,7 @@
-//! The values of the extensions of certificates and of their lists (RFC 5280 4.2, 5.2, 5.3), read
-//! where they lie: no memory, no copy, and of octets that are none the first rule that is broken,
-//! with its place. A reader is handed the value's element and does not look at its tag.
+//! The values of the extensions of certificates, CRLs and CRL entries (RFC 5280 4.2, 5.2, 5.3),
+//! read in place, without allocation or copy. Octets that are no such value are refused by the
+//! first rule that they break, with its place. A reader is handed the value's element and does not
+//! look at its tag.
 //!
 //! ```text
 //! for extension in extensions.iter() {
@@ -11,22 +12,22 @@
 //! }
 //! ```
 //!
-//! Each type has a reader `read` that takes the element of the value, reads its content where it
-//! lies, without memory, and does not look at the element's tag: `AlternativeNames`
-//! (subjectAltName, issuerAltName, certificateIssuer), `AuthorityKeyIdentifier`, `BaseCrlNumber`,
+//! Each type has a reader `read` that takes the element of the value, reads its content in place,
+//! without allocation, and does not look at the element's tag: `AlternativeNames` (subjectAltName,
+//! issuerAltName, certificateIssuer), `AuthorityKeyIdentifier`, `BaseCrlNumber`,
 //! `BasicConstraints`, `CertificatePolicies`, `CrlNumber`, `DistributionPoint`,
 //! `DistributionPoints` (cRLDistributionPoints, freshestCRL), `ExtendedKeyUsage`, `InvalidityDate`,
 //! `IssuingDistributionPoint`, `KeyUsage`, `NameConstraints`, `PolicyConstraints`,
 //! `PolicyMappings`, `ReasonCode`, `ReasonFlags`, `SkipCerts` (inhibitAnyPolicy), and `Extensions`,
 //! the list itself, whatever the values say. `Ext::read` reads the value of an extension by its
-//! object identifier and what holds it: a certificate, a list or an entry of a list. `specs/`
-//! stands beside RFC 5280 sections 4.2, 5.2 and 5.3.
+//! object identifier and what holds it: a certificate, a CRL or an entry of a CRL. `specs/` stands
+//! beside RFC 5280 sections 4.2, 5.2 and 5.3.
 //!
-//! - `read` of each type: what is read is encoded so (`found`); what is encoded so is read
-//!   (`only`); a refusal is the first rule that is broken, with its place, and comes exactly then:
-//!   of each field in turn its header, its tag and its rules, `Trailing`, and of a list that it is
-//!   not empty (`fault`); it gives what the reading function of `specs/Reading.antt` gives: the
-//!   form in which the crates above use it (`exact`).
+//! - `read` of each type: the octets encode the value that is given (`found`); a value that the
+//!   octets encode is the one that is given (`only`); a refusal is the first rule that is broken,
+//!   with its place, and comes exactly then: of each field in turn its header, its tag and its
+//!   rules, `Trailing`, and of a list that it is not empty (`fault`); it gives what the reading
+//!   function of `specs/Reading.antt` gives: the form in which the crates above use it (`exact`).
 //! - `KeyUsage::key_cert_sign`, `crl_sign`: bit 5, and bit 6, of the bits that were read; a bit
 //!   that is left out is 0.
 //! - `ReasonFlags::contains`, `reasons`: the bit of that reason, 1 to 8; the set of the reasons
@@ -37,7 +38,7 @@
 //! - `ReasonCode::number`, `numbered`, `ReasonFlag::number`: the number of a reason, and the reason
 //!   of a number if it has one.
 //! - `Known::at`: the extension that an object identifier names in a holder, if one is read there:
-//!   fourteen in a certificate, six in a list, three in an entry.
+//!   fourteen in a certificate, six in a CRL, three in an entry.
 //! - `Known::arc`: the last arc of its object identifier.
 //! - `Ext::read`: within the OCTET STRING stands the one element that encodes the value of that
 //!   extension; of an extension that is not read there the octets are kept (`found`, `only`); a
@@ -50,9 +51,9 @@
 //! - `Extension::first_fault`: the first rule that the value of an extension breaks: the first of
 //!   `Ext::read`, else that of `Ext::broken_rule`, whose place is the extension in a certificate
 //!   and 0 elsewhere.
-//! - `CheckedExtensions::read_explicit`: the same as `Extensions::read` of the one list within an
-//!   explicit tag (`found`, `only`, `fault`); `DuplicateExtension` at the first extension that
-//!   occurs twice, else the first rule that the values break (`judged`).
+//! - `CheckedExtensions::read_explicit`: as `Extensions::read`, of the one list within an explicit
+//!   tag (`found`, `only`, `fault`); `DuplicateExtension` at the first extension that occurs twice,
+//!   else the first rule that the values break (`judged`).
 //! - `are_sound_extensions`: true exactly where the content of a SEQUENCE is extensions of a
 //!   certificate of which none occurs twice, each with a value that breaks no rule (its clause
 //!   (`AreValidOnce`)).

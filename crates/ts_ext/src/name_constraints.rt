@@ -67,6 +67,8 @@ impl<'a> NameConstraints<'a> {
     }
 }
 
+/// The NameConstraints (RFC 5280 4.2.1.10) that an element's content is, or the first rule that it
+/// breaks.
 #[tactic(auto, unfolding(crate::specs::NameConstraints::name_constraints_of))]
 fn read_name_constraints<'a>(element: Element<'a>) -> Result<NameConstraints<'a>, Fault>
     ensures { Answers name_constraints_in result (name_constraints_of (now element.entry)) }

@@ -47,6 +47,8 @@ impl PolicyConstraints {
         PolicyConstraints::of_element(element)
     }
 
+    /// The PolicyConstraints (RFC 5280 4.2.1.11) that an element's content is, or the first rule
+    /// that it breaks.
     #[tactic(auto, unfolding(crate::specs::Reading::policy_constraints_of))]
     fn of_element(element: Element<'_>) -> Result<PolicyConstraints, Fault>
         ensures { Answers (λ p. p) result (policy_constraints_of (now element.entry)) }

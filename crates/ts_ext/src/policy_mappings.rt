@@ -51,6 +51,8 @@ impl<'a> PolicyMappings<'a> {
     }
 }
 
+/// The PolicyMappings (RFC 5280 4.2.1.5) that an element's content is, or the first rule that it
+/// breaks.
 fn read_policy_mappings<'a>(element: Element<'a>) -> Result<PolicyMappings<'a>, Fault>
     ensures { Answers mappings_in result (policy_mappings_of (now element.entry)) }
 {

@@ -74,6 +74,8 @@ impl ReasonCode {
         }
     }
 
+    /// The CRLReason (RFC 5280 5.3.1) that an element's content is. It is refused where the content
+    /// is not one octet, or is the number of no reason.
     #[tactic(auto, unfolding(crate::specs::Reading::reason_code_of))]
     fn of_element(element: Element<'_>) -> Result<ReasonCode, Fault>
         ensures { Answers (λ r. r) result (reason_code_of (now element.entry)) }

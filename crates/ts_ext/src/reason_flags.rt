@@ -68,6 +68,8 @@ impl<'a> ReasonFlags<'a> {
     }
 }
 
+/// The ReasonFlags (RFC 5280 4.2.1.13) that an element's content is, or the first rule that it
+/// breaks.
 #[tactic(auto, unfolding(crate::specs::Reading::reason_flags_of))]
 fn read_reason_flags<'a>(element: Element<'a>) -> Result<ReasonFlags<'a>, Fault>
     ensures { Answers (λ f. bits_in f.bits) result (reason_flags_of (now element.entry)) }

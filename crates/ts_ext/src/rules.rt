@@ -37,7 +37,7 @@ fn have_address_length(names: GeneralNames<'_>) -> bool
     true
 }
 
-/// The same for names that may be absent.
+/// Whether each IP address among names that may be absent has 4 octets or 16.
 fn have_address_length_if_any(names: Option<GeneralNames<'_>>) -> bool
     ensures { result ≡ all_of has_address_length (option_map names_in names.entry) }
 {
@@ -47,7 +47,7 @@ fn have_address_length_if_any(names: Option<GeneralNames<'_>>) -> bool
     }
 }
 
-/// The same for the name of a distribution point.
+/// Whether each IP address in the name of a distribution point has 4 octets or 16.
 fn point_has_address_length(name: Option<PointName<'_>>) -> bool
     ensures { result ≡ has_point_addresses (option_map point_name_in name.entry) }
 {
@@ -57,7 +57,7 @@ fn point_has_address_length(name: Option<PointName<'_>>) -> bool
     }
 }
 
-/// The same for the names of distribution points.
+/// Whether each IP address in the names of distribution points has 4 octets or 16.
 fn points_have_address_length(points: DistributionPoints<'_>) -> bool
     ensures { result ≡ list_all has_addresses (points_in points.entry) }
 {

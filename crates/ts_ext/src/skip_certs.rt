@@ -36,6 +36,8 @@ impl SkipCerts {
     }
 }
 
+/// The SkipCerts of inhibitAnyPolicy (RFC 5280 4.2.1.14) that an element's content is: a number
+/// from 0 to 2^32 - 1.
 #[tactic(auto, unfolding(crate::specs::Reading::small_of))]
 fn read_skip_certs(element: Element<'_>) -> Result<SkipCerts, Fault>
     ensures { Answers (λ n. n.0) result (skip_certs_of (now element.entry)) }

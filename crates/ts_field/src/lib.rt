@@ -1,11 +1,11 @@
-//! The fields that certificates and revocation lists share (RFC 5280 4.1, 5.1): times, algorithm
-//! identifiers, and the readers of an INTEGER, of whole octets in a BIT STRING and of a name as
-//! fields of a SEQUENCE. They are read where they lie: no memory, no copy, and of octets that are
-//! none the first rule that is broken, with its place.
+//! The fields that certificates and CRLs share (RFC 5280 4.1, 5.1): times, algorithm identifiers,
+//! and the readers of an INTEGER, of whole octets in a BIT STRING and of a name as fields of a
+//! SEQUENCE. They are read in place, without allocation or copy. Octets that are no such field are
+//! refused by the first rule that they break, with its place.
 //!
 //! ```text
 //! let mut fields = element.reader();
-//! let signature = next_algorithm(&mut fields)?;    // an algorithm identifier; its octets are lent
+//! let signature = next_algorithm(&mut fields)?;    // an algorithm identifier, borrowed
 //! let issuer = next_name(&mut fields)?;
 //! let this_update = next_time(&mut fields)?;       // a UTCTime or a GeneralizedTime, by its tag
 //! ```

@@ -19,6 +19,7 @@ impl Model for History {
 }
 
 impl History {
+    /// The history of a file to which nothing was done.
     pub(crate) fn new() -> History
         ensures { result.events ≡ [] }
     {

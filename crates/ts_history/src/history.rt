@@ -100,8 +100,8 @@ impl History {
         self.store.tables()
     }
 
-    /// The tables after the first k commands, lent. Where these are not all, it takes k steps, of
-    /// which each changes one place of a list of references.
+    /// The tables after the first k commands, borrowed. Where these are not all, it takes k steps,
+    /// each of which changes one place of a list of references.
     ///
     /// # Errors
     ///

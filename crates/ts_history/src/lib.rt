@@ -4,14 +4,14 @@
 //! let mut history = History::new(alloc);
 //! // Applied, Repeated(position) or Refused(why)
 //! let outcome = history.push(&command)?;
-//! let now = Snapshot::of(alloc, history.tables())?;  // the tables after all commands, lent
-//! // the tables after the first k commands, lent
+//! let now = Snapshot::of(alloc, history.tables())?;  // borrows the tables after all commands
+//! // borrows the tables after the first k commands
 //! let then = history.at(alloc, k)?;
 //! ```
 //!
 //! A history keeps beside each command which place of which table the command changed. The tables
 //! after the first k commands are made by k such changes of lists of references: no certificate and
-//! no list is read again, hashed or copied, and no slot is searched. A list is lent with its id.
+//! no CRL is read again, hashed or copied, and no slot is searched. A CRL is borrowed with its id.
 //!
 //! - [`History::new`], [`History::count`]: no commands; how many were taken.
 //! - [`History::push`]: `outcome`: that of the store's definition; `pushed`; `refused`: at an error

@@ -13,7 +13,7 @@ use std::alloc::{AllocError, Global};
 use ts_crl::Crl;
 use ts_store::{StoredCrl, Tables, TrustAnchor, place_of_anchor, place_of_crl, place_of_slot};
 
-/// The anchor of this id goes.
+/// The change that removes the anchor of this id.
 pub(crate) fn removal(anchors: &[TrustAnchor], id: &[u8; 32]) -> Change
     ensures { result ≡ removal_at (place_in id.now anchors.now) }
 {
@@ -23,7 +23,7 @@ pub(crate) fn removal(anchors: &[TrustAnchor], id: &[u8; 32]) -> Change
     }
 }
 
-/// The anchor of this id gets purposes.
+/// The change that sets the purposes of the anchor of this id.
 pub(crate) fn setting(anchors: &[TrustAnchor], id: &[u8; 32]) -> Change
     ensures { result ≡ setting_at (place_in id.now anchors.now) }
 {
@@ -33,7 +33,7 @@ pub(crate) fn setting(anchors: &[TrustAnchor], id: &[u8; 32]) -> Change
     }
 }
 
-/// The list of this id goes: a complete one, else a delta.
+/// The change that removes the CRL of this id: a complete one, else a delta CRL.
 pub(crate) fn crl_removal(tables: &Tables, id: &[u8; 32]) -> Change
     ensures { result ≡ crl_removal_in id.now tables.now }
 {
@@ -52,7 +52,7 @@ pub(crate) fn crl_removal(tables: &Tables, id: &[u8; 32]) -> Change
     }
 }
 
-/// A list goes into the place of the one of its slot, else behind all of its kind.
+/// The change by a CRL, which replaces the one of its slot, else is the last of its kind.
 fn change_among(
     alloc: Global,
     kind: Kind,
@@ -68,7 +68,7 @@ fn change_among(
     }
 }
 
-/// A list goes among the complete ones, or the deltas.
+/// The change by a CRL, which is among the complete CRLs or the delta CRLs.
 pub(crate) fn crl_change(alloc: Global, tables: &Tables, new: Crl<'_>) -> Result<Change, AllocError>
     ensures { IfOk result (λ change. change ≡ crl_change_in (crl_in new.entry) tables.now) }
 {

@@ -1,4 +1,4 @@
-//! The tables of a store, lent.
+//! The tables of a store, borrowed.
 
 ghost use Rattle.std.specs.Prelude.{◌≡◌, ◌++◌, ◌∷◌, [], List, ℕ, map, IfOk, OnOk};
 ghost use Rattle.std.specs.List.{remove};
@@ -12,7 +12,7 @@ use std::marker::Model;
 use ts_cert::OwnedCert;
 use ts_store::{Command, Purposes, StoredCrl, Tables, TrustAnchor};
 
-/// A trust anchor, lent: the SHA-256 of its certificate, the certificate, and its purposes.
+/// A borrowed trust anchor: the SHA-256 of its certificate, the certificate, and its purposes.
 #[derive(Clone, Copy)]
 pub struct LentAnchor<'a> {
     pub id: [u8; 32],
@@ -20,7 +20,7 @@ pub struct LentAnchor<'a> {
     pub purposes: &'a Purposes,
 }
 
-/// The tables of a store, lent: nothing of them is copied or read again.
+/// The tables of a store, borrowed: nothing of them is copied or read again.
 #[derive(Drop)]
 pub struct Snapshot<'a> {
     anchors: Vec<LentAnchor<'a>>,
@@ -41,7 +41,7 @@ impl<'a> Model for Snapshot<'a> {
     } };
 }
 
-/// A trust anchor, lent.
+/// A trust anchor, borrowed.
 fn lent(anchor: &TrustAnchor) -> LentAnchor<'_>
     ensures { anchor_in result ≡ anchor.now }
 {
@@ -52,7 +52,7 @@ fn lent(anchor: &TrustAnchor) -> LentAnchor<'_>
     }
 }
 
-/// The anchors of a table, lent.
+/// The anchors of a table, borrowed.
 fn anchors_of(alloc: Global, anchors: &[TrustAnchor]) -> Result<Vec<LentAnchor<'_>>, AllocError>
     ensures { IfOk result (λ all. map anchor_in all.items ≡ anchors.now) }
 {
@@ -63,7 +63,7 @@ fn anchors_of(alloc: Global, anchors: &[TrustAnchor]) -> Result<Vec<LentAnchor<'
     Ok(all)
 }
 
-/// The lists of a table, lent.
+/// The CRLs of a table, borrowed.
 fn crls_of(alloc: Global, lists: &[StoredCrl]) -> Result<Vec<&StoredCrl>, AllocError>
     ensures { IfOk result (λ all. map (λ c. c.now) all.items ≡ lists.now) }
 {
@@ -163,7 +163,7 @@ impl<'a> Snapshot<'a> {
         }
     }
 
-    /// These tables, lent.
+    /// These tables, borrowed.
     pub fn of(alloc: Global, tables: &'a Tables) -> Result<Snapshot<'a>, AllocError>
         ensures { IfOk result (λ snapshot. snapshot ≡ contents_of tables.now) }
     {
@@ -218,7 +218,7 @@ impl<'a> Snapshot<'a> {
         self.anchors.as_slice()
     }
 
-    /// The complete lists, in their order.
+    /// The complete CRLs, in their order.
     pub fn complete(&self) -> &[&'a StoredCrl]
         ensures { map (λ c. c.now) result.now ≡ self.now.complete }
     {

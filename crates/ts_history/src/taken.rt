@@ -15,19 +15,19 @@ use ts_store::{
     CertificateOctets, Command, CrlOctets, Purposes, StoredCrl, Tables, TrustAnchor, digest,
 };
 
-/// A command, kept so that what it loads can be lent: an anchor and a list in the form in which
-/// they were read.
+/// A command, kept so that the anchor or CRL that it loads can be borrowed, in the form in which it
+/// was read.
 #[derive(Drop)]
 pub(crate) enum KeptCommand {
     /// Adds this trust anchor, for any purpose.
     Anchor { id: [u8; 16], anchor: TrustAnchor },
     /// Adds a CRL.
     Crl { id: [u8; 16], crl: StoredCrl },
-    /// Any other command, and those whose octets are no certificate or no list.
+    /// Any other command, and those whose octets are no certificate or no CRL.
     Other(Command),
 }
 
-/// Complete lists, or deltas.
+/// Complete CRLs, or delta CRLs.
 #[derive(Clone, Copy, Debug, PartialEq, Eq)]
 pub(crate) enum Kind {
     Complete,
@@ -47,7 +47,7 @@ pub(crate) enum Change {
     SetsPurposes { at: usize },
     /// The command's list is the last one of its kind.
     AddsCrl { kind: Kind },
-    /// The command's list is at this place, where another list of its slot was.
+    /// The command's CRL is at this place, where another CRL of its slot was.
     PutsCrl { kind: Kind, at: usize },
     /// The list at this place is removed.
     RemovesCrl { kind: Kind, at: usize },

@@ -33,18 +33,21 @@ fn without_dot(text: &[u8]) -> &[u8]
     }
 }
 
+/// Whether an octet is a dot.
 fn is_dot(octet: u8) -> bool
     ensures { result ≡ is_dot octet }
 {
     octet == b'.'
 }
 
+/// Whether an octet may occur in a host name: a letter, a digit, a hyphen, an underscore or a dot.
 fn is_name_octet(octet: u8) -> bool
     ensures { result ≡ is_name_octet octet }
 {
     matches!(octet, b'a'..=b'z' | b'A'..=b'Z' | b'0'..=b'9' | b'-' | b'_' | b'.')
 }
 
+/// Whether an octet is a digit or a dot.
 fn is_numeric_octet(octet: u8) -> bool
     ensures { result ≡ is_numeric_octet octet }
 {
@@ -67,12 +70,14 @@ fn has_long_label(name: &[u8]) -> bool
         .any(|label| label.len() > 63)
 }
 
+/// Whether each octet of a name may occur in a host name.
 fn has_name_octets(name: &[u8]) -> bool
     ensures { result ≡ list_all is_name_octet name.now }
 {
     name.iter().all(|octet| is_name_octet(*octet))
 }
 
+/// Whether a name consists of digits and dots alone.
 fn is_numeric(name: &[u8]) -> bool
     ensures { result ≡ list_all is_numeric_octet name.now }
 {

@@ -105,8 +105,8 @@ impl Connection {
         body: &[u8],
         is_head: bool,
     ) -> Result<(), HttpFault>
-        ensures written { OnOk result (Writes self.old self.new status phrase.now (pairs headers.now)
-            body.now is_head) }
+        ensures written { OnOk result (Writes self.old self.new status phrase.now
+            (pairs headers.now) body.now is_head) }
         ensures times { OnOk result (self.new.times ≡ self.old.times) }
     {
         let (alloc, server) = (self.alloc, &mut self.server);

@@ -18,7 +18,7 @@ pub struct Owner {
     pub generation: u64,
 }
 
-/// What an image looks like: below 25 octets; with a closed live gate; live with a wrong header; or
+/// What an image looks like: below 25 octets; with a clear live byte; live with a wrong header; or
 /// live.
 #[derive(Clone, Copy, Debug, PartialEq, Eq)]
 pub enum Look {
@@ -58,6 +58,7 @@ pub fn look_at(octets: &[u8]) -> Look
     Look::Right(owner)
 }
 
+/// Whether two strings of octets are equal.
 fn is_same(a: &[u8], b: &[u8]) -> bool
     ensures equal { result ≡ true → a.now ≡ b.now }
     ensures different { result ≡ false → a.now ≢ b.now }
@@ -65,6 +66,8 @@ fn is_same(a: &[u8], b: &[u8]) -> bool
     a == b
 }
 
+/// The owner in the header that an image begins with. It means nothing where the image begins with
+/// no header.
 fn owner_at(octets: &[u8]) -> Owner
     requires { 25 ≤ length octets.now }
     ensures { (h : Header) (live : ℕ) (rest : List ℕ) → h.group < 2 ^ 32
@@ -82,12 +85,15 @@ fn owner_at(octets: &[u8]) -> Owner
     }
 }
 
+/// Whether two owners are the same node, of as many nodes and of the same group.
 fn is_same_owner(first: Owner, second: Owner) -> bool
     ensures { result ≡ is_same_owner first second }
 {
     first.node == second.node && first.nodes == second.nodes && first.group == second.group
 }
 
+/// The disk in use: the one that is live beside one that is not, or of two live ones of the same
+/// owner the one of the greater generation; none otherwise.
 fn pick(a: Look, b: Look) -> Option<Choice>
     ensures { result ≡ choice_of a b }
 {

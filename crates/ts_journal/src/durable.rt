@@ -7,8 +7,8 @@ ghost use Rattle.ts_journal.specs.Gate.{Closed, Opened};
 
 use ts_disk::{Disk, DiskFault, put};
 
-/// Writes text after the closed gate at end, which it then opens. At every moment the gate is
-/// closed, or it is open and the whole text follows it.
+/// Writes text after the clear commit byte at `end`, which it then sets. At every moment the commit
+/// byte is clear, or it is set and the whole text follows it.
 pub(crate) fn extend<D: Disk>(disk: &mut D, end: usize, text: &[u8]) -> Result<(), DiskFault>
     requires durable { IsDurable (D.state disk.old) }
     requires closed { Closed (take end (D.state disk.old).read) (D.state disk.old).read }

@@ -1,4 +1,4 @@
-//! The first images of a journal that has bodies from the start.
+//! The first images of a journal that has entries from the start.
 
 ghost use Rattle.std.specs.Prelude.{◌≡◌, ◌≤◌, ◌⊎◌, ◌++◌, [], ◌∷◌, false, ℕ, List, length, OnOk};
 ghost use Rattle.std.specs.Prelude.{IfErr};
@@ -12,8 +12,8 @@ use crate::header::head_octets;
 use crate::rewrite::{LIVE_GATE, begin};
 use ts_disk::{Disk, DiskFault, put};
 
-/// Writes the octets before a closed live gate, and a text after it, over what a disk holds, and
-/// syncs. A fresh disk is not in use at any moment: its live gate is written first, and closed.
+/// Writes the octets before a clear live byte, and a text after it, over what a disk holds, and
+/// syncs. A fresh disk is not in use at any moment: its live byte is written first, and clear.
 fn lay<D: Disk>(disk: &mut D, octets: &[u8], text: &[u8]) -> Result<(), DiskFault>
     requires length { length octets.now ≡ 24 }
     ensures durable { OnOk result (IsDurable (D.state disk.new)) }
@@ -28,10 +28,10 @@ fn lay<D: Disk>(disk: &mut D, octets: &[u8], text: &[u8]) -> Result<(), DiskFaul
     begin(disk, octets, text)
 }
 
-/// Writes a journal that has bodies from the start on two disks, and syncs both. The text is their
-/// blocks and the closed gate after them. The first disk is live, of generation 1, and its live
-/// gate is opened last; the second is shut, of generation 0. What the disks held after is without
-/// meaning from then on.
+/// Writes a journal that has entries from the start on two disks, and syncs both. The text is their
+/// blocks and the clear commit byte after them. The first disk is live, of generation 1, and its
+/// live byte is set last; the second is shut, of generation 0. Octets that the disks held behind
+/// these have no meaning from then on.
 pub fn format_with<D: Disk>(
     a: &mut D,
     b: &mut D,
@@ -47,11 +47,11 @@ pub fn format_with<D: Disk>(
         head (record { node = node; nodes = nodes; group = group; generation = 1 }) ++ (1 ∷ text.now ++ rest))) }
     ensures second { OnOk result ((rest : List ℕ) × ((D.state b.new).read ≡
         head (record { node = node; nodes = nodes; group = group; generation = 0 }) ++ (0 ∷ 0 ∷ rest))) }
-    // Each pair of images that a crash may leave opens to the bodies.
+    // Each pair of images that a crash may leave opens to the entries.
     ensures opens { OnOk result ((blocks : List Block) → IsText blocks text.now
         → AnyPair (OpensFrom (record { node = node; nodes = nodes }) false (bodies_in blocks))
         (D.state a.new) (D.state b.new)) }
-    // On fresh disks each pair of images opens to all of the bodies or does not open, at every
+    // On fresh disks each pair of images opens to all of the entries or does not open, at every
     // moment.
     ensures moments { IsFresh (D.state a.old) → IsFresh (D.state b.old) → (blocks : List Block)
         → IsText blocks text.now

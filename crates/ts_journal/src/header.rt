@@ -9,7 +9,7 @@ ghost use Rattle.ts_journal.specs.Images.{head, Opens, AnyPair};
 use crate::choice::Owner;
 use ts_disk::{Disk, DiskFault};
 
-/// The 24 octets before the live gate.
+/// The 24 octets before the live byte.
 pub fn head_octets(owner: &Owner) -> [u8; 24]
     ensures { result ≡ head (header_of_owner owner.now) }
 {
@@ -22,7 +22,7 @@ pub fn head_octets(owner: &Owner) -> [u8; 24]
     ]
 }
 
-/// Writes a header and two gates over what a disk begins with, and syncs.
+/// Writes a header, a live byte and a commit byte over what a disk begins with, and syncs.
 fn write_head<D: Disk>(disk: &mut D, owner: &Owner, live: u8) -> Result<(), DiskFault>
     ensures durable { OnOk result (IsDurable (D.state disk.new)) }
     ensures written { OnOk result ((D.state disk.new).read ≡
@@ -42,8 +42,8 @@ fn write_head<D: Disk>(disk: &mut D, owner: &Owner, live: u8) -> Result<(), Disk
 }
 
 /// Writes an empty journal of a node of a group on two disks, and syncs both. The first is live, of
-/// generation 1; the second is shut, of generation 0. What the disks held after is without meaning
-/// from then on.
+/// generation 1; the second is shut, of generation 0. Octets that the disks held behind these have
+/// no meaning from then on.
 pub fn format<D: Disk>(
     a: &mut D,
     b: &mut D,
@@ -60,7 +60,7 @@ pub fn format<D: Disk>(
     ensures second { OnOk result ((D.state b.new).read ≡
         head (record { node = node; nodes = nodes; group = group; generation = 0 })
         ++ (0 ∷ 0 ∷ drop 26 (D.state b.old).read)) }
-    // Each pair of images that a crash may leave opens to no bodies.
+    // Each pair of images that a crash may leave opens to no entries.
     ensures opens { OnOk result (AnyPair (Opens (record { node = node; nodes = nodes }) [])
         (D.state a.new) (D.state b.new)) }
     ensures fault { IfErr result (λ fault. (fault ≡ Failed)

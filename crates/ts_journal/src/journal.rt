@@ -1,4 +1,4 @@
-//! A journal of bodies on two disks, of which one is in use.
+//! A journal of entries on two disks, of which one is in use.
 
 ghost use Rattle.std.specs.Prelude.{◌≡◌, ◌⊎◌, ◌++◌, ◌<◌, ◌+◌, ◌^◌, [], ◌∷◌, ℕ, List, true, false};
 ghost use Rattle.std.specs.Prelude.{cond, OnOk, OnErr, IfErr};
@@ -14,8 +14,8 @@ use crate::header::head_octets;
 use crate::rewrite::{begin, shut};
 use ts_disk::{Disk, DiskFault, put};
 
-/// What the disk that is not in use holds: it is live, of an earlier generation; its live gate is
-/// closed; a rewrite has begun; or bodies are copied to it.
+/// What the disk that is not in use holds: it is live, of an earlier generation; its live byte is
+/// clear; a rewrite has begun; or entries are copied to it.
 #[derive(Clone, Copy, Debug, PartialEq, Eq)]
 pub enum Stage {
     Live,
@@ -24,8 +24,8 @@ pub enum Stage {
     Copying,
 }
 
-/// A journal on two disks. `end` and `copy_end` are the offsets of the closed gates after the last
-/// bodies.
+/// A journal on two disks. `end` and `copy_end` are the offsets of the clear commit bytes after the
+/// last entries.
 #[derive(Drop)]
 pub struct Journal<D: Disk> {
     pub current: D,
@@ -53,9 +53,9 @@ impl<D: Disk> Journal<D> {
         }
     }
 
-    /// Appends a body, given as what follows its gate, by four calls of the disk in use. At every
-    /// moment each pair of images opens to the bodies before, or to those and the new one, and from
-    /// the disk in use.
+    /// Appends an entry, given as what follows its commit byte (its length, its octets and the next
+    /// commit byte, which is clear), by four calls of the disk in use. At every moment each pair of
+    /// images opens to the entries before, or to those and the new one, and from the disk in use.
     pub fn append(&mut self, octets: &[u8]) -> Result<(), DiskFault>
         requires settled { IsSettled D.state self.old }
         ensures holds { OnOk result ((bodies copied : List (List ℕ)) (body : List ℕ) → IsBody body
@@ -80,8 +80,8 @@ impl<D: Disk> Journal<D> {
         Ok(())
     }
 
-    /// The first step of a rewrite: closes the other disk's live gate where it is open, and syncs.
-    /// At every moment each pair of images opens to the bodies, from the disk in use.
+    /// The first step of a rewrite: clears the other disk's live byte where it is set, and syncs.
+    /// At every moment each pair of images opens to the entries, from the disk in use.
     pub fn shut(&mut self) -> Result<(), DiskFault>
         requires settled { IsSettled D.state self.old }
         requires stage { (self.old.stage ≡ Live) ⊎ (self.old.stage ≡ Closed) }
@@ -131,7 +131,7 @@ impl<D: Disk> Journal<D> {
         Ok(())
     }
 
-    /// The third step: appends a body to the other disk, given as what follows its gate.
+    /// The third step: appends an entry to the other disk, given as what follows its commit byte.
     pub fn copy(&mut self, octets: &[u8]) -> Result<(), DiskFault>
         requires settled { IsSettled D.state self.old }
         requires stage { self.old.stage ≡ Copying }
@@ -156,8 +156,8 @@ impl<D: Disk> Journal<D> {
         Ok(())
     }
 
-    /// The last step: opens the other disk's live gate, and uses that disk. At every moment each
-    /// pair of images opens to the bodies before, or to the copied ones.
+    /// The last step: sets the other disk's live byte, and uses that disk. At every moment each
+    /// pair of images opens to the entries before, or to the copied ones.
     pub fn switch(&mut self) -> Result<(), DiskFault>
         requires settled { IsSettled D.state self.old }
         requires stage { self.old.stage ≡ Copying }

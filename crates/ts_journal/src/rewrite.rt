@@ -12,11 +12,12 @@ use ts_disk::{Disk, DiskFault, put};
 
 pub(crate) const LIVE_GATE: usize = 24;
 
-/// Closes the live gate of a disk of an earlier generation, and syncs. A closed gate is never
-/// written, as a torn write could open it.
+/// Clears the live byte of a disk of an earlier generation, and syncs. A clear live byte is never
+/// written, as a torn write could set it.
 pub(crate) fn shut<D: Disk>(disk: &mut D, is_live: bool, owner: &Owner) -> Result<(), DiskFault>
     requires durable { IsDurable (D.state disk.old) }
-    requires earlier { is_live ≡ true → IsEarlier (header_of_owner owner.now) (D.state disk.old).read }
+    requires earlier { is_live ≡ true
+        → IsEarlier (header_of_owner owner.now) (D.state disk.old).read }
     requires shut { is_live ≡ false → IsShut (D.state disk.old).read }
     ensures durable { OnOk result (IsDurable (D.state disk.new)) }
     ensures shut { OnOk result (IsShut (D.state disk.new).read) }
@@ -32,7 +33,7 @@ pub(crate) fn shut<D: Disk>(disk: &mut D, is_live: bool, owner: &Owner) -> Resul
     }
 }
 
-/// Writes the octets before the live gate of a shut disk, and a text after it.
+/// Writes the octets before the live byte of a shut disk, and a text after it.
 pub(crate) fn begin<D: Disk>(disk: &mut D, octets: &[u8], text: &[u8]) -> Result<(), DiskFault>
     requires durable { IsDurable (D.state disk.old) }
     requires shut { IsShut (D.state disk.old).read }

@@ -9,9 +9,9 @@
 //!   once, in the order of their names, without spaces: `object_in` (`specs/Object`), written by
 //!   `compact_text` of `serde_json`, whose strings are escaped by RFC 8259 section 7. What a field
 //!   does not have is `null`. Out of memory is the only error.
-//! - [`answer_text`]: the same of the fields of a node's answer: `answer_in` (`specs/Answer`).
-//! - [`members_text`], [`page_text`]: the same of members that are given one by one, and of a page
-//!   of rows of such members: `object_of`, `page_of` (`specs/Members`).
+//! - [`answer_text`]: such a text of the fields of a node's answer: `answer_in` (`specs/Answer`).
+//! - [`members_text`], [`page_text`]: such a text of members that are given one by one, and of a
+//!   page of rows of such members: `object_of`, `page_of` (`specs/Members`).
 #![tactic(auto)]
 
 mod answer;

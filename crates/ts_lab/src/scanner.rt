@@ -73,6 +73,7 @@ impl Scanner {
         Ok(())
     }
 
+    /// Takes one octet: a line feed ends the line, and any other octet is added to it.
     fn take<W: Write>(&mut self, alloc: Global, writer: &mut W, octet: u8) -> Result<(), Stop>
         requires { self.old.number + 1 < 2 ^ 64 }
         ensures scans { Scans self.old self.new (W.contents writer.old) (W.contents writer.new)

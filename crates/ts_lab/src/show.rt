@@ -21,6 +21,7 @@ pub(crate) fn show(alloc: Global, network: &mut Network) -> Result<String, Troub
     Ok(text)
 }
 
+/// The line that names a node's fault.
 fn fault_line(alloc: Global, fault: NodeFault) -> Result<String, AllocError> {
     let name = fault_name(fault);
     format!(in alloc; "fault {name}\n")

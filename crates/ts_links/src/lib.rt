@@ -12,7 +12,7 @@
 //! ```
 //!
 //! A connection takes frames as `ts_serve::serve` does: a request is handed to the [`Service`],
-//! and the text of its answers waits behind that of others; a fault in a frame's place, or a frame
+//! and the text of its answers waits behind that of others; a wrong frame, or a frame
 //! that is no request, is answered with FrameFault, and nothing more is taken then. No request is
 //! taken while [`MAX_WAITING`] octets wait, and no piece while [`MAX_HELD`] are held and the first
 //! frame of them is whole.

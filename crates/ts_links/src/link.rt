@@ -15,10 +15,10 @@ pub const MAX_WAITING: usize = 65_536;
 /// How many octets may be held before no more are read, once the first frame of them is whole.
 pub const MAX_HELD: usize = 65_536;
 
-/// What becomes of a connection.
+/// The state of a connection.
 #[derive(Clone, Copy, Debug, PartialEq, Eq)]
 pub enum Stage {
-    /// There is none.
+    /// The slot has no connection.
     Closed,
     /// Requests are taken.
     Open,
@@ -31,7 +31,7 @@ pub enum Stage {
 pub enum Taken {
     /// A request, and its answers wait.
     Request,
-    /// A fault in a frame's place, and its answer waits.
+    /// A wrong frame, and its answer waits.
     Fault,
     /// Nothing: no whole frame is there, or as many octets wait as may, or it is not open.
     Nothing,

@@ -16,7 +16,7 @@ fn is_idle(link: &Link) -> bool
     link.stage == Stage::Open && link.held.len() == 0 && link.waits.len() == 0
 }
 
-/// The one that has been idle longest, with one slot more looked at.
+/// Of the slot that was idle longest so far and one more, the one that has been idle longest.
 fn idlest_with(links: &[Link], found: Option<usize>, slot: usize) -> Option<usize>
     requires within { slot < length links.now }
     requires so_far { IsIdlest links.now slot found }
@@ -53,7 +53,7 @@ impl Connections {
         }
     }
 
-    /// What becomes of a slot's connection.
+    /// The state of a slot's connection.
     pub fn stage(&self, slot: usize) -> Stage
         ensures { result ≡ stage_at self.now.links.items slot }
     {

@@ -39,7 +39,7 @@ impl Link {
         Ok(Taken::Request)
     }
 
-    /// Answers a fault in a frame's place. Nothing more is taken then.
+    /// Answers a wrong frame. Nothing more is taken then.
     fn refuse(&mut self, alloc: Global, fault: FrameFault, now: u64) -> Result<Taken, AllocError>
         requires open { self.old.stage ≡ Stage.Open }
         requires stops { Stops fault self.old.held }

@@ -63,7 +63,7 @@ pub(crate) fn more_time(held: &[u8]) -> u64
 }
 
 impl Times {
-    /// At opening.
+    /// The times of a connection that is opened at this moment.
     pub(crate) fn opened(now: u64) -> Times
         ensures { result ≡ times_opened now }
     {

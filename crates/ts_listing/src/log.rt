@@ -100,6 +100,7 @@ fn refusal_code(refusal: Refusal) -> u8
     }
 }
 
+/// The code of an outcome: 0 applied, 1 repeated, 2 refused.
 fn outcome_code(outcome: Outcome) -> u8
     ensures { result ≡ outcome_code outcome }
 {
@@ -110,6 +111,8 @@ fn outcome_code(outcome: Outcome) -> u8
     }
 }
 
+/// The number beside an outcome's code: the position of the first of repeated commands, or the code
+/// of a refusal; 0 where the command was applied.
 fn detail_of(outcome: Outcome) -> u32
     ensures { result ≡ detail_of outcome }
 {

@@ -228,7 +228,8 @@ impl<C: Command> Log<C> {
 
     /// Makes places for a sender's vote and for a learned command.
     fn reserve(&mut self, from: u8, position: u32) -> Result<(), AllocError>
-        ensures vote { OnOk result (HasPlaceIn (get nat_cmp self.new.received.votes position) from) }
+        ensures vote { OnOk result
+            (HasPlaceIn (get nat_cmp self.new.received.votes position) from) }
         ensures command { OnOk result (is_some (get nat_cmp self.new.learned.commands position)
             ≡ true) }
         ensures same { Unchanged self.old self.new }
@@ -439,7 +440,7 @@ impl<C: Command> Log<C> {
         }
     }
 
-    /// Puts a step in force, which takes no memory.
+    /// Makes a step's change, which takes no memory.
     pub fn keep(&mut self, step: Step<C>)
         requires { IsLatest self.old step }
         ensures learned { learned_of self.new ≡ learned_after self.old step.change }

@@ -17,7 +17,7 @@
 //! (`ts_links`) is closed. Where all slots are taken, the connection that has been idle longest
 //! makes room for a new one, or, where keys are wanted, the one that has shown none for the longest
 //! time; where there is none, the new one is closed. An `accept` that fails is counted, and tried
-//! again after 100 ms. After a fault in a frame's place its answer is written, the writing side is
+//! again after 100 ms. After a wrong frame its answer is written, the writing side is
 //! ended, and what still comes is read and dropped until the client ends or the time is over: else
 //! the system could take the answer away.
 //!

@@ -64,7 +64,7 @@ pub(crate) struct Line {
     writable: bool,
     /// When the peer was last asked how many commands it knows.
     asked: u64,
-    /// When something was last heard of it.
+    /// When octets last came from it, or a connection to it was made last.
     pub heard: u64,
     /// Whether it is the node that is meant, by its answer on this connection.
     is_met: bool,

@@ -40,7 +40,7 @@ fn write_certificate(
     element(alloc, SEQUENCE, &fields)
 }
 
-/// The same, where it can be read.
+/// Writes a certificate, and refuses it where it can't be read.
 fn write_readable(
     alloc: Global,
     text: &CertText<'_>,
@@ -74,7 +74,7 @@ pub fn make_cert(alloc: Global, text: &CertText<'_>) -> Result<Vec<u8>, MakeFaul
     ensures made { (before after : List ℕ) × IsTimeOf before text.now.from
         × IsTimeOf after text.now.to
         × AnswersMade result (made before after text.now) }
-    // What is read from it is the description.
+    // Reading it gives the description.
     ensures described { IfOk result
         (λ v. (c : Certificate) × (certificate_of v.items ≡ Ok c) × IsDescribed text.now c) }
     // It is signed by the stand-in under the signer's key.
@@ -82,7 +82,7 @@ pub fn make_cert(alloc: Global, text: &CertText<'_>) -> Result<Vec<u8>, MakeFaul
         × IsSignedBy text.now.signer.now c) }
     // Moments outside of the years 0 to 9999 have no encoding.
     ensures years { OnOk result (IsInYears 0 9999 text.now.from × IsInYears 0 9999 text.now.to) }
-    // For no other reason is refused what was written.
+    // A certificate that was written is refused for no other reason.
     ensures refused { IfErr result (IsRefusal text.now) }
 {
     write_readable(

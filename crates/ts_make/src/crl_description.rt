@@ -5,7 +5,7 @@ use ts_der::OidRef;
 use ts_ext::ReasonCode;
 use ts_time::Moment;
 
-/// An entry of a list: a certificate that is revoked since the list was issued (RFC 5280 5.1.2.6).
+/// An entry of a CRL: a certificate that is revoked since the CRL was issued (RFC 5280 5.1.2.6).
 #[derive(Clone, Copy, Debug)]
 pub struct EntryText {
     /// userCertificate: the serial number of the certificate.
@@ -14,7 +14,7 @@ pub struct EntryText {
     pub reason: ReasonCode,
 }
 
-/// A list of version 2, in the words of its fields (RFC 5280 5.1). Its algorithm is the stand-in's.
+/// A CRL of version 2, in the words of its fields (RFC 5280 5.1). Its algorithm is the stand-in's.
 #[derive(Clone, Copy)]
 pub struct CrlText<'a> {
     /// issuer (RFC 5280 5.1.2.3), the first relative distinguished name first.

@@ -149,7 +149,7 @@ fn append_nulls(
     Ok(())
 }
 
-/// All extensions of a list, in their order.
+/// All extensions of a CRL, in their order.
 #[tactic(auto, unfolding(crate::specs::CrlExtensions::crl_extensions))]
 fn write_extensions(alloc: Global, text: &CrlText<'_>) -> Result<Vec<u8>, MakeFault>
     ensures exact { Writes result (flat_map extension_octets (crl_extensions text.now)) }
@@ -164,7 +164,7 @@ fn write_extensions(alloc: Global, text: &CrlText<'_>) -> Result<Vec<u8>, MakeFa
     Ok(extensions)
 }
 
-/// [0] EXPLICIT, the extensions of a list.
+/// [0] EXPLICIT, the extensions of a CRL.
 const LIST_EXTENSIONS: u8 = 0xa0;
 
 /// Appends the field of the extensions, unless there are none (RFC 5280 5.1.2.7).

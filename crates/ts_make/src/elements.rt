@@ -1,4 +1,4 @@
-//! Octets that grow by one element after another, up to what a list may have.
+//! Octets that grow by one element after another, up to what a CRL may have.
 
 ghost use Rattle.std.specs.Prelude.{◌≢◌, ◌%◌, ◌∷◌, ◌++◌};
 ghost use Rattle.ts_der.specs.Element.{encode};

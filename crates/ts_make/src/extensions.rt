@@ -36,7 +36,8 @@ pub(crate) fn append_sequence(
     append_extension(alloc, octets, &[0x55, 0x1d, arc], critical, &value)
 }
 
-/// The same for a SEQUENCE OF what the parts put into a list.
+/// Appends the extension of an arc of id-ce whose value is a SEQUENCE OF what the parts put into a
+/// list, unless that would be empty.
 fn append_list(
     alloc: Global,
     octets: &mut Vec<u8>,

@@ -1,6 +1,6 @@
-//! Certificates and CRLs made to order (RFC 5280 4.1, 5.1): the DER of one
-//! from a description of it, signed by the stand-in for a signature, so that whoever wants to try a
-//! rule writes one line. Reading what is made gives the description.
+//! Certificates and CRLs made for tests (RFC 5280 4.1, 5.1): the DER of one from a description of
+//! it, signed by the stand-in for a signature, so that whoever wants to try a rule writes one line.
+//! Reading what is made gives the description.
 //!
 //! ```text
 //! let octets = make_cert(alloc, &text)?;          // DER of the certificate that `text` describes
@@ -9,28 +9,28 @@
 //!
 //! `make_cert` writes the DER of a version 3 certificate from a description (`CertText`), signed by
 //! the stand-in, so that whoever wants to try a rule writes one value. `specs/Made.antt` is what it
-//! writes, octet for octet. `make_crl` does the same of a CRL of version 2 (`CrlText`,
+//! writes, octet for octet. `make_crl` does so for a CRL of version 2 (`CrlText`,
 //! `specs/CrlMade.antt`).
 //!
 //! - `make_cert`: the octets are the one certificate that says the description, where that has at
 //!   most 65,536 octets and can be read; `TooLong` exactly above that; `Unreadable` exactly where
-//!   reading gives that fault (`made`); what is read from them says the description: version 3, the
-//!   serial number, both names, both moments, the key, no unique identifiers, and of each extension
-//!   the object identifier, whether it is critical, and the octets of its value (`described`); the
+//!   reading gives that fault (`made`); reading them gives the description: version 3, the serial
+//!   number, both names, both moments, the key, no unique identifiers, and of each extension the
+//!   object identifier, whether it is critical, and the octets of its value (`described`); the
 //!   stand-in takes the signature for that of the octets that are signed, under the signer's key
 //!   (`signed`); what is made has moments of the years 0 to 9999; `Unreadable` is only such a
 //!   moment, or extensions that no certificate may have: one occurs twice, or its value is not one
 //!   that it has (`years`, `refused`).
-//! - `make_crl`: the octets are the one list that says the description, where that has at most
+//! - `make_crl`: the octets are the one CRL that says the description, where that has at most
 //!   4,194,304 octets and breaks no rule that has a place; `TooLong` exactly above that;
-//!   `Unreadable` exactly where reading gives such a fault (`made`); they have the shape of the
-//!   list that the description says: version 2, the issuer, both moments, each entry with its
-//!   serial number, the date of thisUpdate and its reason, the number, the base number, the scope
-//!   and the other extensions; reading gives that list, or refuses it for its first critical
-//!   extension that is not processed, or, where there is none, as a delta without a number, and for
-//!   nothing else (`described`); the stand-in takes the signature for that of the octets that are
-//!   signed, under the signer's key (`signed`); what is made has moments of the years 0 to 9999;
-//!   `Unreadable` is only such a moment, or extensions that no list may have (`years`, `refused`).
+//!   `Unreadable` exactly where reading gives such a fault (`made`); they have the shape of the CRL
+//!   that the description says: version 2, the issuer, both moments, each entry with its serial
+//!   number, the date of thisUpdate and its reason, the number, the base number, the scope and the
+//!   other extensions; reading gives that CRL, or refuses it for its first critical extension that
+//!   is not processed, or, where there is none, as a delta CRL without a number, and for nothing
+//!   else (`described`); the stand-in takes the signature for that of the octets that are signed,
+//!   under the signer's key (`signed`); what is made has moments of the years 0 to 9999;
+//!   `Unreadable` is only such a moment, or extensions that no CRL may have (`years`, `refused`).
 //! - `Display` of `MakeFault`: what is printed is `Memory`, `TooLong`, or `Unreadable(RULE at N)`
 //!   with the name of the rule and its place in decimal (`output`).
 //! - laws (`laws`): a moment is written in one way: a UTCTime from 1950 to 2049, else a
@@ -44,11 +44,11 @@
 //!
 //! # Not promised
 //!
-//! Only tested: worked certificates and lists to the octet, with and without extensions, made by
+//! Only tested: worked certificates and CRLs to the octet, with and without extensions, made by
 //! another tool; that `Memory` is answered where an allocation failed, and only there
 //! (`tools/growths/run`, no part of the gate, refuses each allocation of both makers in turn,
-//! through `trustd lab`). Neither proved nor tested: that the values of a list's number, base
-//! number and scope are read back as the description says them (their octets are proved).
+//! through `trustd lab`). Neither proved nor tested: that the values of a CRL's number, base number
+//! and scope are read back as the description says them (their octets are proved).
 #![tactic(auto)]
 
 mod certificate;

@@ -31,7 +31,8 @@ fn write_crl(
     this: &TimeText,
     next: &TimeText,
 ) -> Result<Vec<u8>, MakeFault>
-    ensures exact { Writes result (made_crl (time_octets this.now) (time_octets next.now) text.now) }
+    ensures exact { Writes result
+        (made_crl (time_octets this.now) (time_octets next.now) text.now) }
     ensures sayable { OnOk result (IsSayableCrl text.now) }
 {
     let mut fields = write_crl_tbs(alloc, text, this, next)?;
@@ -41,7 +42,7 @@ fn write_crl(
     element(alloc, SEQUENCE, &fields)
 }
 
-/// The same, unless it breaks a rule that has a place.
+/// Writes a CRL, and refuses it where it breaks a rule that has a place.
 fn write_whole_crl(
     alloc: Global,
     text: &CrlText<'_>,
@@ -62,21 +63,21 @@ fn write_whole_crl(
     }
 }
 
-/// The DER of the list that a description says, signed by the stand-in under the signer's key.
+/// The DER of the CRL that a description says, signed by the stand-in under the signer's key.
 ///
 /// # Errors
 ///
 /// `TooLong` exactly where the octets would be more than 4,194,304; `Unreadable` exactly where a
-/// rule that has a place is broken: a moment lies outside the years 0 to 9999, which no list can
-/// say, or the extensions are not those that a list may have; `Memory` only where memory ran out. A
+/// rule that has a place is broken: a moment lies outside the years 0 to 9999, which no CRL can
+/// say, or the extensions are not those that a CRL may have; `Memory` only where memory ran out. A
 /// critical extension that is not processed is no error, nor is a base number without a number:
-/// what is made is the list that says it, which reading refuses.
+/// what is made is the CRL that says it, which reading refuses.
 pub fn make_crl(alloc: Global, text: &CrlText<'_>) -> Result<Vec<u8>, MakeFault>
-    // It is the one list that says the description, where a list may be so long.
+    // It is the one CRL that says the description, where a CRL may be so long.
     ensures made { (this next : List ℕ) × IsTimeOf this text.now.this_update
         × IsTimeOf next text.now.next_update
         × AnswersCrl IsTaken result (made_crl this next text.now) }
-    // It has the shape of the list that the description says, and reading gives that list, or
+    // It has the shape of the CRL that the description says, and reading gives that CRL, or
     // refuses it for its first critical extension that is not processed, or as a delta without a
     // number.
     ensures described { IfOk result
@@ -89,7 +90,7 @@ pub fn make_crl(alloc: Global, text: &CrlText<'_>) -> Result<Vec<u8>, MakeFault>
     // Moments outside of the years 0 to 9999 have no encoding.
     ensures years { OnOk result (IsInYears 0 9999 text.now.this_update
         × IsInYears 0 9999 text.now.next_update) }
-    // For no other reason is refused what was written.
+    // A CRL that was written is refused for no other reason.
     ensures refused { IfErr result (IsCrlRefusal text.now) }
 {
     write_whole_crl(

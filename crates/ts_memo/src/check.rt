@@ -9,7 +9,7 @@ use ts_check::NativeCheck;
 use ts_digest::Message;
 use ts_sig::{SignatureCheck, WorkingKey};
 
-/// Checks signatures as `NativeCheck` does, and keeps the answers. Contracts see nothing of them.
+/// Checks signatures as `NativeCheck` does, and keeps the answers, which contracts do not see.
 #[derive(Drop)]
 pub struct MemoCheck {
     memo: RefCell<Memo>,

@@ -22,7 +22,7 @@
 //! - [`ServedCheck`]'s `good`: `served_accepts`: the native check, what it or a table takes, or
 //!   the stand-in.
 //!
-//! Where memory is refused the answer is computed, and nothing is kept.
+//! Where an allocation fails, the answer is computed, and nothing is kept.
 //!
 //! # Not promised
 //!

@@ -18,7 +18,8 @@ use ts_sig::{SignatureCheck, WorkingKey};
 /// How many answers are kept.
 const MAX_ANSWERS: usize = 4_096;
 
-/// The most octets of what is asked, of which the answer is kept: 4,096 of them have 32 MiB.
+/// The most octets that a question may have for its answer to be kept: 4,096 such questions have 32
+/// MiB.
 const MAX_OCTETS: usize = 8_192;
 
 /// How much room the octets of a question have for the lengths of its parts, with some to spare.
@@ -85,7 +86,7 @@ fn push_parameters(out: &mut Vec<u8>, parameters: Option<&[u8]>) -> Result<(), A
     }
 }
 
-/// Writes what is asked.
+/// Writes the octets of a question.
 fn push_question(
     out: &mut Vec<u8>,
     algorithm: &[u8],
@@ -128,7 +129,7 @@ fn octets_of(
 }
 
 impl Memo {
-    /// No answers.
+    /// A memo that keeps no answers yet.
     pub(crate) fn new(alloc: Global) -> Result<Memo, AllocError> {
         let Some(most) = NonZeroUsize::new(MAX_ANSWERS) else {
             return Err(AllocError);
@@ -161,7 +162,7 @@ impl Memo {
         let _before = self.answers.put(signature, Kept { octets, good });
     }
 
-    /// Whether a signature is good: what is kept, or what the native check answers.
+    /// Whether a signature is good: the answer that is kept, or else that of the native check.
     pub(crate) fn good(
         &mut self,
         algorithm: &[u8],

@@ -1,4 +1,4 @@
-//! Text in canonical form (RFC 5280 7.1), without memory.
+//! Text in canonical form (RFC 5280 7.1), without allocation.
 
 ghost use Rattle.std.specs.Prelude.{◌≡◌, ◌↔◌, IsTrue};
 ghost use Rattle.ts_name.specs.Canon.{folded};
@@ -20,6 +20,7 @@ pub(crate) struct Folded<'a> {
 impl<'a> Folded<'a> {
     ghost use Rattle.ts_name.specs.Folding.{left};
 
+    /// The canonical form of a text, from its first octet on; spaces at the front are skipped.
     pub(crate) fn new(text: &'a [u8]) -> Self
         ensures { left result ≡ folded text.now }
     {

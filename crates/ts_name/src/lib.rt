@@ -11,22 +11,24 @@
 //! `attributes` the attributes of one. An attribute is compared by its type and its value.
 //! UTF8String, PrintableString and IA5String are text: two texts are the same when they have the
 //! same words, with A to Z counting as a to z; words are what is between octets 20. A value with
-//! any other tag is compared by that tag and its octets. No call takes memory but those named
-//! `canon`, and the building of canonical forms.
+//! any other tag is compared by that tag and its octets. No call allocates but those named `canon`,
+//! and those that build canonical forms.
 //!
 //! A `General` is a name of one of the nine forms of RFC 5280 4.2.1.6, borrowed from the source:
 //! text is octets below 80, a directory name is a `Name`, and what is within the forms otherName,
 //! x400Address and ediPartyName is not looked into. A `Subtree` is a name and two bounds, of which
 //! a constraint has none (4.2.1.10).
 //!
-//! - `Name::read`: what is read is encoded so: each relative distinguished name a set of one
-//!   attribute or more, in the order of a set (`found`); what has that encoding is read, as those
-//!   attributes (`only`); a refusal is the first rule of the table that is broken, with its place,
-//!   and comes exactly then; what the reading function gives (`fault`, `exact`).
+//! - `Name::read`: the octets encode the name that is given: each relative distinguished name is a
+//!   set of one attribute or more, in the order of a set (`found`); a name that the octets encode
+//!   is read, with its attributes (`only`); a refusal is the first rule of the table that is
+//!   broken, with its place, and comes exactly then; what the reading function gives (`fault`,
+//!   `exact`).
 //! - `is_name`: true exactly where the content of a SEQUENCE is the encoding of a name.
-//! - `Name::read_beside`: the same for another element, which is not read again where it has the
-//!   octets of the name (`exact`).
-//! - `Rdn::read`: the same for one relative distinguished name (`found`, `only`, `fault`, `exact`).
+//! - `Name::read_beside`: as `Name::read`, of another element, which is not read again where it has
+//!   the octets of this name (`exact`).
+//! - `Rdn::read`: as `Name::read`, of one relative distinguished name (`found`, `only`, `fault`,
+//!   `exact`).
 //! - `Name::rdns`, `Rdn::attributes`, and the iterators: the relative distinguished names, and the
 //!   attributes, front to back (their clauses, `next_gives`).
 //! - `Name::same`: true exactly where the canonical forms are equal.
@@ -39,14 +41,14 @@
 //!   attribute; attributes in ascending order, sorted once; a relative distinguished name at the
 //!   end; at an `Err` nothing changes (their clauses, `ok`, `err`).
 //! - `Canon::same` (which is `==`): true exactly where the two canonical forms are equal.
-//! - `General::read`: what is read is that form of name, with those octets (`found`); what is
-//!   encoded so is read, as that name (`only`); a refusal is the first rule of the table that is
-//!   broken, with its place, and comes exactly then; what the reading function gives (`fault`,
-//!   `exact`).
+//! - `General::read`: the octets encode the name that is given, in its form (`found`); a name that
+//!   the octets encode is the one that is given (`only`); a refusal is the first rule of the table
+//!   that is broken, with its place, and comes exactly then; what the reading function gives
+//!   (`fault`, `exact`).
 //! - `General::has_address_length`, `has_range_length`: true exactly where an IP address has 4
 //!   octets or 16; as a constraint 8 or 32; true of every other form.
-//! - `Subtree::read_element`: the same for a subtree: a minimum of 0 that is encoded is refused
-//!   (`found`, `only`, `fault`, `exact`).
+//! - `Subtree::read_element`: as `General::read`, of a subtree: a minimum of 0 that is encoded is
+//!   refused (`found`, `only`, `fault`, `exact`).
 //! - `Subtree::read`: the octets are one subtree and nothing more, its minimum is zero, it has no
 //!   maximum, and an IP address has a mask; a refusal is the first rule that is broken, those of
 //!   DER before `SubtreeBounds`, and that before `AddressLength` (`found`, `only`, `fault`).
@@ -60,14 +62,13 @@
 //!   `Subtree` there is a SEQUENCE (`reading`, `record_of`).
 //! - laws (`laws`): two names are the same exactly where their canonical forms are equal
 //!   (`same_is_one_canonical_form`); to be one name is an equivalence; within is reflexive and
-//!   transitive, and names
-//!   within one another are one; names that are one are interchangeable in `within`
-//!   (`same_is_an_equivalence`, `within_is_an_order`, `same_names_are_interchangeable`).
+//!   transitive, and two names within each other are one; names that are one are interchangeable in
+//!   `within` (`same_is_an_equivalence`, `within_is_an_order`, `same_names_are_interchangeable`).
 //!
 //! # Not promised
 //!
-//! Only tested: that the calls that take memory succeed when there is enough; worked names (as a
-//! check of the definitions). Neither proved nor tested: that the order of `Canon` (`<`, `cmp`,
+//! Only tested: that the calls that allocate succeed when there is enough memory; worked names (as
+//! a check of the definitions). Neither proved nor tested: that the order of `Canon` (`<`, `cmp`,
 //! derived) means more than some total order; the time of a comparison of two names, which sorts
 //! the attributes of a relative distinguished name in tables on the stack where the two don't have
 //! them in one order (n log n up to 9,600 attributes; a set with more is counted, in the square);

@@ -145,7 +145,7 @@ fn is_one_short_attribute(content: &[u8]) -> bool
     are_in_character_set(*tag, value)
 }
 
-/// What is in a set that is a relative distinguished name, and its order.
+/// Checks what is in a set that is a relative distinguished name, and its order.
 #[tactic(auto, unfolding(crate::specs::Names::rdn_of))]
 fn check_any_rdn(set: Element<'_>) -> Result<(), Fault>
     ensures { refusal result ≡ refusal (rdn_of (now set.entry)) }
@@ -164,7 +164,8 @@ fn check_any_rdn(set: Element<'_>) -> Result<(), Fault>
     Ok(())
 }
 
-/// The same, with a short way for what is in most names.
+/// Checks what is in a set that is a relative distinguished name, with a short way for the one
+/// short attribute that is in most.
 #[inline(always)]
 fn check_rdn(set: Element<'_>) -> Result<(), Fault>
     ensures { refusal result ≡ refusal (rdn_of (now set.entry)) }
@@ -241,6 +242,7 @@ impl<'a> Name<'a> {
     }
 }
 
+/// The name that an element's content is, or the first rule that it breaks.
 #[inline(always)]
 fn read_name<'a>(element: Element<'a>) -> Result<Name<'a>, Fault>
     ensures { Answers rdns_in result (name_of (now element.entry)) }
@@ -264,6 +266,7 @@ impl<'a> Rdn<'a> {
     }
 }
 
+/// The relative distinguished name that an element's content is, or the first rule that it breaks.
 fn read_rdn<'a>(element: Element<'a>) -> Result<Rdn<'a>, Fault>
     ensures { Answers attributes_in result (rdn_of (now element.entry)) }
 {

@@ -1,4 +1,4 @@
-//! Names compared in canonical form (RFC 5280 7.1), without memory.
+//! Names compared in canonical form (RFC 5280 7.1), without allocation.
 
 ghost use Rattle.std.specs.Prelude.{◌≡◌, ◌≤◌, ◌↔◌, true, IsTrue, IfSome, map, length};
 ghost use Rattle.ts_name.specs.Canon.{canon_attr, canon_rdn, count_of};

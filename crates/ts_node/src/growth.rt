@@ -37,7 +37,7 @@ pub(crate) fn push_copies<C: Command>(
     Ok(())
 }
 
-/// Two ids have the same octets.
+/// Whether two ids have the same octets.
 pub(crate) fn is_same(a: &[u8], b: &[u8]) -> bool
     ensures equal { result ≡ true → a.now ≡ b.now }
     ensures different { result ≡ false → a.now ≢ b.now }
@@ -45,7 +45,7 @@ pub(crate) fn is_same(a: &[u8], b: &[u8]) -> bool
     a == b
 }
 
-/// A command has this id.
+/// Whether a command has this id.
 fn has_this_id<C: Command, M: Machine<C>>(command: &C, id: &[u8; 16]) -> bool
     ensures { result ≡ same_id (M.client_id command.now) id.now }
 {
@@ -54,7 +54,8 @@ fn has_this_id<C: Command, M: Machine<C>>(command: &C, id: &[u8; 16]) -> bool
 }
 
 impl<C: Command> Roles<C> {
-    /// One of the commands that join the prefix with a step has this id. It looks at those alone.
+    /// Whether one of the commands that join the prefix with a step has this id. It looks at those
+    /// alone.
     fn joins<M: Machine<C>>(
         &self,
         step: &LogStep<C>,

@@ -14,7 +14,7 @@ pub enum Input<C, Q> {
     /// A question of a client, about the state after the first k commands, or after all that are
     /// learned without a gap.
     Ask { k: Option<u32>, question: Q },
-    /// A client asks what became of the command with this id.
+    /// A client asks for the outcome of the command with this id.
     Outcome([u8; 16]),
     /// The node is to ask the others for what it has not learned.
     CatchUp,
@@ -51,12 +51,12 @@ pub struct Output<C, O, A> {
 /// Why a node answers nothing.
 #[derive(Debug, PartialEq, Eq, Clone, Copy)]
 pub enum NodeFault {
-    /// A growth was refused, and nothing else happened.
+    /// An allocation was refused, and nothing else happened.
     Memory,
     /// A device failed in this call. The node is broken until it is opened again.
     DiskFailed,
     /// A device failed in an earlier call; or memory was refused to a turn when its roles were
-    /// ahead of the record, in this call or in an earlier one. The node is opened again.
+    /// ahead of the record, in this call or in an earlier one. The node has to be opened again.
     Broken,
     /// The greatest round used or seen is the last one.
     RoundsExhausted,

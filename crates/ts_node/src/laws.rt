@@ -17,10 +17,10 @@ use ts_synod::{Codec, Command};
 ///
 /// A run is what the contracts of `Node::handle`, `Node::turn` and `Node::open` allow
 /// (`calls_are_allowed`): each call meets that of `handle` or of `turn`, and each opening that of
-/// `open` on images that a crash may leave. At each moment the nodes have the facts, by their
-/// force, and the messages of one run of the protocol's world. The premises: at most nine nodes,
-/// each of which was first opened on what `Record::format` left for its own number, and has a
-/// machine of the same basis; and no message that was not sent is delivered.
+/// `open` on images that a crash may leave. At each moment the nodes' facts are equivalent to those
+/// of one run of the protocol's world, and the messages are those of that run. The premises: at
+/// most nine nodes, each of which was first opened on what `Record::format` left for its own
+/// number, and has a machine of the same basis; and no message that was not sent is delivered.
 pub fn headline<D: Disk, C: Command + Codec, M: Machine<C>>()
     ensures { (basis : M.Basis) (n : ℕ) (start : Group D C M M.Outcome M.Question M.Answer)
         (run : List (Happening D C M M.Outcome M.Question M.Answer)) → n ≤ 9

@@ -22,19 +22,19 @@
 //!   within the call leaves nothing new; `owner`: which node; `fault`: the record's faults and no
 //!   others, but for out of memory; `same`, `machine`.
 //! - `Node::handle`: `step`: facts, volatile part, messages and reply are those of the world's
-//!   step, for each world's node whose facts are of the force of this one's; `moments`: at every
-//!   moment each pair of images opens to the facts before, or to those and the step's; `compacts`:
-//!   a compaction leaves the force of the facts, and the rest; `failed`, `broken`: broken after a
-//!   device's failure; `sound`, `config`, `basis`.
+//!   step, for each world's node whose facts are equivalent to this one's (`SameForce`); `moments`:
+//!   at every moment each pair of images opens to the facts before, or to those and the step's;
+//!   `compacts`: a compaction leaves equivalent facts, and the rest; `failed`, `broken`: broken
+//!   after a device's failure; `sound`, `config`, `basis`.
 //! - `Node::identity`: which node of which group it is, as its record has it.
-//! - `Node::turn`: `turned`: the same of a turn of the world's node: the event and the
-//!   deliveries of the messages to the node itself among the first 64 that it makes, in their
-//!   order; `given`: those that it took are not given out; `ends`: it leaves such a message
-//!   only where it has looked at 64, or where a record can't keep its facts with the others at
-//!   once; `alone`: an input that makes no such message is handled as by `handle`. A node alone
-//!   so knows a command after one append in place of four. Where memory is refused once the
-//!   roles are ahead of the record the node is broken, as after a device's failure, and nothing
-//!   of the turn is kept.
+//! - `Node::turn`: `turned`: facts, volatile part, messages and reply are those of a turn of the
+//!   world's node: the event and the deliveries of the messages to the node itself among the first
+//!   64 that it makes, in their order; `given`: those that it took are not given out; `ends`: it
+//!   leaves such a message only where it has looked at 64, or where a record can't keep its facts
+//!   with the others at once; `alone`: an input that makes no such message is handled as by
+//!   `handle`. So a group of one node knows a command after one append instead of four. Where
+//!   memory is refused once the roles are ahead of the record the node is broken, as after a
+//!   device's failure, and nothing of the turn is kept.
 //! - `headline`: what is promised of every run of nodes (`specs/Run`). `calls_are_allowed`:
 //!   these runs are the lists of calls that meet their contracts, with stops between and within
 //!   them.

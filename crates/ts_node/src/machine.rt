@@ -11,13 +11,13 @@ use std::alloc::AllocError;
 /// function of the commands that it took, in their order, so two machines that took the same
 /// commands give the same outcomes and answers.
 pub trait Machine<C>: Drop {
-    /// What becomes of a command.
+    /// The outcome of a command.
     type Outcome: Drop;
 
-    /// What a client asks.
+    /// A question of a client.
     type Question;
 
-    /// What it is answered.
+    /// The answer to a question.
     type Answer: Drop;
 
     /// What the answers rest on beside the commands, as a check of signatures. No call changes it.

@@ -71,8 +71,8 @@ impl<D: Disk, C: Command + Codec, M: Machine<C>> Node<D, C, M> {
         ensures owner { IfOk result (λ node. (choice : Choice)
             × IsChosen choice (D.state a).read (D.state b).read
             × (config node ≡ record { nodes = choice.owner.nodes; me = choice.owner.node })) }
-        // Where what is read opens to facts as the record of a member, these are the node's, and it
-        // is that member; or memory or a device failed.
+        // Where the two images open to facts as the record of a member, these are the node's, and
+        // it is that member; or memory or a device failed.
         ensures only { (whose : Member) (kept : List (Fact C))
             → OpensTo C.octets whose kept (D.state a).read (D.state b).read
             → MatchResult result (λ node. (facts node ≡ kept) × (owner node ≡ whose))
@@ -153,8 +153,8 @@ impl<D: Disk, C: Command + Codec, M: Machine<C>> Node<D, C, M> {
         (a, b, machine)
     }
 
-    /// A device failed, or memory was refused to a turn whose roles were ahead of the record. The
-    /// node does nothing more until it is opened again.
+    /// Whether a device failed, or memory was refused to a turn whose roles were ahead of the
+    /// record. The node then does nothing more until it is opened again.
     pub fn is_broken(&self) -> bool
         ensures broken { result ≡ is_broken self.now }
         ensures whole { result ≡ false → self.now.kept.broken ≡ false }
@@ -288,7 +288,7 @@ impl<D: Disk, C: Command + Codec, M: Machine<C>> Node<D, C, M> {
     }
 }
 
-/// A record's fault, in a call of a node.
+/// The node's fault for a record's fault.
 fn fault_of(fault: Fault) -> NodeFault
     ensures { result ≡ fault_as fault }
 {

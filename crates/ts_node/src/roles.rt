@@ -34,7 +34,8 @@ impl<C: Command> Roles<C> {
         requires { nodes ≤ 9 }
         ensures stand { IfOk result (λ roles. StandFor roles facts.now) }
         ensures volatile { IfOk result (λ roles. volatile_of roles ≡ initial) }
-        ensures config { IfOk result (λ roles. config_of roles ≡ record { nodes = nodes; me = me }) }
+        ensures config { IfOk result
+            (λ roles. config_of roles ≡ record { nodes = nodes; me = me }) }
     {
         let acceptor = Acceptor::open(alloc, me, nodes, facts)?;
         let log = Log::open(alloc, me, nodes, facts)?;
@@ -49,6 +50,7 @@ impl<C: Command> Roles<C> {
         })
     }
 
+    /// Makes the change of a step of the acceptor. The roles then stand for the step's facts too.
     fn keep_accept(&mut self, step: AcceptorStep<C>)
         requires { acceptor_steps.IsLatest self.old.acceptor step }
         ensures stand { (facts : List (Fact C)) → StandFor self.old facts
@@ -60,6 +62,7 @@ impl<C: Command> Roles<C> {
         self.acceptor.keep(step);
     }
 
+    /// Makes the change of a step of the proposer. The roles then stand for the step's facts too.
     fn keep_propose(&mut self, step: ProposerStep<C>)
         requires latest { proposer_steps.IsLatest self.old.proposer step }
         requires used { AllUsed step.facts.items }
@@ -76,6 +79,7 @@ impl<C: Command> Roles<C> {
         self.proposer.keep(step);
     }
 
+    /// Makes the change of a step of the log. The roles then stand for the step's facts too.
     fn keep_learn(&mut self, step: LogStep<C>)
         requires { log_steps.IsLatest self.old.log step }
         ensures stand { (facts : List (Fact C)) → StandFor self.old facts

@@ -6,15 +6,17 @@ ghost use Rattle.ts_record.specs.Facts.{AllFit, Fits, IsBallot, IsPosition, enco
 use std::alloc::{AllocError, Global};
 use ts_synod::{Ballot, Codec, Fact};
 
-/// The most octets of a record's body.
+/// The most octets of an entry of a record.
 pub(crate) const MAX_BODY: usize = 4_194_500;
 
+/// Whether a number is a position of the log, which are 1 to 1,000,000.
 fn is_position(position: u32) -> bool
     ensures { (result ≡ true) ↔ IsPosition position }
 {
     1 <= position && position <= 1_000_000
 }
 
+/// Whether a number is a ballot: a round of 1 to 4,294,967,295, times 16, plus a node of 1 to 9.
 fn is_ballot(ballot: Ballot) -> bool
     ensures { (result ≡ true) ↔ IsBallot ballot }
 {
@@ -23,8 +25,8 @@ fn is_ballot(ballot: Ballot) -> bool
 
 /// How many octets a command has, if it has some and a record can keep them.
 fn command_size<C: Codec>(alloc: Global, command: &C) -> Result<Option<usize>, AllocError>
-    ensures some { IfOk result (λ found. IfSome found (λ size. (size ≡ length (C.octets command.now))
-        × (1 ≤ size) × (size ≤ 4194500))) }
+    ensures some { IfOk result (λ found. IfSome found
+        (λ size. (size ≡ length (C.octets command.now)) × (1 ≤ size) × (size ≤ 4194500))) }
     ensures none { IfOk result (λ found. IfNone found (1 ≤ length (C.octets command.now)
         → length (C.octets command.now) ≤ 4194500 → ⊥)) }
 {

@@ -93,7 +93,8 @@ impl<C: Command> Roles<C> {
         Ok(Reply::Answered { k: at, answer })
     }
 
-    /// What became of the command with an id.
+    /// The reply that has the position and the outcome of the first command with an id in the log's
+    /// prefix, or `Unknown` where none is in it.
     pub fn outcome<M: Machine<C>>(
         &self,
         machine: &mut M,

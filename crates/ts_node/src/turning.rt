@@ -24,7 +24,7 @@ use ts_disk::Disk;
 use ts_record::Fault;
 use ts_synod::{Codec, Command, Message};
 
-/// One of the messages is to this node.
+/// Whether one of the messages is to this node.
 fn has_own<C>(messages: &[Message<C>], me: u8) -> bool
     ensures { result ≡ has_own me messages.now }
 {
@@ -268,8 +268,8 @@ impl<D: Disk, C: Command + Codec, M: Machine<C>> Node<D, C, M> {
         }
     }
 
-    /// What a fault of the record comes to at the end of a turn: where no device failed, the roles
-    /// are ahead of it.
+    /// The node's fault for a fault of the record at the end of a turn: where no device failed, the
+    /// roles are ahead of the record, and the node is broken.
     fn stop(&mut self, fault: Fault) -> NodeFault
         ensures failed { fault ≡ DiskFailed
             → (result ≡ NodeFault.DiskFailed) × (self.new ≡ self.old) }

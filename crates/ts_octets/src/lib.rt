@@ -9,7 +9,7 @@
 //! To contracts an [`Octets`] is the list of its octets.
 //!
 //! - [`Octets::of`], [`Octets::copy_of`]: the octets that are given.
-//! - [`Octets::share`]: the same octets. It takes no memory, and fails only where as many owners
+//! - [`Octets::share`]: the same octets. It allocates nothing, and fails only where as many owners
 //!   are there as the counter of owners holds.
 //! - [`Octets::as_slice`]: the octets.
 //!

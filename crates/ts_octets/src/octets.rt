@@ -45,7 +45,7 @@ impl Octets {
         Octets::of(alloc, Vec::from_slice(alloc, octets)?)
     }
 
-    /// One owner more of the same octets, which takes no memory.
+    /// One owner more of the same octets, without an allocation.
     ///
     /// # Errors
     ///

@@ -44,7 +44,7 @@ fn push_count(
     html.raw("</dd>\n")
 }
 
-/// What is said above a verdict.
+/// The start of a verdict's section, with its heading.
 fn title_of(valid: Option<bool>) -> &'static str {
     match valid {
         Some(true) => "<section class=\"valid\" id=\"verdict\">\n<h2>Valid</h2>\n",

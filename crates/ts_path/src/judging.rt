@@ -34,6 +34,7 @@ use ts_policy::{Certificate, Policies};
 use ts_revoke::{Crls, Issuer, Status, status};
 use ts_sig::{Message, SignatureCheck};
 
+/// Whether the validity of the certificate has begun at the moment that is asked for.
 fn has_begun(cert: &Cert<'_>, inputs: &Inputs<'_>) -> bool
     ensures { IsTrue result ↔ ((cert_in cert.now).tbsCertificate.validity.not_before.moment ≤ℤ
         inputs.now.moment) }
@@ -41,6 +42,7 @@ fn has_begun(cert: &Cert<'_>, inputs: &Inputs<'_>) -> bool
     cert.validity().not_before.moment <= inputs.moment
 }
 
+/// Whether the validity of the certificate has not ended at the moment that is asked for.
 fn has_not_ended(cert: &Cert<'_>, inputs: &Inputs<'_>) -> bool
     ensures { IsTrue result ↔ (inputs.now.moment ≤ℤ
         (cert_in cert.now).tbsCertificate.validity.not_after.moment) }
@@ -49,6 +51,7 @@ fn has_not_ended(cert: &Cert<'_>, inputs: &Inputs<'_>) -> bool
 }
 
 impl<'a> State<'a> {
+    /// Whether the check accepts the certificate's signature under the working public key.
     fn is_signed<S: SignatureCheck>(&self, cert: &Cert<'a>, check: &S) -> bool
         ensures { result ≡ S.accepts check.now
             (cert_in cert.now).signatureAlgorithm.whole self.now.key (cert_in cert.now).tbs
@@ -87,6 +90,7 @@ impl<'a> State<'a> {
         self.bounds.check(cert, last)
     }
 
+    /// Whether the certificate's issuer is the working issuer name (RFC 5280 6.1.3 (a) (4)).
     fn is_issued(&self, cert: &Cert<'a>) -> bool
         ensures { IsTrue result ↔ (canon_name (cert_in cert.now).tbsCertificate.issuer
             ≡ canon_name self.now.name) }

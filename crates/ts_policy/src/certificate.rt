@@ -53,7 +53,8 @@ impl<'a> Certificate<'a> {
         }
     }
 
-    /// Whether anyPolicy, if stated, counts.
+    /// Whether anyPolicy, if it is stated, counts: it does while it is not inhibited, and in a
+    /// self-issued certificate before the last (RFC 5280 6.1.3 (d) (2)).
     pub(crate) fn any_counts(&self) -> bool
         ensures { result ≡ any_counts (policies_in self.now) }
     {
@@ -61,6 +62,7 @@ impl<'a> Certificate<'a> {
     }
 }
 
+/// Whether a mapping has anyPolicy on either side.
 fn names_any(mappings: &[Mapping<'_>]) -> bool
     ensures { result ≡ maps_any_of mappings.now }
 {

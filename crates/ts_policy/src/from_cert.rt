@@ -49,6 +49,7 @@ impl<'a> Certificate<'a> {
     }
 }
 
+/// The policies of a certificate's certificatePolicies; `None` where the extension is absent.
 fn stated_by<'a>(alloc: Global, cert: Cert<'a>) -> Result<Option<Vec<&'a [u8]>>, AllocError>
     ensures { IfOk result (λ r. option_map (λ v. map (λ p. p.now) v.items) r
         ≡ policies_of (cert_in cert.entry).tbsCertificate) }
@@ -59,6 +60,7 @@ fn stated_by<'a>(alloc: Global, cert: Cert<'a>) -> Result<Option<Vec<&'a [u8]>>,
     }
 }
 
+/// The content octets of each policy's object identifier, in order.
 fn labels_of<'a>(
     alloc: Global,
     policies: CertificatePolicies<'a>,
@@ -73,6 +75,7 @@ fn labels_of<'a>(
     Ok(labels)
 }
 
+/// The pairs of a certificate's policyMappings, none where the extension is absent.
 fn mapped_by<'a>(alloc: Global, cert: Cert<'a>) -> Result<Vec<Mapping<'a>>, AllocError>
     ensures { IfOk result (λ v. map mapping_in v.items
         ≡ mappings_of (cert_in cert.entry).tbsCertificate) }
@@ -86,6 +89,7 @@ fn mapped_by<'a>(alloc: Global, cert: Cert<'a>) -> Result<Vec<Mapping<'a>>, Allo
     }
 }
 
+/// The pairs of policyMappings, in order.
 fn pairs_of<'a>(alloc: Global, mappings: PolicyMappings<'a>) -> Result<Vec<Mapping<'a>>, AllocError>
     ensures { IfOk result (λ v. map mapping_in v.items ≡ pairs (mappings_in mappings.entry)) }
 {

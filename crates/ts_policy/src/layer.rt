@@ -19,6 +19,7 @@ pub(crate) struct Link<'a> {
     pub(crate) above: &'a [u8],
 }
 
+/// The label of each link, in order.
 fn link_labels<'a>(alloc: Global, links: &[Link<'a>]) -> Result<Vec<&'a [u8]>, AllocError>
     ensures { IfOk result (λ labels. labels.items ≡ map (λ x. x.label) links.now) }
 {
@@ -104,6 +105,8 @@ pub(crate) fn next_layer<'a>(
     Ok(links)
 }
 
+/// The links to a label above from each issuer domain policy of the mappings that is not among the
+/// labels.
 fn absent<'a>(
     alloc: Global,
     labels: &Labels<'a>,
@@ -175,13 +178,14 @@ fn unmapped<'a>(
         .collect(alloc)
 }
 
+/// The issuer domain policy of each mapping, in order.
 fn issuer_domains<'a>(alloc: Global, mappings: &[Mapping<'a>]) -> Result<Vec<&'a [u8]>, AllocError>
     ensures { IfOk result (λ labels. labels.items ≡ map (λ m. m.issuer_domain) mappings.now) }
 {
     mappings.iter().map(|m| m.issuer_domain).collect(alloc)
 }
 
-/// What a certificate maps.
+/// The issuer domain policies of the mappings, as a set.
 fn mapped_by<'a>(alloc: Global, mappings: &[Mapping<'a>]) -> Result<Labels<'a>, AllocError>
     ensures { IfOk result (λ labels. (p : Label)
         → has labels p ≡ layers.is_from (map mapping_in mappings.now) p) }

@@ -19,8 +19,8 @@ use std::marker::Model;
 
 /// The policies of the certificates of a path that were taken so far, from the trust anchor's side.
 ///
-/// Each call but [`is_empty`](Policies::is_empty) takes the value, so after a refusal of memory
-/// there is none.
+/// Each call but [`is_empty`](Policies::is_empty) takes the value, so there is none left when
+/// memory has run out.
 #[derive(Drop)]
 pub struct Policies<'a> {
     taken: Vec<Certificate<'a>>,
@@ -203,6 +203,7 @@ fn tops<'a>(
         .collect(alloc)
 }
 
+/// The labels above of those links whose own label is alive.
 fn above_alive<'a>(
     alloc: Global,
     links: &[Link<'a>],
@@ -249,12 +250,14 @@ fn accepts_any(user: &[&[u8]]) -> bool
     user.is_empty() || names_any(user)
 }
 
+/// Whether anyPolicy is among the user's policies.
 fn names_any(user: &[&[u8]]) -> bool
     ensures { result ≡ list_any (λ p. same p.now anyPolicy) user.now }
 {
     user.iter().any(|p| is_any(p))
 }
 
+/// The user's policies that were found, in the user's order.
 fn members<'a>(
     alloc: Global,
     found: &Labels<'a>,

@@ -422,11 +422,12 @@ impl<C: Command> Proposer<C> {
         Ok(step)
     }
 
-    /// Puts a step in force, which takes no memory.
+    /// Makes a step's change, which takes no memory.
     pub fn keep(&mut self, step: Step<C>)
         requires { IsLatest self.old step }
         ensures state { state_of self.new ≡ state_after self.old step.change }
-        ensures used { (facts : List (Fact C)) → StandsFor self.old facts → StandsFor self.new (facts ++ step.facts.items) }
+        ensures used { (facts : List (Fact C)) → StandsFor self.old facts
+            → StandsFor self.new (facts ++ step.facts.items) }
         ensures config { config_of self.new ≡ config_of self.old }
     {
         let Step {

@@ -1,4 +1,4 @@
--- What contracts see of the rows that are lent.
+-- What contracts see of the rows that are borrowed.
 use Rattle.ts_question.specs.Rows.{AnchorLine, CrlLine, CommandLine}
 use Rattle.ts_question.specs.declared.rows.AnchorRow.{AnchorRow}
 use Rattle.ts_question.specs.declared.rows.CrlRow.{CrlRow}

@@ -62,9 +62,10 @@ impl Answer {
     ///
     /// Out of memory.
     pub fn read(alloc: Global, octets: &[u8]) -> Result<Option<Answer>, AllocError>
-        // What is read is encoded so.
-        ensures found { IfOk result (λ read. IfSome read (λ a. Fits a × (octets.now ≡ encoding a))) }
-        // What is encoded so is read.
+        // The octets are the encoding of the answer that is read.
+        ensures found { IfOk result (λ read. IfSome read
+            (λ a. Fits a × (octets.now ≡ encoding a))) }
+        // Octets that encode an answer are read as it.
         ensures only { (a : Answered) → Fits a → octets.now ≡ encoding a
             → IfOk result (λ read. read ≡ Some a) }
     {

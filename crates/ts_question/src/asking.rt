@@ -105,11 +105,12 @@ impl Question {
     ///
     /// Out of memory.
     pub fn read(alloc: Global, octets: &[u8]) -> Result<Option<Question>, AllocError>
-        // What is read, by the definition of reading.
+        // The result is the one that the definition of reading gives.
         ensures exact { IfOk result (λ read. read ≡ whole (question_at octets.now)) }
-        // What is read is encoded so.
-        ensures found { IfOk result (λ read. IfSome read (λ q. Fits q × (octets.now ≡ encoding q))) }
-        // What is encoded so is read.
+        // The octets are the encoding of the question that is read.
+        ensures found { IfOk result (λ read. IfSome read
+            (λ q. Fits q × (octets.now ≡ encoding q))) }
+        // Octets that encode a question are read as it.
         ensures only { (q : Asked) → Fits q → octets.now ≡ encoding q
             → IfOk result (λ read. read ≡ Some q) }
     {

@@ -26,12 +26,13 @@
 //! - [`Question::chain`], [`Question::search`], [`Question::store`], [`Question::log`]:
 //!   `OutOfLimits` exactly where `is_within` (`specs/Question`) is false.
 //! - [`Answer::new`]: `OutOfLimits` exactly where `is_answer` (`specs/Reply`) is false.
-//! - [`Question::read`], [`Answer::read`]: `found`, `only`: what is read is encoded so, and what is
-//!   encoded so is read.
+//! - [`Question::read`], [`Answer::read`]: `found`, `only`: a value is read exactly from the
+//!   octets that are its encoding.
 //! - [`Question::octets`], [`Question::write`], [`Answer::octets`], [`Answer::write`]: the
 //!   encoding; `fits`: each value has one.
-//! - [`AnchorRow`], [`CrlRow`], [`CommandRow`]: the rows of a page (`specs/Rows`), lent. `read`:
-//!   `found`, `only`, as of a question; `write`: the encoding, of what fits.
+//! - [`AnchorRow`], [`CrlRow`], [`CommandRow`]: the rows of a page (`specs/Rows`), which borrow
+//!   their strings. `read`: `found`, `only`, as of a question; `write`: the encoding, of a row that
+//!   fits.
 //! - [`laws::one_question`], [`laws::one_answer`]: no two values have one encoding, and no two
 //!   lists of octets are one value's. [`laws::one_row`]: no two rows have one encoding.
 //!

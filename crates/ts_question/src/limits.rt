@@ -14,18 +14,21 @@ use ts_codec::MAX_POSITION;
 /// The most octets of an initial subtree.
 const MAX_SUBTREE: usize = 65_535;
 
+/// Whether each string has at most so many octets.
 fn all_short(strings: &[Vec<u8>], most: usize) -> bool
     ensures { result ≡ list_all (λ s. nat_le (length s.items) most) strings.now }
 {
     strings.iter().all(|s| s.len() <= most)
 }
 
+/// Whether each string of a list has at most so many octets.
 fn are_short(strings: &OctetStrings, most: usize) -> bool
     ensures { result ≡ list_all (λ s. nat_le (length s) most) strings.now }
 {
     all_short(strings.as_slice(), most)
 }
 
+/// Whether a position of the store is absent or at most 1,000,000.
 fn is_position(k: Option<u32>) -> bool
     ensures { result ≡ is_position k }
 {
@@ -35,12 +38,15 @@ fn is_position(k: Option<u32>) -> bool
     }
 }
 
+/// Whether there are at most 64 subtrees, each of at most 65,535 octets.
 pub(crate) fn are_subtrees(subtrees: &OctetStrings) -> bool
     ensures { result ≡ are_subtrees subtrees.now }
 {
     subtrees.len() <= MAX_SUBTREES && are_short(subtrees, MAX_SUBTREE)
 }
 
+/// Whether terms are within their limits: the position, the number of policies, and the subtrees of
+/// both kinds.
 pub(crate) fn are_terms(terms: &Terms) -> bool
     ensures { result ≡ are_terms terms.now }
 {
@@ -50,6 +56,8 @@ pub(crate) fn are_terms(terms: &Terms) -> bool
         && are_subtrees(&terms.excluded_subtrees)
 }
 
+/// Whether there is at least one certificate, there are at most so many, and each has at most
+/// 65,536 octets.
 fn are_certificates(most: usize, certificates: &OctetStrings) -> bool
     ensures { result ≡ are_certificates most certificates.now }
 {
@@ -58,6 +66,8 @@ fn are_certificates(most: usize, certificates: &OctetStrings) -> bool
         && are_short(certificates, MAX_CERTIFICATE)
 }
 
+/// Whether a target is within its limits: a chain has at most 16 certificates, and a search at most
+/// 33.
 pub(crate) fn is_target(target: &Target) -> bool
     ensures { result ≡ is_target target.now }
 {
@@ -84,6 +94,7 @@ fn is_digest(digest: [u8; 32])
     ensures { length digest ≡ 32 }
 {}
 
+/// A number of 32 bits is below 2^32.
 pub(crate) fn fits_four_octets(number: u32)
     ensures { nat_lt number 4294967296 ≡ true }
 {}

@@ -28,7 +28,7 @@ impl OctetStrings {
         OctetStrings { strings }
     }
 
-    /// None.
+    /// No strings.
     pub fn empty(alloc: Global) -> OctetStrings
         ensures { result ≡ [] }
     {

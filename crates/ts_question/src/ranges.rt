@@ -14,6 +14,7 @@ use crate::reply::Reply;
 /// The most places: their number is an octet.
 const MAX_PLACES: usize = 255;
 
+/// Whether a place occurs among places.
 fn has(places: &[u8], place: u8) -> bool
     ensures { result ≡ list_any (λ p. p == place) places.now }
 {
@@ -34,6 +35,7 @@ fn is_distinct(places: &[u8]) -> bool
     true
 }
 
+/// Whether the last place is 1, the leaf's. False where there are no places.
 fn ends_in_leaf(places: &[u8]) -> bool
     ensures { result ≡ (slice_index places.now (length places.now - 1) == 1) }
 {
@@ -43,18 +45,22 @@ fn ends_in_leaf(places: &[u8]) -> bool
     }
 }
 
+/// Whether places can be those of a chain that was found: at most 255, distinct, and with the leaf
+/// last.
 pub(crate) fn are_places(places: &[u8]) -> bool
     ensures { result ≡ are_places places.now }
 {
     places.len() <= MAX_PLACES && ends_in_leaf(places) && is_distinct(places)
 }
 
+/// Whether the number of policies fits four octets.
 fn are_countable(policies: &Oids) -> bool
     ensures { result ≡ are_countable policies.now }
 {
     policies.as_slice().len() < 1 << 32
 }
 
+/// Whether a number is a certificate's position in a chain, which are 1 to 16.
 pub(crate) fn is_place(position: u8) -> bool
     ensures { result ≡ is_place position }
 {
@@ -88,6 +94,7 @@ fn is_digest(digest: [u8; 32])
     ensures { length digest ≡ 32 }
 {}
 
+/// The detail of a reason has an encoding.
 fn detail_fits(reason: &Reason)
     ensures { DetailFits reason.now }
 {

@@ -29,6 +29,7 @@ pub const MAX_POLICIES: usize = 32;
 /// The most initial subtrees of a kind.
 pub const MAX_SUBTREES: usize = 64;
 
+/// Whether the bit of this weight is set in an octet.
 fn is_set(octet: u8, weight: u8) -> bool
     requires { 0 < weight }
     ensures { result ≡ bit octet weight }
@@ -36,6 +37,8 @@ fn is_set(octet: u8, weight: u8) -> bool
     octet / weight % 2 == 1
 }
 
+/// The flags octet, and what follows it. It is refused where the highest bit is set, which has no
+/// meaning.
 #[tactic(auto, unfolding(crate::specs::QuestionReading::presence_at))]
 fn presence(octets: &[u8]) -> Result<(Presence, &[u8]), ReadFault>
     ensures { Gives (λ x. (x.0, x.1.now)) result (presence_at octets.now) }
@@ -59,6 +62,7 @@ fn presence(octets: &[u8]) -> Result<(Presence, &[u8]), ReadFault>
     Ok((presence, rest))
 }
 
+/// The position that begins here, where `there` says that one does, and what follows it.
 #[tactic(auto, unfolding(ts_codec::specs::Reading::optional_at))]
 fn optional_position(there: bool, octets: &[u8]) -> Result<(Option<u32>, &[u8]), ReadFault>
     ensures { Gives (λ x. (x.0, x.1.now)) result (optional_at prefix_at there octets.now) }
@@ -70,6 +74,7 @@ fn optional_position(there: bool, octets: &[u8]) -> Result<(Option<u32>, &[u8]),
     Ok((Some(k), rest))
 }
 
+/// The object identifier that begins here, where `there` says that one does, and what follows it.
 #[tactic(auto, unfolding(ts_codec::specs::Reading::optional_at))]
 fn optional_oid(
     alloc: Global,
@@ -85,6 +90,7 @@ fn optional_oid(
     Ok((Some(oid), rest))
 }
 
+/// The user's policies, and what follows them. More than 32 are refused.
 #[tactic(auto, unfolding(crate::specs::QuestionReading::policies_at))]
 fn policies(alloc: Global, octets: &[u8]) -> Result<(Oids, &[u8]), ReadFault>
     ensures { Gives (λ x. (x.0, x.1.now)) result (policies_at octets.now) }
@@ -98,7 +104,7 @@ fn policies(alloc: Global, octets: &[u8]) -> Result<(Oids, &[u8]), ReadFault>
     Ok((Oids::new(oids), rest))
 }
 
-/// So many subtrees.
+/// So many subtrees, and what follows them.
 fn subtrees_of(
     alloc: Global,
     count: usize,
@@ -116,6 +122,7 @@ fn subtrees_of(
     Ok((strings, rest))
 }
 
+/// The initial subtrees of a kind, and what follows them. More than 64 are refused.
 #[tactic(auto, unfolding(crate::specs::QuestionReading::subtrees_at))]
 pub(crate) fn subtrees(alloc: Global, octets: &[u8]) -> Result<(OctetStrings, &[u8]), ReadFault>
     ensures { Gives (λ x. (x.0, x.1.now)) result (subtrees_at octets.now) }
@@ -128,7 +135,7 @@ pub(crate) fn subtrees(alloc: Global, octets: &[u8]) -> Result<(OctetStrings, &[
     subtrees_of(alloc, count, rest)
 }
 
-/// So many certificates.
+/// So many certificates, and what follows them.
 fn certificates_of(
     alloc: Global,
     count: usize,
@@ -146,6 +153,7 @@ fn certificates_of(
     Ok((strings, rest))
 }
 
+/// The certificates, and what follows them. None, and more than the most, are refused.
 #[tactic(auto, unfolding(crate::specs::QuestionReading::certificates_at))]
 fn certificates(
     alloc: Global,
@@ -162,6 +170,7 @@ fn certificates(
     certificates_of(alloc, count, rest)
 }
 
+/// The terms of a question, and what follows them.
 #[tactic(auto, unfolding(crate::specs::QuestionReading::terms_at))]
 fn terms(alloc: Global, octets: &[u8]) -> Result<(Terms, &[u8]), ReadFault>
     ensures { Gives (λ x. (x.0, x.1.now)) result (terms_at octets.now) }
@@ -185,6 +194,7 @@ fn terms(alloc: Global, octets: &[u8]) -> Result<(Terms, &[u8]), ReadFault>
     Ok((terms, rest))
 }
 
+/// The target of a question of this kind, and what follows it. An unknown kind is refused.
 #[tactic(auto, unfolding(ts_codec::specs::Reading::of_kind))]
 fn target(alloc: Global, kind: u8, octets: &[u8]) -> Result<(Target, &[u8]), ReadFault>
     ensures { Gives (λ x. (x.0, x.1.now)) result (of_kind targets kind octets.now) }

@@ -16,6 +16,7 @@ use std::alloc::Global;
 use ts_codec::ReadFault;
 use ts_codec::reading::{blob8, digest, number32, octet, oid, oids, prefix, tag};
 
+/// The accepted policies, and what follows them.
 #[tactic(auto, unfolding(crate::specs::ReplyReading::accepted_at))]
 fn accepted(alloc: Global, octets: &[u8]) -> Result<(Oids, &[u8]), ReadFault>
     ensures { Gives (λ x. (x.0, x.1.now)) result (accepted_at octets.now) }
@@ -59,6 +60,7 @@ fn detail(alloc: Global, number: u8, octets: &[u8]) -> Result<(Reason, &[u8]), R
     }
 }
 
+/// The reason for which a chain is invalid, and what follows it.
 #[tactic(auto, unfolding(crate::specs::ReplyReading::reason_at))]
 fn reason(alloc: Global, octets: &[u8]) -> Result<(Reason, &[u8]), ReadFault>
     ensures { Gives (λ x. (x.0, x.1.now)) result (reason_at octets.now) }
@@ -68,6 +70,7 @@ fn reason(alloc: Global, octets: &[u8]) -> Result<(Reason, &[u8]), ReadFault>
     Ok((reason, rest))
 }
 
+/// The reply that a chain is valid, from the fields after its tag, and what follows them.
 #[tactic(auto, unfolding(crate::specs::ReplyReading::valid_at))]
 fn valid(alloc: Global, octets: &[u8]) -> Result<(Reply, &[u8]), ReadFault>
     ensures { Gives (λ x. (x.0, x.1.now)) result (valid_at octets.now) }
@@ -77,6 +80,8 @@ fn valid(alloc: Global, octets: &[u8]) -> Result<(Reply, &[u8]), ReadFault>
     Ok((Reply::Valid { anchor, policies }, rest))
 }
 
+/// The reply that a chain is not valid, from the fields after its tag, and what follows them. A
+/// position that is not 1 to 16 is refused.
 #[tactic(auto, unfolding(crate::specs::ReplyReading::invalid_at))]
 fn invalid(alloc: Global, octets: &[u8]) -> Result<(Reply, &[u8]), ReadFault>
     ensures { Gives (λ x. (x.0, x.1.now)) result (invalid_at octets.now) }
@@ -89,6 +94,8 @@ fn invalid(alloc: Global, octets: &[u8]) -> Result<(Reply, &[u8]), ReadFault>
     Ok((Reply::Invalid { position, reason }, rest))
 }
 
+/// The reply that a chain was found, from the fields after its tag, and what follows them. Places
+/// that can't be those of a chain are refused.
 #[tactic(auto, unfolding(crate::specs::ReplyReading::found_at))]
 fn found(alloc: Global, octets: &[u8]) -> Result<(Reply, &[u8]), ReadFault>
     ensures { Gives (λ x. (x.0, x.1.now)) result (found_at octets.now) }
@@ -108,6 +115,8 @@ fn found(alloc: Global, octets: &[u8]) -> Result<(Reply, &[u8]), ReadFault>
     Ok((reply, rest))
 }
 
+/// The reply that the node knows of fewer than k commands, from the field after its tag, and what
+/// follows it. A number that is not below k is refused.
 #[tactic(auto, unfolding(crate::specs::ReplyReading::not_yet_at))]
 fn not_yet(k: u32, octets: &[u8]) -> Result<(Reply, &[u8]), ReadFault>
     ensures { Gives (λ x. (x.0, x.1.now)) result (not_yet_at k octets.now) }
@@ -119,6 +128,8 @@ fn not_yet(k: u32, octets: &[u8]) -> Result<(Reply, &[u8]), ReadFault>
     Ok((Reply::NotYet { prefix }, rest))
 }
 
+/// The reply that a part of the question can't be read, from the fields after its tag, and what
+/// follows them.
 #[tactic(auto, unfolding(crate::specs::ReplyReading::malformed_at))]
 fn malformed(octets: &[u8]) -> Result<(Reply, &[u8]), ReadFault>
     ensures { Gives (λ x. (x.0, x.1.now)) result (malformed_at octets.now) }
@@ -134,6 +145,8 @@ fn malformed(octets: &[u8]) -> Result<(Reply, &[u8]), ReadFault>
     Ok((reply, rest))
 }
 
+/// The reply that is a page of rows, from the fields after its tag, and what follows them. More
+/// than 64 rows are refused.
 #[tactic(auto, unfolding(crate::specs::ReplyReading::page_at))]
 fn page(alloc: Global, octets: &[u8]) -> Result<(Reply, &[u8]), ReadFault>
     ensures { Gives (λ x. (x.0, x.1.now)) result (page_at octets.now) }

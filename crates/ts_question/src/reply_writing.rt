@@ -12,6 +12,7 @@ use crate::writing::push_subtrees;
 use std::alloc::AllocError;
 use ts_codec::writing::{push_oid, push_oids};
 
+/// Writes the number of the accepted policies, and the contents octets of each.
 fn push_accepted(out: &mut Vec<u8>, policies: &Oids) -> Result<(), AllocError>
     requires { are_countable policies.now ≡ true }
     ensures { OnOk result (out.new.items ≡ out.old.items ++ accepted_encoding policies.now) }
@@ -21,6 +22,7 @@ fn push_accepted(out: &mut Vec<u8>, policies: &Oids) -> Result<(), AllocError>
     push_oids(out, policies)
 }
 
+/// Writes the number of a reason, and its detail where it has one.
 fn push_reason(out: &mut Vec<u8>, reason: &Reason) -> Result<(), AllocError>
     ensures { OnOk result (out.new.items ≡ out.old.items ++ reason_encoding reason.now) }
 {
@@ -33,6 +35,7 @@ fn push_reason(out: &mut Vec<u8>, reason: &Reason) -> Result<(), AllocError>
     Ok(())
 }
 
+/// Writes the number of places, and the places.
 fn push_places(out: &mut Vec<u8>, places: &Places) -> Result<(), AllocError>
     requires { are_places places.now ≡ true }
     ensures { OnOk result (out.new.items ≡ out.old.items ++ blob8 places.now) }
@@ -43,6 +46,7 @@ fn push_places(out: &mut Vec<u8>, places: &Places) -> Result<(), AllocError>
     Ok(())
 }
 
+/// The tag of a reply.
 pub(crate) fn tag_of(reply: &Reply) -> u8
     ensures { result ≡ tag_of reply.now }
 {

@@ -9,6 +9,7 @@ use crate::rows::{AnchorRow, CommandRow, CrlRow};
 use ts_codec::ReadFault;
 use ts_codec::reading::{blob16, digest, id, number32, octet, signed, tag};
 
+/// The row of an anchor that begins here, and what follows it. Its strings are borrowed.
 #[tactic(auto, unfolding(crate::specs::RowReading::anchor_at))]
 fn anchor(octets: &[u8]) -> Result<(AnchorRow<'_>, &[u8]), ReadFault>
     ensures { Gives (λ x. (anchor_line x.0, x.1.now)) result (anchor_at octets.now) }
@@ -25,6 +26,7 @@ fn anchor(octets: &[u8]) -> Result<(AnchorRow<'_>, &[u8]), ReadFault>
     Ok((row, rest))
 }
 
+/// The row of a CRL that begins here, and what follows it. Its strings are borrowed.
 #[tactic(auto, unfolding(crate::specs::RowReading::crl_at))]
 fn crl(octets: &[u8]) -> Result<(CrlRow<'_>, &[u8]), ReadFault>
     ensures { Gives (λ x. (crl_line x.0, x.1.now)) result (crl_at octets.now) }
@@ -53,6 +55,7 @@ fn crl(octets: &[u8]) -> Result<(CrlRow<'_>, &[u8]), ReadFault>
     Ok((row, rest))
 }
 
+/// The row of a command that begins here, and what follows it. Its strings are borrowed.
 #[tactic(auto, unfolding(crate::specs::RowReading::command_at))]
 fn command(octets: &[u8]) -> Result<(CommandRow<'_>, &[u8]), ReadFault>
     ensures { Gives (λ x. (command_line x.0, x.1.now)) result (command_at octets.now) }

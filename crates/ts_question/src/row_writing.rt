@@ -10,6 +10,7 @@ use crate::rows::{AnchorRow, CommandRow, CrlRow};
 use std::alloc::AllocError;
 use ts_codec::writing::push_blob16;
 
+/// Writes a moment as eight octets in two's complement, the highest first.
 #[tactic(auto, unfolding(crate::specs::Rows::moment_encoding))]
 fn push_moment(out: &mut Vec<u8>, moment: i64) -> Result<(), AllocError>
     ensures { OnOk result (out.new.items ≡ out.old.items ++ moment_encoding moment) }

@@ -73,10 +73,10 @@ impl<'a> AnchorRow<'a> {
     ///
     /// Out of memory.
     pub fn read(octets: &'a [u8]) -> Result<Option<AnchorRow<'a>>, AllocError>
-        // What is read is encoded so.
+        // The octets are the encoding of the row that is read.
         ensures found { IfOk result (λ read. IfSome read (λ r. AnchorFits (anchor_line r)
             × (octets.now ≡ anchor_encoding (anchor_line r)))) }
-        // What is encoded so is read.
+        // Octets that encode a row are read as it.
         ensures only { (l : AnchorLine) → AnchorFits l → octets.now ≡ anchor_encoding l
             → IfOk result (λ read. option_map anchor_line read ≡ Some l) }
     {
@@ -108,10 +108,10 @@ impl<'a> CrlRow<'a> {
     ///
     /// Out of memory.
     pub fn read(octets: &'a [u8]) -> Result<Option<CrlRow<'a>>, AllocError>
-        // What is read is encoded so.
+        // The octets are the encoding of the row that is read.
         ensures found { IfOk result (λ read. IfSome read (λ r. CrlFits (crl_line r)
             × (octets.now ≡ crl_encoding (crl_line r)))) }
-        // What is encoded so is read.
+        // Octets that encode a row are read as it.
         ensures only { (l : CrlLine) → CrlFits l → octets.now ≡ crl_encoding l
             → IfOk result (λ read. option_map crl_line read ≡ Some l) }
     {
@@ -142,10 +142,10 @@ impl<'a> CommandRow<'a> {
     ///
     /// Out of memory.
     pub fn read(octets: &'a [u8]) -> Result<Option<CommandRow<'a>>, AllocError>
-        // What is read is encoded so.
+        // The octets are the encoding of the row that is read.
         ensures found { IfOk result (λ read. IfSome read (λ r. CommandFits (command_line r)
             × (octets.now ≡ command_encoding (command_line r)))) }
-        // What is encoded so is read.
+        // Octets that encode a row are read as it.
         ensures only { (l : CommandLine) → CommandFits l → octets.now ≡ command_encoding l
             → IfOk result (λ read. option_map command_line read ≡ Some l) }
     {

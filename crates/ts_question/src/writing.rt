@@ -17,6 +17,7 @@ use std::alloc::AllocError;
 use ts_codec::writing::{push_blob16, push_blob32, push_number32, push_oid, push_oids};
 use ts_der::Oid;
 
+/// Writes an octet of the number of policies, and the contents octets of each.
 fn push_policies(out: &mut Vec<u8>, policies: &Oids) -> Result<(), AllocError>
     requires { length policies.now ≤ 32 }
     ensures { OnOk result (out.new.items ≡ out.old.items ++ policies_encoding policies.now) }
@@ -26,6 +27,7 @@ fn push_policies(out: &mut Vec<u8>, policies: &Oids) -> Result<(), AllocError>
     push_oids(out, policies)
 }
 
+/// Writes each subtree behind its length in two octets.
 fn push_subtrees_of(out: &mut Vec<u8>, subtrees: &[Vec<u8>]) -> Result<(), AllocError>
     requires { list_all (λ s. nat_le (length s) 65535) (map (λ s. s.items) subtrees.now) ≡ true }
     ensures { OnOk result (out.new.items
@@ -37,6 +39,7 @@ fn push_subtrees_of(out: &mut Vec<u8>, subtrees: &[Vec<u8>]) -> Result<(), Alloc
     Ok(())
 }
 
+/// Writes two octets of the number of subtrees, and each behind its length.
 pub(crate) fn push_subtrees(out: &mut Vec<u8>, subtrees: &OctetStrings) -> Result<(), AllocError>
     requires { are_subtrees subtrees.now ≡ true }
     ensures { OnOk result (out.new.items ≡ out.old.items ++ subtrees_encoding subtrees.now) }
@@ -45,6 +48,7 @@ pub(crate) fn push_subtrees(out: &mut Vec<u8>, subtrees: &OctetStrings) -> Resul
     push_subtrees_of(out, subtrees.as_slice())
 }
 
+/// Writes each certificate behind its length in four octets.
 fn push_certificates_of(out: &mut Vec<u8>, certificates: &[Vec<u8>]) -> Result<(), AllocError>
     requires { list_all (λ c. nat_le (length c) 65536) (map (λ c. c.items) certificates.now)
         ≡ true }
@@ -57,9 +61,11 @@ fn push_certificates_of(out: &mut Vec<u8>, certificates: &[Vec<u8>]) -> Result<(
     Ok(())
 }
 
+/// Writes an octet of the number of certificates, and each behind its length.
 fn push_certificates(out: &mut Vec<u8>, certificates: &OctetStrings) -> Result<(), AllocError>
     requires { are_certificates 33 certificates.now ≡ true }
-    ensures { OnOk result (out.new.items ≡ out.old.items ++ certificates_encoding certificates.now) }
+    ensures { OnOk result (out.new.items
+        ≡ out.old.items ++ certificates_encoding certificates.now) }
 {
     out.push(certificates.len() as u8)?;
     push_certificates_of(out, certificates.as_slice())
@@ -73,6 +79,7 @@ fn above(bit: bool, others: u8) -> u8
     u8::from(bit) + 2 * others
 }
 
+/// The flags octet, which also says whether k and a purpose are there.
 fn octet_of(flags: Flags, k: bool, purpose: bool) -> u8
     ensures { result ≡ flags_octet flags k purpose }
 {
@@ -87,6 +94,7 @@ fn octet_of(flags: Flags, k: bool, purpose: bool) -> u8
     )
 }
 
+/// Writes k in four octets, where it is there.
 fn push_position(out: &mut Vec<u8>, k: Option<u32>) -> Result<(), AllocError>
     ensures { OnOk result (out.new.items ≡ out.old.items ++ optional (to_be_bytes w32) k) }
 {
@@ -96,6 +104,7 @@ fn push_position(out: &mut Vec<u8>, k: Option<u32>) -> Result<(), AllocError>
     Ok(())
 }
 
+/// Writes the purpose behind its length, where it is there.
 fn push_purpose(out: &mut Vec<u8>, purpose: &Option<Oid>) -> Result<(), AllocError>
     ensures { OnOk result (out.new.items ≡ out.old.items ++ optional blob8 purpose.now) }
 {

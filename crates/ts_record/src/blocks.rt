@@ -14,7 +14,7 @@ use crate::reading::{read_facts, u32_at};
 use std::alloc::Global;
 use ts_synod::{Codec, Fact};
 
-/// The length of a body that begins here.
+/// The length of an entry that begins here.
 fn length_at(layout: Layout, rest: &[u8]) -> Option<usize>
     requires { layout.longest_body < 2 ^ 32 }
     ensures { MatchOption result ((n : ℕ) (after : List ℕ) → IsLength layout n
@@ -29,14 +29,14 @@ fn length_at(layout: Layout, rest: &[u8]) -> Option<usize>
     Some(size)
 }
 
-/// A fact list, and the offset of the closed gate after it.
+/// A list of facts, and the offset of the clear commit byte after it.
 #[derive(Drop)]
 pub(crate) struct Contents<C> {
     pub facts: Vec<Fact<C>>,
     pub end: usize,
 }
 
-/// Reads the blocks from the first gate on, up to the closed gate after the last.
+/// Reads the blocks from the first commit byte on, up to the clear one after the last.
 pub(crate) fn read_blocks<C: Codec>(
     alloc: Global,
     layout: Layout,

@@ -1,4 +1,4 @@
-//! The facts that make up the force of a list, each once.
+//! The facts that a list of facts is equivalent to (`SameForce`), each once.
 
 ghost use Rattle.std.specs.Prelude.{◌≡◌, ◌≤◌, ◌^◌, ◌++◌, [], suc, length, Some, IfOk, OnOk};
 ghost use Rattle.ts_synod.specs.Force.{round_used_by, used_round, greater_vote};
@@ -16,6 +16,7 @@ struct Place<C> {
     learned: Option<C>,
 }
 
+/// The position that a fact is about; 0 for a round.
 fn position<C: Codec>(fact: &Fact<C>) -> u32
     ensures { result ≡ position_of fact.now }
 {
@@ -37,6 +38,7 @@ fn position<C: Codec>(fact: &Fact<C>) -> u32
     }
 }
 
+/// The round that a fact says is used; 0 for the other kinds of fact.
 fn round<C: Codec>(fact: &Fact<C>) -> u32
     ensures { result ≡ round_used_by fact.now }
 {
@@ -59,6 +61,7 @@ fn bounds<C: Codec>(facts: &[Fact<C>]) -> (u32, u32)
     (last, used)
 }
 
+/// A table of so many positions, of which no fact says anything.
 fn empty_places<C: Codec>(alloc: Global, count: usize) -> Result<Vec<Place<C>>, AllocError>
     ensures { IfOk result (λ table. table.items ≡ places 0 count []) }
 {
@@ -73,6 +76,7 @@ fn empty_places<C: Codec>(alloc: Global, count: usize) -> Result<Vec<Place<C>>, 
     Ok(table)
 }
 
+/// Makes a vote the one that was taken, where its ballot is greater or none was taken before.
 fn take_vote<C: Codec>(
     alloc: Global,
     taken: &mut Option<Vote<C>>,
@@ -138,6 +142,8 @@ fn table_of<C: Codec>(
     Ok(table)
 }
 
+/// Adds the facts of a position: its promise, the vote taken and the command learned, where it has
+/// them.
 fn push_place<C: Codec>(
     alloc: Global,
     out: &mut Vec<Fact<C>>,
@@ -187,8 +193,9 @@ fn listed<C: Codec>(
     Ok(out)
 }
 
-/// The facts that make up the force of these, in time that is linear in them and in the last
-/// position.
+/// Of these facts those that a rewrite copies: the greatest round, and for each position the
+/// greatest promise, the vote of the greatest ballot and the command learned. The time is linear in
+/// the facts and in the last position.
 pub(crate) fn compact<C: Codec>(
     alloc: Global,
     facts: &[Fact<C>],

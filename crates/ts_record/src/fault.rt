@@ -10,7 +10,7 @@ use ts_disk::DiskFault;
 /// What a call of a record answers in place of a value.
 #[derive(Clone, Copy, Debug, PartialEq, Eq)]
 pub enum Fault {
-    /// A growth was refused, and nothing else happened.
+    /// An allocation was refused, and nothing else happened.
     Memory,
     /// A device failed in this call. The record is broken until it is opened again.
     DiskFailed,
@@ -22,7 +22,7 @@ pub enum Fault {
     NotFormatted,
     /// The first disk has a record of version 1, which `Record::migrate` reads.
     OldVersion,
-    /// The gate, length or body that begins at this offset can't be read.
+    /// The commit byte, length or entry that begins at this offset can't be read.
     Damaged(usize),
 }
 

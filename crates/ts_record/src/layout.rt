@@ -1,7 +1,7 @@
 //! Where the blocks of an image begin, and how long they may be.
 
-/// Where the first gate of an image is, and how many octets a body may have, by the record's
-/// version.
+/// The offset of the first commit byte of an image, and how many octets an entry may have, by the
+/// record's version.
 #[derive(Clone, Copy)]
 pub(crate) struct Layout {
     pub first_gate: usize,
@@ -14,7 +14,7 @@ pub(crate) const VERSION_1: Layout = Layout {
     longest_body: 1_048_700,
 };
 
-/// After a header of 24 octets and a live gate.
+/// After a header of 24 octets and a live byte.
 pub(crate) const VERSION_2: Layout = Layout {
     first_gate: 25,
     longest_body: 4_194_500,

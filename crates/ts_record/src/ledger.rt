@@ -77,7 +77,7 @@ fn begin<D: Disk, C: Codec>(c: &mut Ledger<D, C>) -> Result<(), Fault>
     Ok(())
 }
 
-/// The third step: copies one fact, as a body of its own.
+/// The third step: copies one fact, as an entry of its own.
 fn copy<D: Disk, C: Codec>(alloc: Global, c: &mut Ledger<D, C>) -> Result<(), Fault>
     requires keeps { Keeps D.state C.octets c.old }
     requires copying { c.old.journal.stage ≡ Copying }

@@ -11,8 +11,8 @@
 //!
 //! - `Record::format`: `first`, `second`: the octets; `opens`: each pair of images opens to no
 //!   facts.
-//! - `Record::open`: `opens`: each pair of images opens to the facts; `only`: where what is read
-//!   opens to facts as the record of a node, these are answered, and it is that node's, or memory
+//! - `Record::open`: `opens`: each pair of images opens to the facts; `only`: where the two images
+//!   open to facts as the record of a node, these are answered, and it is that node's, or memory
 //!   or a device failed; `moments`: a crash within the call leaves nothing new; `fault`: where each
 //!   fault comes from; `same`, `owner`.
 //! - `Record::append`: `moments`: at every moment each pair of images opens to the facts before, or
@@ -20,7 +20,7 @@
 //!   `refused`: at a fault the facts stay, and so does the rewrite; `memory`, `failed`, `broken`,
 //!   `stays`.
 //! - `Record::compact`: one step of a rewrite on the other disk. `moments`: at every moment each
-//!   pair of images opens to facts of the same force; `from`: before the last step to the facts,
+//!   pair of images opens to equivalent facts; `from`: before the last step to the facts,
 //!   from the disk in use; `steps`, `force`, `opens`, `owner`; `refused`, `memory`, `failed`,
 //!   `broken`, `stays`, `exhausted`, `last`.
 //! - `Record::migrate`: a record of version 1, written again on two other disks. `opens`: each pair

@@ -49,6 +49,8 @@ struct OldRecord<C> {
     contents: Contents<C>,
 }
 
+/// Reads the octets of a disk as a record of version 1. They are refused where they begin with no
+/// header of version 1, or what follows it can't be read.
 fn read_old<C: Codec>(alloc: Global, octets: &[u8]) -> Result<OldRecord<C>, Fault>
     ensures owner { IfOk result (λ old. IsOldOf
         (record { node = old.node; nodes = old.nodes }) octets.now) }
@@ -68,7 +70,7 @@ fn read_old<C: Codec>(alloc: Global, octets: &[u8]) -> Result<OldRecord<C>, Faul
     })
 }
 
-/// The number of facts. More than 2^32 - 1 are refused as memory is.
+/// The number of facts. More than 2^32 - 1 are refused as out of memory.
 fn count<C>(facts: &[Fact<C>]) -> Result<u32, Fault>
     ensures value { IfOk result (λ count. count ≡ length facts.now) }
     ensures fault { IfErr result (λ fault. fault ≡ Memory) }
@@ -80,7 +82,7 @@ fn count<C>(facts: &[Fact<C>]) -> Result<u32, Fault>
 }
 
 impl<D: Disk, C: Codec> Record<D, C> {
-    /// Writes the bodies of a record of version 1, one for one, as a record on two other disks, of
+    /// Writes the entries of a record of version 1, one for one, as a record on two other disks, of
     /// no group, and answers the number of their facts. The old disk is read and not written.
     ///
     /// # Errors

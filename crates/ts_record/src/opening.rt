@@ -26,6 +26,7 @@ pub(crate) struct Found<C> {
     pub contents: Contents<C>,
 }
 
+/// Whether two strings of octets are equal.
 pub(crate) fn is_same(a: &[u8], b: &[u8]) -> bool
     ensures equal { result ≡ true → a.now ≡ b.now }
     ensures different { result ≡ false → a.now ≢ b.now }

@@ -1,4 +1,4 @@
-//! Facts are read from a body.
+//! Facts are read from an entry.
 
 ghost use Rattle.std.specs.Prelude.{◌≡◌, ◌⊎◌, ◌≤◌, ◌<◌, ◌+◌, ◌^◌, ◌++◌, ◌∷◌, [], ℕ, List, length};
 ghost use Rattle.std.specs.Prelude.{drop, take, MatchOption, MatchResult, IfSome, IfOk, OnOk};
@@ -12,6 +12,7 @@ use crate::known::Known;
 use std::alloc::{AllocError, Global};
 use ts_synod::{Codec, Fact};
 
+/// The number in the first four octets, the highest octet first. None where there are fewer.
 pub(crate) fn u32_at(rest: &[u8]) -> Option<u32>
     ensures found { MatchOption result (length rest.now < 4)
         (λ n. rest.now ≡ to_be_bytes w32 n ++ drop 4 rest.now) }
@@ -23,6 +24,7 @@ pub(crate) fn u32_at(rest: &[u8]) -> Option<u32>
     Some(u32::from_be_bytes([rest[0], rest[1], rest[2], rest[3]]))
 }
 
+/// The number in the first eight octets, the highest octet first. None where there are fewer.
 fn u64_at(rest: &[u8]) -> Option<u64>
     ensures found { MatchOption result (length rest.now < 8)
         (λ n. rest.now ≡ to_be_bytes w64 n ++ drop 8 rest.now) }
@@ -36,6 +38,7 @@ fn u64_at(rest: &[u8]) -> Option<u64>
     ]))
 }
 
+/// The round that begins here. None where there is none, as 0 is no round.
 fn round_at(rest: &[u8]) -> Option<u32>
     ensures { MatchOption result ((n : ℕ) (after : List ℕ) → IsRound n
         → rest.now ≡ to_be_bytes w32 n ++ after → ⊥)
@@ -48,6 +51,7 @@ fn round_at(rest: &[u8]) -> Option<u32>
     Some(round)
 }
 
+/// The position that begins here. None where the number is not 1 to 1,000,000.
 fn position_at(rest: &[u8]) -> Option<u32>
     ensures { MatchOption result ((n : ℕ) (after : List ℕ) → IsPosition n
         → rest.now ≡ to_be_bytes w32 n ++ after → ⊥)
@@ -60,6 +64,8 @@ fn position_at(rest: &[u8]) -> Option<u32>
     Some(position)
 }
 
+/// The ballot that begins here. None where the number has no round of 1 to 4,294,967,295 or no node
+/// of 1 to 9.
 fn ballot_at(rest: &[u8]) -> Option<u64>
     ensures { MatchOption result ((n : ℕ) (after : List ℕ) → IsBallot n
         → rest.now ≡ to_be_bytes w64 n ++ after → ⊥)
@@ -107,6 +113,7 @@ fn command_at<'a, C: Codec>(
     }
 }
 
+/// The fact that a round is used, from its fields, and the length of its octets.
 fn used_at<C: Codec>(fields: &[u8]) -> Option<(Fact<C>, usize)>
     ensures { FactOrNot C.octets 1 fields.now result }
 {
@@ -114,6 +121,7 @@ fn used_at<C: Codec>(fields: &[u8]) -> Option<(Fact<C>, usize)>
     Some((Fact::Used { round }, 5))
 }
 
+/// The fact that a ballot is promised, from its fields, and the length of its octets.
 fn promised_at<C: Codec>(fields: &[u8]) -> Option<(Fact<C>, usize)>
     ensures { FactOrNot C.octets 2 fields.now result }
 {
@@ -148,6 +156,7 @@ fn vote_at<'a, C: Codec>(
     }
 }
 
+/// The fact that a vote is taken, from its fields, and the length of its octets.
 fn took_at<'a, C: Codec>(
     alloc: Global,
     fields: &'a [u8],
@@ -172,6 +181,7 @@ fn took_at<'a, C: Codec>(
     }
 }
 
+/// The fact that a command is chosen, from its fields, and the length of its octets.
 fn chosen_at<'a, C: Codec>(
     alloc: Global,
     fields: &'a [u8],
@@ -208,8 +218,8 @@ fn fact_at<'a, C: Codec>(
     }
 }
 
-/// Reads the facts of a whole body after those that are there. False where the body is not a list
-/// of facts; then what is there after those has no meaning.
+/// Reads the facts of a whole entry, and adds them to the list. False where the entry is not a list
+/// of facts; then what was added has no meaning.
 pub(crate) fn read_facts<'a, C: Codec>(
     alloc: Global,
     body: &'a [u8],

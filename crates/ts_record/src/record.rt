@@ -152,13 +152,13 @@ impl<D: Disk, C: Codec> Record<D, C> {
         // No rewrite is begun: one that was not switched is forgotten.
         ensures idle { IfOk result (λ opened. opened.rewrite ≡ idle) }
         ensures whole { IfOk result (λ opened. opened.broken ≡ false) }
-        // What a read gives stays.
+        // A read of each disk gives the same octets as before.
         ensures same { MatchResult result
             (λ opened. ((D.state opened.a).read ≡ (D.state a).read)
             × ((D.state opened.b).read ≡ (D.state b).read))
             (λ refused. ((D.state refused.a).read ≡ (D.state a).read)
             × ((D.state refused.b).read ≡ (D.state b).read)) }
-        // Where what is read opens to facts as the record of a member, these are the record's, and
+        // Where the two images open to facts as the record of a member, these are the record's, and
         // it is that member's; or memory or a device failed.
         ensures only { (owner : Member) (facts : List (Fact C))
             → OpensTo C.octets owner facts (D.state a).read (D.state b).read
@@ -193,7 +193,7 @@ impl<D: Disk, C: Codec> Record<D, C> {
         &self.ledger.facts
     }
 
-    /// A device failed in an earlier call.
+    /// Whether a device failed in an earlier call.
     pub fn is_broken(&self) -> bool
         ensures { result ≡ self.now.broken }
     {
@@ -296,10 +296,10 @@ impl<D: Disk, C: Codec> Record<D, C> {
     }
 
     /// Makes one step of a rewrite of the record on its other disk. The first decides what is
-    /// copied, closes that disk's live gate where it is open, and syncs; the second writes its
-    /// header, of the next generation; then each copies a fact, as a body of its own; and the last
-    /// one opens the live gate, so that the record is on that disk. Facts may be appended between
-    /// two steps, and are copied too. Memory is reserved before the first device call.
+    /// copied, clears that disk's live byte where it is set, and syncs; the second writes its
+    /// header, of the next generation; then each copies a fact, as an entry of its own; and the
+    /// last one sets the live byte, so that the record is on that disk. Facts may be appended
+    /// between two steps, and are copied too. Memory is reserved before the first device call.
     pub fn compact(&mut self, alloc: Global) -> Result<Progress, Fault>
         ensures steps { IfOk result (λ answer. Steps (course self.old) answer (course self.new)) }
 
@@ -309,7 +309,7 @@ impl<D: Disk, C: Codec> Record<D, C> {
         // At a fault the facts stay, and so do the disk in use, its generation and the rewrite.
         ensures refused { OnErr result (course self.new ≡ course self.old) }
 
-        // At every moment each pair of images opens to facts of the same force.
+        // At every moment each pair of images opens to equivalent facts (`SameForce`).
         ensures moments { self.old.broken ≡ false
             → EveryPair (OpensToForce C.octets (member self.old) self.old.facts)
             (D.state self.old.a) (D.state self.old.b) (D.state self.new.a)
@@ -326,7 +326,7 @@ impl<D: Disk, C: Codec> Record<D, C> {
             (OpensToFrom C.octets (member self.new) self.new.swapped self.new.facts)
             (D.state self.new.a) (D.state self.new.b)) }
 
-        // The facts to be copied are of the force of all.
+        // The facts afterwards are equivalent to those before.
         ensures force { OnOk result (SameForce self.new.facts self.old.facts) }
 
         ensures fault { IfErr result (λ fault. (fault ≡ Memory) ⊎ (fault ≡ DiskFailed)

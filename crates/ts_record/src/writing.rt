@@ -1,4 +1,4 @@
-//! Facts are written as a body.
+//! Facts are written as an entry.
 
 ghost use Rattle.std.specs.Prelude.{◌≡◌, ◌≤◌, ◌+◌, ◌^◌, ◌<◌, ◌++◌, length, IfOk, OnOk, cond, []};
 ghost use Rattle.std.specs.Prelude.{◌∷◌, vec_len, vec_capacity};
@@ -44,6 +44,7 @@ pub(crate) fn move_behind<C: Codec>(facts: &mut Vec<Fact<C>>, more: &mut Vec<Fac
     prove!(moved.is_ok());
 }
 
+/// Writes octets behind their length in four octets.
 fn push_blob(out: &mut Vec<u8>, octets: &[u8]) -> Result<(), AllocError>
     requires { length octets.now < 2 ^ 32 }
     ensures { OnOk result (out.new.items ≡ out.old.items ++ blob octets.now) }
@@ -53,6 +54,7 @@ fn push_blob(out: &mut Vec<u8>, octets: &[u8]) -> Result<(), AllocError>
     Ok(())
 }
 
+/// Writes a command's octets behind their length in four octets.
 fn push_command<C: Codec>(alloc: Global, out: &mut Vec<u8>, command: &C) -> Result<(), AllocError>
     requires { length (C.octets command.now) < 2 ^ 32 }
     ensures { OnOk result (out.new.items ≡ out.old.items ++ blob (C.octets command.now)) }
@@ -62,6 +64,7 @@ fn push_command<C: Codec>(alloc: Global, out: &mut Vec<u8>, command: &C) -> Resu
     push_blob(out, &octets)
 }
 
+/// Writes the kind of a fact, and the number that every kind begins with: a round or a position.
 fn push_kind(out: &mut Vec<u8>, kind: u8, number: u32) -> Result<(), AllocError>
     ensures { OnOk result (out.new.items ≡ out.old.items ++ kind ∷ to_be_bytes w32 number) }
 {
@@ -70,6 +73,7 @@ fn push_kind(out: &mut Vec<u8>, kind: u8, number: u32) -> Result<(), AllocError>
     Ok(())
 }
 
+/// Writes the encoding of a fact.
 fn push_encoding<C: Codec>(
     alloc: Global,
     out: &mut Vec<u8>,
@@ -101,6 +105,7 @@ fn push_encoding<C: Codec>(
     Ok(())
 }
 
+/// The encodings of facts, one after another.
 fn encoded<C: Codec>(alloc: Global, facts: &[Fact<C>]) -> Result<Vec<u8>, AllocError>
     requires { length (encodings C.octets facts.now) < 2 ^ 32 }
     ensures { IfOk result (λ octets. octets.items ≡ encodings C.octets facts.now) }
@@ -112,7 +117,7 @@ fn encoded<C: Codec>(alloc: Global, facts: &[Fact<C>]) -> Result<Vec<u8>, AllocE
     Ok(octets)
 }
 
-/// What follows the gate of a body.
+/// What follows the commit byte of an entry: its length, its octets, and a clear commit byte.
 fn framed(alloc: Global, body: &[u8]) -> Result<Vec<u8>, AllocError>
     requires { length body.now ≤ 4194500 }
     ensures { IfOk result (λ octets. octets.items ≡ entry body.now) }
@@ -123,7 +128,7 @@ fn framed(alloc: Global, body: &[u8]) -> Result<Vec<u8>, AllocError>
     Ok(out)
 }
 
-/// What follows the gate of a body of these facts.
+/// What follows the commit byte of an entry of these facts.
 pub(crate) fn entry_of<C: Codec>(alloc: Global, facts: &[Fact<C>]) -> Result<Vec<u8>, AllocError>
     requires { length (encodings C.octets facts.now) ≤ 4194500 }
     ensures { IfOk result (λ octets. octets.items ≡ entry (encodings C.octets facts.now)) }
@@ -133,7 +138,7 @@ pub(crate) fn entry_of<C: Codec>(alloc: Global, facts: &[Fact<C>]) -> Result<Vec
     Ok(out)
 }
 
-/// The same for one fact.
+/// What follows the commit byte of an entry of one fact.
 pub(crate) fn entry_of_one<C: Codec>(alloc: Global, fact: &Fact<C>) -> Result<Vec<u8>, AllocError>
     requires { length (encoding C.octets fact.now) ≤ 4194500 }
     ensures { IfOk result (λ octets. octets.items ≡ entry (encoding C.octets fact.now)) }

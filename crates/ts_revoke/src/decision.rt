@@ -30,7 +30,8 @@ fn by_lists<S: SignatureCheck>(q: &Question<'_>, check: &S) -> Status
     }
 }
 
-/// What CRLs say of a certificate at a moment (RFC 5280 6.3.3). It takes no memory.
+/// The status of a certificate at a moment, by CRLs (RFC 5280 6.3.3). It allocates nothing but what
+/// the signature check does.
 ///
 /// `Revoked` where a usable pair of a pass lists the serial number, 8 (removeFromCRL) aside; else
 /// `Good` where the masks of the usable pairs so far cover all reasons; else what pass 2 says, and

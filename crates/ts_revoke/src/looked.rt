@@ -30,8 +30,8 @@ pub(crate) enum Looked {
     Searched(Option<u8>),
 }
 
-/// Of how many CRLs it is kept, the first ones: as many as a store holds. Of those that come after
-/// them it is found out again.
+/// The number of CRLs, the first ones, for which this is kept: as many as a store holds. For those
+/// after them it is found again.
 pub(crate) const KEPT: usize = 1_024;
 
 /// What is known of the CRL at a place.

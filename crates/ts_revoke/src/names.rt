@@ -1,4 +1,4 @@
-//! Names that two lists of names share, without memory.
+//! Names that two lists of names share, found without allocation.
 
 ghost use Rattle.std.specs.Prelude.{◌≡◌};
 ghost use Rattle.ts_der.specs.Element.{inside};

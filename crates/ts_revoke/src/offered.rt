@@ -17,7 +17,7 @@ use ts_der::Element;
 use ts_ext::{DistributionPoint, DistributionPoints, ReasonSet};
 use ts_shape::SequenceItems;
 
-/// Those of the distribution points within an element.
+/// The reasons of the distribution points within an element.
 fn offered_within<'a>(points: Element<'a>) -> ReasonSet
     ensures { result ≡ offered (items_at point_item (inside (now points.entry))) }
 {
@@ -28,7 +28,7 @@ fn offered_within<'a>(points: Element<'a>) -> ReasonSet
     reasons
 }
 
-/// Those of the distribution points that a certificate may have.
+/// The reasons of the distribution points that a certificate may have.
 pub(crate) fn offered_among(points: &Option<DistributionPoints<'_>>) -> ReasonSet
     ensures { result ≡ offered (unwrap_or (option_map points_in points.now) []) }
 {

@@ -53,7 +53,7 @@ fn nothing(looked: Looked) -> Said
     }
 }
 
-/// Of two revocations that at the lesser place; of two at one place the first.
+/// The revocation at the lesser place, of two; of two at one place, the first.
 #[tactic(auto, unfolding(crate::specs::ByList::earlier))]
 fn earlier(found: Option<Found>, next: Option<Found>) -> Option<Found>
     ensures { result ≡ earlier_of found next }

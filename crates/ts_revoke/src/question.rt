@@ -1,4 +1,4 @@
-//! What is asked of the lists.
+//! What is asked of the CRLs.
 
 use crate::crls::Crls;
 use crate::issuer::Issuer;

@@ -1,4 +1,4 @@
--- The parts of a certificate's extensions as plain data: octets where a description lends them.
+-- The parts of a certificate's extensions as plain data: octets where a description borrows them.
 use Rattle.std.specs.Prelude.{ℕ, List, Option}
 use Rattle.ts_make.specs.declared.description.NameText.{NameText}
 use Rattle.ts_make.specs.declared.description.NameText.TheVariants as name

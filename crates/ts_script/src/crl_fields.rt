@@ -15,7 +15,7 @@ use std::alloc::{AllocError, Global};
 use ts_der::OidRef;
 use ts_make::EntryText;
 
-/// What words say of a list, each part in its field.
+/// What words say of a CRL, each part in its field.
 #[derive(Drop)]
 pub struct CrlFields<'a> {
     pub entries: Vec<EntryText>,

@@ -56,7 +56,7 @@ impl<'a> CrlWords<'a> {
         })
     }
 
-    /// The octets of the list that the words say, where it can be read, unless its name is taken.
+    /// The octets of the CRL that the words say, where it can be read, unless its name is taken.
     fn make(&self, alloc: Global, known: &Symbols) -> Result<Vec<u8>, LineFault>
         ensures made { IfOk result (λ octets. IsCrlMade self.now octets.items) }
         ensures short { IfOk result (λ octets. length octets.items ≤ 4194304) }
@@ -95,7 +95,7 @@ impl<'a> CrlWords<'a> {
     }
 }
 
-/// Answers a `crl` line, and keeps its list.
+/// Answers a `crl` line, and keeps its CRL.
 pub fn answer_crl(alloc: Global, known: &mut Symbols, line: &[u8]) -> Result<String, LineFault>
     ensures said { IfOk result (λ text. IsCrlSaid (known_in known.old) line.now (string_bytes text)
         (known_in known.new)) }
@@ -108,7 +108,7 @@ pub fn answer_crl(alloc: Global, known: &mut Symbols, line: &[u8]) -> Result<Str
     keep(alloc, known, &words)
 }
 
-/// Keeps the list that the words of a `crl` line say, and answers the line.
+/// Keeps the CRL that the words of a `crl` line say, and answers the line.
 fn keep(alloc: Global, known: &mut Symbols, words: &CrlWords<'_>) -> Result<String, LineFault>
     ensures said { IfOk result (λ text. IsCrlKept (known_in known.old) words.now
         (string_bytes text) (known_in known.new)) }
@@ -123,7 +123,7 @@ fn keep(alloc: Global, known: &mut Symbols, words: &CrlWords<'_>) -> Result<Stri
     Ok(text)
 }
 
-/// The text for a list of so many octets.
+/// The text for a CRL of so many octets.
 fn crl_text(alloc: Global, name: &[u8], count: usize) -> Result<String, LineFault>
     ensures said { IfOk result (λ text. string_bytes text
         ≡ codes "crl " ++ (name.now ++ (codes " " ++ (decimal count ++ codes "\n")))) }

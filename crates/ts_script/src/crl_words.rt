@@ -62,7 +62,7 @@ impl CrlKeyword {
     }
 }
 
-/// A word that says something of a list, decoded.
+/// A word that says something of a CRL, decoded.
 #[derive(Drop)]
 pub enum CrlWord<'a> {
     Entry(EntryText),
@@ -98,7 +98,8 @@ impl<'a> CrlWord<'a> {
     /// What a word says.
     fn read(alloc: Global, word: &'a [u8]) -> Result<CrlWord<'a>, LineFault>
         ensures found { IfOk result (λ said. IsCrlWord word.now (crl_part said)) }
-        ensures fault { IfErr result (RefusesWord ((part : CrlPart) → ¬ (IsCrlWord word.now part))) }
+        ensures fault { IfErr result
+            (RefusesWord ((part : CrlPart) → ¬ (IsCrlWord word.now part))) }
     {
         let (keyword, value) = CrlKeyword::cut(word).ok_or(LineFault::Form)?;
         CrlWord::read_value(alloc, keyword, value)

@@ -53,7 +53,7 @@ impl<'a> NameWord<'a> {
 }
 
 impl NameWord<'_> {
-    /// The name, lent.
+    /// The name, borrowed.
     fn lend(&self) -> NameText<'_>
         ensures { name_in result ≡ name_of self.now }
     {
@@ -189,7 +189,8 @@ fn append_bits<'a>(bits: &[u32], parts: &mut Vec<ExtensionText<'a>>) -> Result<(
 
 /// Two object identifiers, joined by `>`.
 fn mapping_in<'a>(alloc: Global, value: &[u8]) -> Result<ExtensionWord<'a>, LineFault>
-    ensures found { IfOk result (λ word. SaysValue Keyword.PolicyMapping value.now (parts_of word)) }
+    ensures found { IfOk result
+        (λ word. SaysValue Keyword.PolicyMapping value.now (parts_of word)) }
     ensures fault { IfErr result (RefusesWord
         ((parts : List Part) → ¬ (SaysValue Keyword.PolicyMapping value.now parts))) }
 {

@@ -69,6 +69,7 @@ impl Options {
         }
     }
 
+    /// Sets the purpose. A second one is refused.
     fn take_purpose(&mut self, purpose: Oid) -> Result<(), LineFault> {
         if self.purpose.is_some() {
             return Err(LineFault::Form);
@@ -77,6 +78,7 @@ impl Options {
         Ok(())
     }
 
+    /// Sets k. A second one, and what is no number, are refused.
     fn take_k(&mut self, value: &[u8]) -> Result<(), LineFault> {
         let k = number_of(value).ok_or(LineFault::Form)?;
         if self.k.is_some() {

@@ -1,6 +1,5 @@
 -- A server: a node, and an outbox of its messages. What it does with one request.
-use Rattle.std.specs.Global.{Vec}
-use Rattle.std.specs.Prelude.{◌≡◌, ◌||◌, ℕ, List, [], ◌∷◌, ◌++◌, map, take, length}
+use Rattle.std.specs.Prelude.{◌≡◌, ◌||◌, List, [], ◌∷◌, ◌++◌, map, take, length}
 use Rattle.std.specs.Prelude.{Bool, true, false, Result}
 use Rattle.ts_disk.specs.Disk.{State}
 use Rattle.ts_synod.specs.Store.{Store}
@@ -16,10 +15,17 @@ use Rattle.ts_node.specs.declared.node.Node.{Node}
 use Rattle.ts_node.specs.Call.{IsCall}
 use Rattle.ts_node.specs.Turn.{IsTurn}
 use Rattle.ts_store.specs.Octets.{octets_of}
+use Rattle.ts_wire.specs.declared.fault.NodeFault.TheVariants.{Memory}
 use Rattle.ts_wire.specs.declared.frame.Frame.{Frame}
 use Rattle.ts_wire.specs.declared.frame.Frame.TheVariants as frames
 use Rattle.ts_serve.specs.declared.server.Server.{Server}
 use Rattle.ts_serve.specs.Replies.{answer_to, is_failure, messages_of}
+
+-- a text, or that memory was refused
+abbrev pub IsReport : Frame → Type 0
+IsReport (frames.Reported text) = Unit {0}
+IsReport (frames.NodeFault fault) = fault ≡ Memory
+IsReport other = ⊥
 
 -- The disks of a node, the store of the world, and what its machine's answers rest on (`ts_node`).
 module _ {D M B : Type 0} (state : D → State)
@@ -59,10 +65,11 @@ module _ {D M B : Type 0} (state : D → State)
         old.node.kept.group ∷ []
     pub same : new ≡ old
 
-  -- A report is answered: a text that the server was given. Nothing changes.
+  -- A report is answered; what it says is up to whoever runs the server. Nothing changes.
   pub record HasReported (old : Server D M) (replies : List Frame) (new : Server D M) : Type 0 where
-    pub text : Vec ℕ
-    pub said : replies ≡ frames.Reported text ∷ []
+    pub frame : Frame
+    pub report : IsReport frame
+    pub said : replies ≡ frame ∷ []
     pub same : new ≡ old
 
   -- What a server answers to each request, and the server then. Other frames are no requests.

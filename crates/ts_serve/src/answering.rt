@@ -25,7 +25,7 @@ use ts_wire::{Frame, FrameFault};
 pub enum AnswerFault {
     /// The frame is no request, and nothing was done.
     NoRequest,
-    /// The request was taken, and its answers found no memory.
+    /// The request was taken, and memory was refused for its answers.
     Memory,
 }
 
@@ -48,7 +48,7 @@ pub fn is_request(frame: &Frame) -> bool
     }
 }
 
-/// What is written for a fault in a frame's place.
+/// The octets that answer a wrong frame: a FrameFault with this fault.
 ///
 /// # Errors
 ///

@@ -32,12 +32,14 @@ fn frames_of(alloc: Global, octets: &[u8]) -> Result<Option<Vec<Frame>>, AllocEr
     Ok(Some(frames))
 }
 
+/// Whether a frame is a message from a node to a node.
 fn is_message(frame: &Frame) -> bool
     ensures { result ≡ is_message frame.now }
 {
     matches!(frame, Frame::Peer(_))
 }
 
+/// Whether all frames are messages from a node to a node.
 fn are_messages(frames: &[Frame]) -> bool
     ensures { result ≡ list_all is_message frames.now }
 {
@@ -54,7 +56,7 @@ fn is_given(frames: &[Frame]) -> bool
     messages.len() <= MAX_WAITING && messages.len() == *count as usize && are_messages(messages)
 }
 
-/// Whether this is what a message is answered.
+/// Whether these frames are an answer to a message.
 fn is_delivered(frames: &[Frame]) -> bool {
     matches!(
         frames,

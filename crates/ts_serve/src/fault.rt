@@ -18,7 +18,7 @@ pub enum ServeFault {
     ReadLimit,
     /// The stream ended within a frame.
     Cut,
-    /// This is in a frame's place. It was answered.
+    /// The stream has a wrong frame: this is its fault, which was answered.
     Frame(FrameFault),
     /// Memory was refused.
     Memory,

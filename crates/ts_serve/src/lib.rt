@@ -17,12 +17,12 @@
 //! rewrite, or NodeFault. Take is answered with the outbox's messages as frames and Done with their
 //! count, and the outbox is empty then; Identify with which node of which group it is; Report with
 //! the text that `note` was given last. A frame of kind 20 to 29 is no request: it is the fault
-//! Kind. A fault in a frame's place is answered with FrameFault, and ends the stream.
+//! Kind. A wrong frame is answered with FrameFault, and ends the stream.
 //!
 //! - [`Server::new`], [`Server::close`]: the node, given back too where memory is refused.
 //! - [`Server::take_own`]: from now on the node takes its messages to itself.
 //! - [`Server::answer_frame`]: one frame: the text of the answers of its turn, or why there is
-//!   none; [`refusal`]: the text for a fault in a frame's place. `ts_links` serves many connections
+//!   none; [`refusal`]: the text for a wrong frame's fault. `ts_links` serves many connections
 //!   by these two.
 //! - [`Server::note`]: a text about the server, for whoever asks for a report. Contracts see nothing
 //!   of it: what it says is up to the loop that runs the server.

@@ -15,7 +15,7 @@ use ts_store::{Command, Outcome};
 use ts_synod::Message;
 use ts_wire::{Frame, NodeFault as WireFault};
 
-/// A node's fault, as frames have it.
+/// A node's fault, in the form that a frame carries.
 fn fault_in_frame(fault: NodeFault) -> WireFault
     ensures { result ≡ wire_fault fault }
 {
@@ -41,7 +41,7 @@ fn not_yet(k: u32, prefix: u32) -> Frame
     }
 }
 
-/// The frame that says a node's reply.
+/// The frame that carries a node's reply.
 fn frame_of(reply: Reply<Outcome, Answer>) -> Frame
     requires { HasFrame reply }
     ensures { result ≡ reply_frame reply }

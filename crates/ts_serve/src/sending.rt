@@ -55,7 +55,7 @@ pub fn write_octets<W: Write>(writer: &mut W, octets: &[u8]) -> Result<(), Serve
     Err(ServeFault::Write)
 }
 
-/// Writes an answer that is lent.
+/// Writes a borrowed answer.
 fn send_lent<W: Write>(alloc: Global, writer: &mut W, frame: &Frame) -> Result<(), ServeFault>
     ensures sent { OnOk result (Appends (W.contents writer.old) (W.contents writer.new)
         (text (frame.now ∷ []))) }
@@ -99,7 +99,7 @@ pub(crate) fn send_all<W: Write>(
     Ok(())
 }
 
-/// Hands on what a writer holds back.
+/// Flushes a writer.
 pub(crate) fn flush<W: Write>(writer: &mut W) -> Result<(), ServeFault>
     ensures same { Keeps (W.contents writer.old) (W.contents writer.new) }
     ensures fault { IfErr result (λ fault. fault ≡ ServeFault.Write) }
@@ -110,7 +110,7 @@ pub(crate) fn flush<W: Write>(writer: &mut W) -> Result<(), ServeFault>
     }
 }
 
-/// Writes the answer to a fault in a frame's place, and returns what ends the stream.
+/// Writes the answer to a wrong frame, and gives the fault that ends the stream.
 pub(crate) fn refuse<W: Write>(alloc: Global, writer: &mut W, fault: FrameFault) -> ServeFault
     ensures { Refuses fault (W.contents writer.old) result (W.contents writer.new) }
 {

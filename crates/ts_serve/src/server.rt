@@ -11,27 +11,28 @@ ghost use Rattle.ts_store.specs.Octets.{octets_of};
 ghost use Rattle.ts_wire.specs.Frames.{Fits};
 ghost use Rattle.ts_wire.specs.declared.frame.Frame.TheVariants.{Take};
 ghost use Rattle.ts_serve.specs.Replies.{IsWithin};
-ghost use Rattle.ts_serve.specs.Turn.{Calls, Given, Handled, HasReported, Identified, Turn};
+ghost use Rattle.ts_serve.specs.Turn.{Calls, Given, Handled, HasReported, Identified, IsReport, Turn};
 ghost use Rattle.ts_serve.specs.Steps.{Answers, Refuses, Says};
 
 use crate::fault::ServeFault;
 use crate::outbox::Outbox;
 use crate::replies::{answer_of, failed_then};
 use crate::sending::{refuse, send, send_all};
-use std::alloc::Global;
+use std::alloc::{AllocError, Global};
 use std::cell::RefCell;
 use std::io::Write;
 use std::marker::Model;
 use ts_disk::Disk;
 use ts_node::{Identity, Input, Machine, Node, NodeFault, Output};
+use ts_octets::Octets;
 use ts_question::{Answer, Question};
 use ts_store::{Command, Outcome};
-use ts_wire::{Feed, Frame, FrameFault};
+use ts_wire::{Feed, Frame, FrameFault, NodeFault as WireFault};
 
-/// A text about the server that it was given.
+/// A text about the server, if it was given one.
 #[derive(Drop)]
 struct Notes {
-    text: Vec<u8>,
+    text: Option<Octets>,
 }
 
 impl Model for Notes {
@@ -110,7 +111,7 @@ impl<D: Disk, M: Machine<Command, Outcome = Outcome, Question = Question, Answer
                 failed: false,
                 takes_own: false,
                 notes: RefCell::new(Notes {
-                    text: Vec::new(alloc),
+                    text: None,
                 }),
             }),
             Err(_) => Err(node),
@@ -160,22 +161,35 @@ impl<D: Disk, M: Machine<Command, Outcome = Outcome, Question = Question, Answer
     /// Keeps a text about the server, which a request for a report is answered with from now on.
     /// Where memory is refused the text before stays.
     pub fn note(&self, text: &[u8]) {
-        let Ok(text) = Vec::from_slice(self.alloc, text) else {
+        let Ok(text) = Octets::copy_of(self.alloc, text) else {
             return;
         };
         if let Ok(mut notes) = self.notes.try_borrow_mut() {
-            notes.text = text;
+            notes.text = Some(text);
         }
     }
 
-    /// A copy of the text about the server; an empty one where memory is refused.
-    fn notes(&self) -> Vec<u8> {
+    /// The text about the server: an empty one where it was given none.
+    fn noted(&self) -> Result<Octets, AllocError> {
+        // Nobody else borrows it while this call runs.
         if let Ok(notes) = self.notes.try_borrow() {
-            if let Ok(text) = Vec::from_slice(self.alloc, &notes.text) {
-                return text;
+            if let Some(text) = &notes.text {
+                return text.share();
             }
         }
-        Vec::new(self.alloc)
+        Octets::copy_of(self.alloc, b"")
+    }
+
+    /// The answer to a request for a report.
+    fn report_frame(&self) -> Frame
+        ensures { IsReport result }
+    {
+        match self.noted() {
+            Ok(text) => Frame::Reported { text },
+            Err(_) => Frame::NodeFault {
+                fault: WireFault::Memory,
+            },
+        }
     }
 
     /// What the server allocates with.
@@ -183,14 +197,14 @@ impl<D: Disk, M: Machine<Command, Outcome = Outcome, Question = Question, Answer
         self.alloc
     }
 
-    /// A stream of which nothing has come.
+    /// A stream of which no octet has come.
     pub(crate) fn feed(&self) -> Feed
         ensures { result ≡ [] }
     {
         Feed::new(self.alloc)
     }
 
-    /// Answers a fault in a frame's place, and returns what ends the stream.
+    /// Answers a wrong frame, and gives the fault that ends the stream.
     pub(crate) fn refuse<W: Write>(&self, fault: FrameFault, writer: &mut W) -> ServeFault
         ensures { Refuses fault (W.contents writer.old) result (W.contents writer.new) }
     {
@@ -263,14 +277,14 @@ impl<D: Disk, M: Machine<Command, Outcome = Outcome, Question = Question, Answer
         send(self.alloc, writer, frame)
     }
 
-    /// Writes the text about the server that it was given last.
+    /// Writes the text about the server that it was given last, or that memory was refused.
     fn report<W: Write>(&self, writer: &mut W) -> Result<(), ServeFault>
         ensures said { Says (HasReported D.state
             (store_of Asked M.client_id M.outcome) M.basis M.is_answer self.now)
             (W.contents writer.old) result self.now (W.contents writer.new) }
     {
-        let text = self.notes();
-        send(self.alloc, writer, Frame::Reported { text })
+        let frame = self.report_frame();
+        send(self.alloc, writer, frame)
     }
 
     /// Answers a frame.

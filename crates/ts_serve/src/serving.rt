@@ -116,7 +116,7 @@ where
     Err(ServeFault::ReadLimit)
 }
 
-/// What the end of a stream comes to.
+/// How a stream that has ended was served: well, or `Cut` where it ended within a frame.
 fn end_of(feed: &Feed) -> Result<(), ServeFault>
     ensures whole { OnOk result (feed.now ≡ []) }
     ensures cut { IfErr result (λ fault. (fault ≡ ServeFault.Cut) × (feed.now ≢ [])) }
@@ -129,14 +129,14 @@ fn end_of(feed: &Feed) -> Result<(), ServeFault>
 }
 
 /// Answers the requests that a reader gives, on a writer, each when its turn comes, up to the end
-/// of the stream or to a fault in a frame's place, whose answer comes last. An interrupted read or
-/// write is tried again.
+/// of the stream or to a wrong frame, whose answer comes last. An interrupted read or write is
+/// tried again.
 ///
 /// # Errors
 ///
 /// `Read` and `Write` where the reader or the writer fails; `ReadLimit` where the stream has not
-/// ended after `READ_LIMIT` reads; `Cut` where it ends within a frame; `Frame` with the fault in a
-/// frame's place; `Memory` that is refused. The server has then answered the frames that were
+/// ended after `READ_LIMIT` reads; `Cut` where it ends within a frame; `Frame` with the fault of a
+/// wrong frame; `Memory` that is refused. The server has then answered the frames that were
 /// taken, and what was written is a front of those answers. A node's fault is answered, and the
 /// stream goes on.
 pub fn serve<D, M, R, W>(

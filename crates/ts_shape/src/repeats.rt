@@ -1,4 +1,4 @@
-//! The first item of a list that repeats an earlier one, found without memory.
+//! The first item of a list that repeats an earlier one, found without allocation.
 
 ghost use Rattle.std.specs.Prelude.{◌≡◌, true, ◌<◌, [], None, option_map};
 ghost use Rattle.ts_der.specs.Element.{inside};

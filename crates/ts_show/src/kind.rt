@@ -46,6 +46,7 @@ impl Kind {
     }
 }
 
+/// Whether octets begin with the five octets that a record begins with.
 fn begins_record(octets: &[u8]) -> bool
     ensures yes { result ≡ true → BeginsRecord octets.now }
     ensures no { result ≡ false → BeginsRecord octets.now → ⊥ }
@@ -53,6 +54,7 @@ fn begins_record(octets: &[u8]) -> bool
     matches!(octets, [0x54, 0x53, 0x52, 0x45, 0x43, ..])
 }
 
+/// Whether octets begin with the tag of a SEQUENCE.
 fn begins_sequence(octets: &[u8]) -> bool
     ensures yes { result ≡ true → BeginSequence octets.now }
     ensures no { result ≡ false → BeginSequence octets.now → ⊥ }
@@ -60,6 +62,7 @@ fn begins_sequence(octets: &[u8]) -> bool
     matches!(octets, [0x30, ..])
 }
 
+/// Whether octets are a certificate.
 fn are_certificate(octets: &[u8]) -> bool
     ensures yes { result ≡ true → AreCertificate octets.now }
     ensures no { result ≡ false → AreCertificate octets.now → ⊥ }
@@ -67,6 +70,7 @@ fn are_certificate(octets: &[u8]) -> bool
     Cert::read(octets).is_ok()
 }
 
+/// Whether octets are a CRL.
 fn are_list(octets: &[u8]) -> bool
     ensures yes { result ≡ true → AreList octets.now }
     ensures no { result ≡ false → AreList octets.now → ⊥ }
@@ -74,6 +78,7 @@ fn are_list(octets: &[u8]) -> bool
     Crl::read(octets).is_ok()
 }
 
+/// Whether octets are the encoding of a command.
 fn are_command(alloc: Global, octets: &[u8]) -> Result<bool, AllocError>
     ensures yes { IfOk result (λ are. are ≡ true → AreCommand octets.now) }
     ensures no { IfOk result (λ are. are ≡ false → AreCommand octets.now → ⊥) }
@@ -82,6 +87,7 @@ fn are_command(alloc: Global, octets: &[u8]) -> Result<bool, AllocError>
     Ok(command.is_some())
 }
 
+/// Whether octets are the encoding of a question.
 fn are_question(alloc: Global, octets: &[u8]) -> Result<bool, AllocError>
     ensures yes { IfOk result (λ are. are ≡ true → AreQuestion octets.now) }
     ensures no { IfOk result (λ are. are ≡ false → AreQuestion octets.now → ⊥) }
@@ -92,7 +98,7 @@ fn are_question(alloc: Global, octets: &[u8]) -> Result<bool, AllocError>
     }
 }
 
-/// What octets hold: the first of a record, a certificate, a list, a command and a question that
+/// What octets hold: the first of a record, a certificate, a CRL, a command and a question that
 /// they are, a record by its first five octets alone.
 ///
 /// # Errors

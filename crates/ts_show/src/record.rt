@@ -11,7 +11,7 @@ use ts_store::Command;
 use ts_synod::Fact;
 
 /// The line of a disk: the generation of one that is live; else that it is too short for a record,
-/// that its live gate is shut, or that its header is wrong.
+/// that its live byte is clear, or that its header is wrong.
 fn disk_line(lines: &mut Lines, key: &str, octets: &[u8]) -> Result<(), AllocError> {
     let mut line = lines.begin(0, key)?;
     match look_at(octets) {
@@ -26,7 +26,7 @@ fn disk_line(lines: &mut Lines, key: &str, octets: &[u8]) -> Result<(), AllocErr
     lines.push(line)
 }
 
-/// The line of why the record can't be opened.
+/// The line that says why the record can't be opened.
 ///
 /// # Errors
 ///

@@ -23,7 +23,7 @@ use ts_crl::Crl;
 use ts_question::Question;
 use ts_store::Command;
 
-/// The line of the SHA-256 digest by which a trust anchor and a list are named.
+/// The line of the SHA-256 digest by which a trust anchor and a CRL are named.
 fn id_line(alloc: Global, octets: &[u8]) -> Result<Line, AllocError>
     ensures { IfOk result (λ line. line ≡ id_line octets.now) }
 {

@@ -92,7 +92,7 @@ impl Anchors {
     }
 }
 
-/// The SHA-256 of octets: the id of an anchor's certificate, and of a list.
+/// The SHA-256 of octets: the id of an anchor's certificate, and of a CRL.
 pub fn digest(octets: &[u8]) -> [u8; 32]
     ensures { result ≡ sha256 octets.now }
 {
@@ -127,6 +127,8 @@ fn refusal_at(anchors: &[TrustAnchor], id: &[u8; 32]) -> Option<Refusal>
     None
 }
 
+/// Adds a certificate as a trust anchor for any purpose. It is refused where it can't be read, is
+/// there already, or the store is full.
 fn add_to(
     anchors: &mut Vec<TrustAnchor>,
     certificate: &Octets,
@@ -152,6 +154,7 @@ fn add_to(
     Ok(None)
 }
 
+/// Withdraws the anchor of this id. It is refused where there is none.
 fn withdraw_from(anchors: &mut Vec<TrustAnchor>, id: &[u8]) -> Option<Refusal>
     ensures { Becomes result anchors.old.items anchors.new.items
         (withdraw_anchor id.now anchors.old.items) }
@@ -165,6 +168,7 @@ fn withdraw_from(anchors: &mut Vec<TrustAnchor>, id: &[u8]) -> Option<Refusal>
     }
 }
 
+/// Sets the purposes of the anchor of this id. It is refused where there is none.
 fn set_in(
     anchors: &mut Vec<TrustAnchor>,
     alloc: Global,

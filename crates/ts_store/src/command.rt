@@ -32,7 +32,7 @@ pub enum Command {
         id: [u8; 16],
         crl: CrlOctets,
     },
-    /// Removes the list that has this SHA-256 digest.
+    /// Removes the CRL that has this SHA-256 digest.
     DropCrl {
         id: [u8; 16],
         crl: [u8; 32],
@@ -133,12 +133,12 @@ impl Command {
     ///
     /// Out of memory.
     pub fn read(alloc: Global, octets: &[u8]) -> Result<Option<Command>, AllocError>
-        // What is read, by the definition of reading.
+        // The result is the one that the definition of reading gives.
         ensures exact { IfOk result (λ read. read ≡ whole (command_at octets.now)) }
-        // What is read is encoded so.
+        // The octets are the encoding of the command that is read.
         ensures found { IfOk result (λ read. IfSome read
             (λ command. Fits command × (octets.now ≡ encoding command))) }
-        // What is encoded so is read.
+        // Octets that encode a command are read as it.
         ensures only { (command : Command) → Fits command → octets.now ≡ encoding command
             → IfOk result (λ read. read ≡ Some command) }
     {

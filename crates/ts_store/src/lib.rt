@@ -12,9 +12,9 @@
 //! ```
 //!
 //! A command is 16 octets of id, an octet of the kind and its fields, numbers being big endian: 01
-//! a certificate after four octets of its length; 02 the 32 octets of an anchor's id; 03 a list of
-//! revoked certificates like a certificate; 04 the 32 octets of a list's id; 05 an anchor's id and
-//! its purposes (`00` for any; else `01`, an octet of their number, and the contents octets of each
+//! a certificate after four octets of its length; 02 the 32 octets of an anchor's id; 03 a CRL
+//! after four octets of its length; 04 the 32 octets of a CRL's id; 05 an anchor's id and its
+//! purposes (`00` for any; else `01`, an octet of their number, and the contents octets of each
 //! after an octet of their length, strictly ascending); 06 nothing.
 //!
 //! Copies of a command share the octets of its certificate or CRL (`ts_octets`), and so do the
@@ -23,8 +23,8 @@
 //! - [`Command::add_anchor`], [`Command::load_crl`], [`CertificateOctets::new`],
 //!   [`CrlOctets::new`]: `TooLong` exactly above the limit.
 //! - [`Purposes::new`]: `None` exactly where the list is longer than 16 or not strictly ascending.
-//! - [`Command::read`]: `exact`: what its reader reads (`specs/Reading`); `found`, `only`: what is
-//!   read is encoded so, and what is encoded so is read.
+//! - [`Command::read`]: `exact`: the result by the definition of reading (`specs/Reading`);
+//!   `found`, `only`: a command is read exactly from the octets that are its encoding.
 //! - [`Command::octets`]: `encoded`: the encoding; `fits`: each command has one.
 //! - `impl ts_synod::Command`, `impl ts_synod::Codec` for [`Command`]: a command is one of the
 //!   protocol, and is kept in a record by its one encoding (`specs/Octets`).
@@ -32,9 +32,9 @@
 //!   command's.
 //! - [`Anchors::add`], [`Anchors::withdraw`], [`Anchors::set_purposes`]: the table after the
 //!   command, or its refusal, by the definition (`specs/Anchors`); at an `Err` nothing changes.
-//! - [`place_of_anchor`], [`place_of_crl`], [`place_of_slot`], [`digest`]: where an anchor or list
-//!   of an id is, and the list of a slot; an id.
-//! - [`Crls::put`], [`Crls::remove`], [`Tables::change`]: the same for a table of lists, and of all
+//! - [`place_of_anchor`], [`place_of_crl`], [`place_of_slot`], [`digest`]: where an anchor or CRL
+//!   of an id is, and the CRL of a slot; an id.
+//! - [`Crls::put`], [`Crls::remove`], [`Tables::change`]: the same for a table of CRLs, and of all
 //!   tables (`specs/Lists`, `specs/Tables`).
 //! - [`Store::new`], [`Store::apply`]: the definition's empty store, and its step with the step's
 //!   outcome (`specs/Store`); at an `Err` nothing changes.
@@ -45,13 +45,13 @@
 //!   them; the fold over two lists.
 //!
 //! A CRL is kept in the slot of its issuer, its issuing distribution point
-//! and its authority key identifier; complete lists and deltas have slots of their own.
-//! [`StoredCrl::crl`] lends the list and [`TrustAnchor::certificate`] the certificate, which are
+//! and its authority key identifier; complete CRLs and delta CRLs have slots of their own.
+//! [`StoredCrl::crl`] borrows the CRL and [`TrustAnchor::certificate`] the certificate, which are
 //! read once, when they come.
 //!
 //! Clients choose the ids. They are kept in an ordered map, so that a look-up takes a number of
 //! steps that grows with the logarithm of their number whatever ids are chosen; no ids collide, as
-//! they would in a table whose hash is known. A load is compared with the lists that are kept, at
+//! they would in a table whose hash is known. A load is compared with the CRLs that are kept, at
 //! most 1,024.
 //!
 //! Out of memory is answered as `AllocError`.

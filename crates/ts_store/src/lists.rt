@@ -15,10 +15,10 @@ use std::alloc::{AllocError, Global};
 use std::marker::Model;
 use ts_crl::{Crl, is_lower_number};
 
-/// How many complete lists there may be, and how many deltas.
+/// How many complete CRLs there may be, and how many delta CRLs.
 pub const MAX_CRLS: usize = 1_024;
 
-/// The lists of one kind of a store, in its order. Contracts see them as a list.
+/// The CRLs of one kind of a store, in its order. Contracts see them as a list.
 #[derive(Drop)]
 pub struct Crls {
     lists: Vec<StoredCrl>,
@@ -34,7 +34,7 @@ impl Model for Crls {
 }
 
 impl Crls {
-    /// No lists.
+    /// A table without CRLs.
     pub fn new(alloc: Global) -> Crls
         ensures { result ≡ [] }
     {
@@ -43,15 +43,15 @@ impl Crls {
         }
     }
 
-    /// The lists, in their order.
+    /// The CRLs, in their order.
     pub fn as_slice(&self) -> &[StoredCrl]
         ensures { result.now ≡ self.now }
     {
         self.lists.as_slice()
     }
 
-    /// Puts a list as the last one, or, where one of its slot is there that is older, in that one's
-    /// place; or answers why not.
+    /// Adds a CRL as the last one, or replaces the one of its slot, if that is older; or answers why
+    /// not.
     ///
     /// # Errors
     ///
@@ -64,7 +64,7 @@ impl Crls {
         put_in(&mut self.lists, alloc, new)
     }
 
-    /// Removes the list of this id, or answers why not. The rest keeps its order.
+    /// Removes the CRL of this id, or answers why not. The rest keeps its order.
     pub fn remove(&mut self, id: &[u8]) -> Option<Refusal>
         ensures { Becomes result self.old self.new (drop_list id.now self.old) }
     {
@@ -72,7 +72,7 @@ impl Crls {
     }
 }
 
-/// Whether a list is newer than another.
+/// Whether a CRL is newer than another.
 fn is_newer(new: Crl<'_>, held: Crl<'_>) -> bool
     ensures { result ≡ is_newer_list (crl_in new.entry) (crl_in held.entry) }
 {
@@ -82,14 +82,14 @@ fn is_newer(new: Crl<'_>, held: Crl<'_>) -> bool
     }
 }
 
-/// Whether a list that is kept has the slot of another one.
+/// Whether a CRL that is kept has the slot of another one.
 fn has_slot(alloc: Global, held: &StoredCrl, new: Crl<'_>) -> Result<bool, AllocError>
     ensures { IfOk result (λ has. has ≡ has_slot_of (crl_in new.entry) held.now) }
 {
     held.crl.view().is_same_slot_in(alloc, new)
 }
 
-/// The place of the first list that has the slot of another one, if one has it.
+/// The place of the first CRL that has the slot of another one, if one has it.
 ///
 /// # Errors
 ///
@@ -111,7 +111,7 @@ pub fn place_of_slot(
     Ok(None)
 }
 
-/// The place of the first list of this id, if it is in the table.
+/// The place of the first CRL of this id, if it is in the table.
 pub fn place_of_crl(lists: &[StoredCrl], id: &[u8]) -> Option<usize>
     ensures place { result ≡ place_by (has_id id.now) lists.now }
     ensures within { IfSome result (λ i. i < length lists.now) }
@@ -124,7 +124,7 @@ pub fn place_of_crl(lists: &[StoredCrl], id: &[u8]) -> Option<usize>
     None
 }
 
-/// Puts a list where one of its slot is, if it is newer.
+/// Replaces the CRL at a place by one of the same slot, if that is newer.
 fn replace_at(lists: &mut Vec<StoredCrl>, i: usize, new: StoredCrl) -> Option<Refusal>
     requires place { Some i ≡ place_by (has_slot_of (list_in new)) lists.now.items }
     requires within { i < length lists.now.items }
@@ -137,7 +137,7 @@ fn replace_at(lists: &mut Vec<StoredCrl>, i: usize, new: StoredCrl) -> Option<Re
     None
 }
 
-/// Puts a list of a new slot.
+/// Adds a CRL of a new slot.
 fn add_last(lists: &mut Vec<StoredCrl>, new: StoredCrl) -> Result<Option<Refusal>, AllocError>
     requires { None ≡ place_by (has_slot_of (list_in new)) lists.now.items }
     ensures done { IfOk result (λ refusal. Becomes refusal lists.old.items lists.new.items
@@ -151,6 +151,8 @@ fn add_last(lists: &mut Vec<StoredCrl>, new: StoredCrl) -> Result<Option<Refusal
     Ok(None)
 }
 
+/// Puts a CRL into its slot, or adds it where no CRL has the slot. It can be refused, and then
+/// nothing changes.
 fn put_in(
     lists: &mut Vec<StoredCrl>,
     alloc: Global,
@@ -166,6 +168,7 @@ fn put_in(
     }
 }
 
+/// Removes the CRL of this id. It is refused where there is none.
 fn remove_from(lists: &mut Vec<StoredCrl>, id: &[u8]) -> Option<Refusal>
     ensures { Becomes result lists.old.items lists.new.items (drop_list id.now lists.old.items) }
 {

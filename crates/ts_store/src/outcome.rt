@@ -7,21 +7,21 @@ pub enum Refusal {
     AnchorThere,
     /// No anchor has this id.
     NoAnchor,
-    /// The octets are no certificate, or no list.
+    /// The octets are no certificate, or no CRL.
     Malformed,
-    /// The list is not newer than the one in its slot.
+    /// The CRL is not newer than the one in its slot.
     OlderCrl,
-    /// The list has a critical extension that is not processed.
+    /// The CRL has a critical extension that is not processed.
     CriticalCrlExtension,
-    /// There are 256 anchors, or 1,024 lists of this kind.
+    /// There are 256 anchors, or 1,024 CRLs of this kind.
     StoreFull,
-    /// The list is a delta without a number.
+    /// The CRL is a delta CRL without a number.
     DeltaCrl,
-    /// No list has this id.
+    /// No CRL has this id.
     NoCrl,
-    /// The list's name is relative to that of its issuer.
+    /// The CRL's name is relative to that of its issuer.
     RelativeName,
-    /// The list is for certificates of other issuers.
+    /// The CRL is for certificates of other issuers.
     Indirect,
 }
 

@@ -97,7 +97,7 @@ impl Store {
         self.taken
     }
 
-    /// The anchors and the lists.
+    /// The anchors and the CRLs.
     pub fn tables(&self) -> &Tables
         ensures { result.now ≡ self.now.tables }
     {
@@ -118,7 +118,7 @@ impl Store {
         self.tables.crls()
     }
 
-    /// The deltas, in their order.
+    /// The delta CRLs, in their order.
     pub fn deltas(&self) -> &[StoredCrl]
         ensures { result.now ≡ self.now.tables.deltas }
     {

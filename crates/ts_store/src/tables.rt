@@ -34,7 +34,7 @@ impl Model for Tables {
 }
 
 impl Tables {
-    /// No anchors and no lists.
+    /// Tables without anchors and CRLs.
     pub fn new(alloc: Global) -> Tables
         ensures { result ≡ no_tables }
     {
@@ -52,14 +52,14 @@ impl Tables {
         self.anchors.as_slice()
     }
 
-    /// The complete lists, in their order.
+    /// The complete CRLs, in their order.
     pub fn crls(&self) -> &[StoredCrl]
         ensures { result.now ≡ self.now.complete }
     {
         self.complete.as_slice()
     }
 
-    /// The deltas, in their order.
+    /// The delta CRLs, in their order.
     pub fn deltas(&self) -> &[StoredCrl]
         ensures { result.now ≡ self.now.deltas }
     {
@@ -103,6 +103,8 @@ impl Tables {
         }
     }
 
+    /// Loads a CRL from its octets, among the delta CRLs or the complete ones. It can be refused,
+    /// and then nothing changes.
     fn load(&mut self, alloc: Global, octets: &Octets) -> Result<Option<Refusal>, AllocError>
         ensures done { IfOk result (λ refusal. Becomes refusal self.old self.new
             (load_crl octets.now self.old)) }
@@ -127,6 +129,8 @@ impl Tables {
         }
     }
 
+    /// Removes the CRL of this id, which is a complete one or a delta CRL. It is refused where
+    /// there is none.
     fn remove(&mut self, id: &[u8]) -> Option<Refusal>
         ensures { Becomes result self.old self.new (drop_crl id.now self.old) }
     {
@@ -137,7 +141,7 @@ impl Tables {
     }
 }
 
-/// Why octets are no list that is kept.
+/// Why octets are no CRL that is kept.
 fn refusal(fault: CrlFault<'_>) -> Refusal
     ensures { result ≡ refusal_of (fault_in fault.entry) }
 {

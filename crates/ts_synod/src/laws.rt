@@ -26,14 +26,14 @@ pub fn equal_verdicts<C, O, T, Q, V>()
     ensures { (store : Store C O T Q V) → EqualVerdicts store }
 {}
 
-/// Two nodes with one volatile part and facts of one force make the same step. A restart forgets
-/// the volatile part, so a node that restarts from other facts of the same force goes on alike
+/// Two nodes with one volatile part and equivalent facts (`SameForce`) make the same step. A
+/// restart forgets the volatile part, so a node that restarts from equivalent facts goes on alike
 /// ('Paxos Made Simple' 2.5: what stable storage must keep).
 pub fn step_by_force<C, O, T, Q, V>()
     ensures { (store : Store C O T Q V) → StepByForce store }
 {}
 
-/// Two lists of facts of one force stay so when the same facts are kept after each.
+/// Two equivalent lists of facts stay so when the same facts are kept after each.
 pub fn force_stays<C>()
     ensures { ForceStays C }
 {}

@@ -23,7 +23,8 @@
 //! - `agreement`: no two nodes hold different commands at one position, and what is held is chosen.
 //! - `only_submitted`: each chosen command was submitted.
 //! - `equal_verdicts`: every reply is that of one state machine over the chosen commands.
-//! - `step_by_force`, `force_stays`: a step reads no more of a node's facts than their force.
+//! - `step_by_force`, `force_stays`: a step is the same over equivalent facts (`SameForce`), which
+//!   stay so.
 //! - `a_turn_is_events`: several inputs whose facts are kept together are one event each.
 //! - `classic_run`: a run of three nodes with a restart and two proposers, computed.
 #![tactic(auto)]

@@ -68,6 +68,7 @@ impl RecordLock {
         RecordLock::take(rt, alloc, path, true)
     }
 
+    /// Locks the two files of a record. Missing files are made where `is_made` is true.
     fn take<R: Files<File = File> + Eprint>(
         rt: &R,
         alloc: Global,

@@ -29,7 +29,7 @@ pub fn read_general(content: &[u8]) -> Result<Moment, DerFault>
     find_general(content).ok_or(DerFault::TimeForm)
 }
 
-/// The same, without a fault.
+/// The moment that the content octets of a GeneralizedTime name; `None` where they name none.
 fn find_general(content: &[u8]) -> Option<Moment>
     ensures found { IfSome result (IsGeneral content.now) }
     ensures only { (m : ℤ) → IsGeneral content.now m → result ≡ Some m }

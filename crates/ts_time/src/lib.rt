@@ -1,5 +1,5 @@
 //! Moments, and the two forms in which certificates write them: UTCTime and GeneralizedTime of RFC
-//! 5280 4.1.2.5, read and printed exactly, without memory.
+//! 5280 4.1.2.5, read and printed exactly, without allocation.
 //!
 //! ```text
 //! let end = read_utc(b"260101000000Z")?;        // 2026-01-01T00:00:00Z
@@ -7,15 +7,15 @@
 //! ```
 //!
 //! A `Moment` is a number of seconds since 1970-01-01T00:00:00Z, negative before it, in which every
-//! day has 86,400; contracts see it as an integer. No call of this crate takes memory. Dates and
-//! day numbers are computed by `jiff` (`jiff::civil::Date`).
+//! day has 86,400; contracts see it as an integer. No call of this crate allocates. Dates and day
+//! numbers are computed by `jiff` (`jiff::civil::Date`).
 //!
 //! Proved, for every list of octets and every moment:
 //!
 //! - `begins_with_utc`: true exactly where there are sixteen octets or more, of which the first
 //!   thirteen are a UTCTime of a time that exists.
-//! - `read_utc`, `read_general`: what is read is the moment of a text of the form, `YYMMDDHHMMSSZ`
-//!   or `YYYYMMDDHHMMSSZ`, of a time that exists (`found`); every such text is read, as its moment
+//! - `read_utc`, `read_general`: the answer is the moment of a text of the form, `YYMMDDHHMMSSZ` or
+//!   `YYYYMMDDHHMMSSZ`, of a time that exists (`found`); every such text is read, as its moment
 //!   (`only`); a refusal is `TimeForm`, and comes only where the octets are no such text (`fault`);
 //!   it gives what `utc_value` or `general_value` of `specs/Reading.antt` gives: the form in which
 //!   the crates above use it (`exact`).

@@ -29,7 +29,7 @@ pub fn read_utc(content: &[u8]) -> Result<Moment, DerFault>
     find_utc(content).ok_or(DerFault::TimeForm)
 }
 
-/// The same, without a fault.
+/// The moment that the content octets of a UTCTime name; `None` where they name none.
 #[inline(always)]
 fn find_utc(content: &[u8]) -> Option<Moment>
     ensures found { IfSome result (IsUtc content.now) }

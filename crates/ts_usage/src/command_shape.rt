@@ -11,7 +11,7 @@ use crate::arguments::{
 use clap::Command;
 use std::alloc::{AllocError, Global};
 
-/// A command with the id of an anchor or a list.
+/// A command with the id of an anchor or a CRL.
 fn naming<'a>(
     alloc: Global,
     name: &'a str,

@@ -12,7 +12,8 @@
 //! - [`vouch`]: `Ok` exactly where nothing speaks against it, else the first doubt of `doubt_of`
 //!   (`specs/Vouched`), in this order: no certificate is one of its issuer (RFC 5280 6.3.3 (f)),
 //!   none of these has the key that signed it (6.3.3 (g)), the moment is before thisUpdate
-//!   (5.1.2.4), the moment is after nextUpdate (5.1.2.5). It takes no memory.
+//!   (5.1.2.4), the moment is after nextUpdate (5.1.2.5). It allocates nothing but what its
+//!   signature check does.
 //!
 //! # Not promised
 //!

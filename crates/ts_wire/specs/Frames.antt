@@ -97,7 +97,7 @@ fields (NodeFault fault) = node_fault_code fault ∷ []
 fields (FrameFault fault) = frame_fault_code fault ∷ []
 fields (Prefix prefix) = to_be_bytes w32 prefix
 fields (Identity node nodes group) = node ∷ nodes ∷ to_be_bytes w32 group
-fields (Reported text) = blob32 text.items
+fields (Reported text) = blob32 text
 
 -- four octets of the length of what follows; the version, 02; the kind; the fields
 abbrev pub encoding : Frame → List ℕ
@@ -136,7 +136,7 @@ FieldsFit (Answer answer) = AnswerFits answer
 FieldsFit (Prefix prefix) = nat_le prefix 1000000 ≡ true
 FieldsFit (Identity node nodes group) = (is_node node ≡ true) × (is_node nodes ≡ true)
     × (nat_lt group 4294967296 ≡ true)
-FieldsFit (Reported text) = nat_lt (length text.items) 4294967296 ≡ true
+FieldsFit (Reported text) = nat_lt (length text) 4294967296 ≡ true
 FieldsFit other = Unit {0}
 
 -- the fields fit, and the length is at most 8,388,608

@@ -1,6 +1,7 @@
 //! Frames.
 
 use crate::fault::{FrameFault, NodeFault};
+use ts_octets::Octets;
 use ts_question::{Answer, Question};
 use ts_store::{Command, Outcome};
 use ts_synod::{Ballot, Message};
@@ -16,7 +17,7 @@ pub enum Frame {
     Question { question: Question },
     /// The messages to other nodes are taken.
     Take,
-    /// What came of the command of this id is asked for.
+    /// The outcome of the command of this id is asked for.
     Outcome { id: [u8; 16] },
     /// The node is to ask others for what it lacks.
     CatchUp,
@@ -40,12 +41,12 @@ pub enum Frame {
     Unknown,
     /// The node could not handle the frame.
     NodeFault { fault: NodeFault },
-    /// This is wrong in a frame's place.
+    /// The octets that came are no frame: this is wrong with them.
     FrameFault { fault: FrameFault },
     /// So many commands are known.
     Prefix { prefix: u32 },
     /// The node, of how many, and its group; group 0 is none.
     Identity { node: u8, nodes: u8, group: u32 },
     /// How the server does, as a text.
-    Reported { text: Vec<u8> },
+    Reported { text: Octets },
 }

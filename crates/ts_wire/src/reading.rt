@@ -16,10 +16,13 @@ use crate::route::{Route, head};
 use std::alloc::Global;
 use ts_codec::ReadFault;
 use ts_codec::reading::{ballot, blob32, id, node, number32, octet, position, prefix};
+use ts_octets::Octets;
 use ts_question::{Answer, Question};
 use ts_store::{Command, Outcome, Refusal};
 use ts_synod::{Body, Message, Vote};
 
+/// The command whose encoding is the blob that begins here, and what follows the blob. A blob that
+/// is no command is refused.
 #[tactic(auto, unfolding(crate::specs::FrameReading::blob_command_at, ts_codec::specs::Reading::within_blob_at))]
 fn command(alloc: Global, octets: &[u8]) -> Result<(Command, &[u8]), ReadFault>
     ensures { Gives (λ x. (x.0, x.1.now)) result (blob_command_at octets.now) }
@@ -31,6 +34,8 @@ fn command(alloc: Global, octets: &[u8]) -> Result<(Command, &[u8]), ReadFault>
     }
 }
 
+/// The question whose encoding is the blob that begins here, and what follows the blob. A blob that
+/// is no question is refused.
 #[tactic(auto, unfolding(ts_codec::specs::Reading::within_blob_at))]
 fn question(alloc: Global, octets: &[u8]) -> Result<(Question, &[u8]), ReadFault>
     ensures { Gives (λ x. (x.0, x.1.now)) result (within_blob_at question_at octets.now) }
@@ -42,6 +47,7 @@ fn question(alloc: Global, octets: &[u8]) -> Result<(Question, &[u8]), ReadFault
     }
 }
 
+/// The vote that begins here, a ballot and a command, and what follows it.
 #[tactic(auto, unfolding(crate::specs::FrameReading::vote_at))]
 fn vote(alloc: Global, octets: &[u8]) -> Result<(Vote<Command>, &[u8]), ReadFault>
     ensures { Gives (λ x. (x.0, x.1.now)) result (vote_at octets.now) }
@@ -51,6 +57,8 @@ fn vote(alloc: Global, octets: &[u8]) -> Result<(Vote<Command>, &[u8]), ReadFaul
     Ok((Vote { ballot, command }, rest))
 }
 
+/// The vote that a promise reports, or none, and what follows it. A flag that is neither 0 nor 1 is
+/// refused.
 #[tactic(auto, unfolding(crate::specs::FrameReading::taken_at, ts_codec::specs::Reading::of_kind))]
 fn taken(alloc: Global, octets: &[u8]) -> Result<(Option<Vote<Command>>, &[u8]), ReadFault>
     ensures { Gives (λ x. (x.0, x.1.now)) result (taken_at octets.now) }
@@ -77,6 +85,7 @@ fn peer(route: Route, body: Body<Command>) -> Frame
     })
 }
 
+/// A prepare request, from the fields after its kind, and what follows them.
 #[tactic(auto, unfolding(crate::specs::FrameReading::prepare_at))]
 fn prepare(octets: &[u8]) -> Result<(Frame, &[u8]), ReadFault>
     ensures { Gives (λ x. (x.0, x.1.now)) result (prepare_at octets.now) }
@@ -87,6 +96,7 @@ fn prepare(octets: &[u8]) -> Result<(Frame, &[u8]), ReadFault>
     Ok((peer(route, Body::Prepare { position, ballot }), rest))
 }
 
+/// A promise, from the fields after its kind, and what follows them.
 #[tactic(auto, unfolding(crate::specs::FrameReading::promise_at))]
 fn promise(alloc: Global, octets: &[u8]) -> Result<(Frame, &[u8]), ReadFault>
     ensures { Gives (λ x. (x.0, x.1.now)) result (promise_at octets.now) }
@@ -103,6 +113,8 @@ fn promise(alloc: Global, octets: &[u8]) -> Result<(Frame, &[u8]), ReadFault>
     Ok((peer(route, body), rest))
 }
 
+/// The message that a greater ballot was promised, from the fields after its kind, and what follows
+/// them.
 #[tactic(auto, unfolding(crate::specs::FrameReading::busy_at))]
 fn busy(octets: &[u8]) -> Result<(Frame, &[u8]), ReadFault>
     ensures { Gives (λ x. (x.0, x.1.now)) result (busy_at octets.now) }
@@ -118,6 +130,7 @@ fn busy(octets: &[u8]) -> Result<(Frame, &[u8]), ReadFault>
     Ok((peer(route, body), rest))
 }
 
+/// An accept request, from the fields after its kind, and what follows them.
 #[tactic(auto, unfolding(crate::specs::FrameReading::accept_at))]
 fn accept(alloc: Global, octets: &[u8]) -> Result<(Frame, &[u8]), ReadFault>
     ensures { Gives (λ x. (x.0, x.1.now)) result (accept_at octets.now) }
@@ -133,6 +146,7 @@ fn accept(alloc: Global, octets: &[u8]) -> Result<(Frame, &[u8]), ReadFault>
     Ok((peer(route, body), rest))
 }
 
+/// The message that a vote was taken, from the fields after its kind, and what follows them.
 #[tactic(auto, unfolding(crate::specs::FrameReading::accepted_at))]
 fn accepted(alloc: Global, octets: &[u8]) -> Result<(Frame, &[u8]), ReadFault>
     ensures { Gives (λ x. (x.0, x.1.now)) result (accepted_at octets.now) }
@@ -148,6 +162,8 @@ fn accepted(alloc: Global, octets: &[u8]) -> Result<(Frame, &[u8]), ReadFault>
     Ok((peer(route, body), rest))
 }
 
+/// The message that asks for the command of a position, from the fields after its kind, and what
+/// follows them.
 #[tactic(auto, unfolding(crate::specs::FrameReading::ask_at))]
 fn ask(octets: &[u8]) -> Result<(Frame, &[u8]), ReadFault>
     ensures { Gives (λ x. (x.0, x.1.now)) result (ask_at octets.now) }
@@ -157,6 +173,8 @@ fn ask(octets: &[u8]) -> Result<(Frame, &[u8]), ReadFault>
     Ok((peer(route, Body::Ask { position }), rest))
 }
 
+/// The message that gives the command of a position, from the fields after its kind, and what
+/// follows them.
 #[tactic(auto, unfolding(crate::specs::FrameReading::give_at))]
 fn give(alloc: Global, octets: &[u8]) -> Result<(Frame, &[u8]), ReadFault>
     ensures { Gives (λ x. (x.0, x.1.now)) result (give_at octets.now) }
@@ -167,6 +185,7 @@ fn give(alloc: Global, octets: &[u8]) -> Result<(Frame, &[u8]), ReadFault>
     Ok((peer(route, Body::Give { position, command }), rest))
 }
 
+/// The frame that says that a round began, from the fields after its kind, and what follows them.
 #[tactic(auto, unfolding(crate::specs::FrameReading::started_at))]
 fn started(octets: &[u8]) -> Result<(Frame, &[u8]), ReadFault>
     ensures { Gives (λ x. (x.0, x.1.now)) result (started_at octets.now) }
@@ -176,6 +195,7 @@ fn started(octets: &[u8]) -> Result<(Frame, &[u8]), ReadFault>
     Ok((Frame::Started { position, ballot }, rest))
 }
 
+/// The refusal of this code; none where no refusal has it.
 fn refusal(code: u8) -> Option<Refusal>
     ensures { result ≡ lookup code refusals }
 {
@@ -194,6 +214,8 @@ fn refusal(code: u8) -> Option<Refusal>
     })
 }
 
+/// The outcome that a command was refused, from the code that begins here, and what follows it. An
+/// unknown code is refused.
 #[tactic(auto, unfolding(crate::specs::FrameReading::refused_at, ts_codec::specs::Reading::code_at))]
 fn refused(octets: &[u8]) -> Result<(Outcome, &[u8]), ReadFault>
     ensures { Gives (λ x. (x.0, x.1.now)) result (refused_at octets.now) }
@@ -205,6 +227,7 @@ fn refused(octets: &[u8]) -> Result<(Outcome, &[u8]), ReadFault>
     }
 }
 
+/// The outcome of a command that begins here, and what follows it. An unknown form is refused.
 #[tactic(auto, unfolding(crate::specs::FrameReading::outcome_at, ts_codec::specs::Reading::of_kind))]
 fn outcome(octets: &[u8]) -> Result<(Outcome, &[u8]), ReadFault>
     ensures { Gives (λ x. (x.0, x.1.now)) result (outcome_at octets.now) }
@@ -221,6 +244,8 @@ fn outcome(octets: &[u8]) -> Result<(Outcome, &[u8]), ReadFault>
     }
 }
 
+/// The frame that says where a command is and its outcome, from the fields after its kind, and what
+/// follows them.
 #[tactic(auto, unfolding(crate::specs::FrameReading::settled_at))]
 fn settled(octets: &[u8]) -> Result<(Frame, &[u8]), ReadFault>
     ensures { Gives (λ x. (x.0, x.1.now)) result (settled_at octets.now) }
@@ -230,6 +255,7 @@ fn settled(octets: &[u8]) -> Result<(Frame, &[u8]), ReadFault>
     Ok((Frame::Settled { position, outcome }, rest))
 }
 
+/// The node's fault of this code; none where no fault has it.
 fn node_fault_of(code: u8) -> Option<NodeFault>
     ensures { result ≡ lookup code node_faults }
 {
@@ -244,6 +270,8 @@ fn node_fault_of(code: u8) -> Option<NodeFault>
     })
 }
 
+/// The frame that reports a node's fault, from the code after its kind, and what follows it. An
+/// unknown code is refused.
 #[tactic(auto, unfolding(crate::specs::FrameReading::fields_at, ts_codec::specs::Reading::of_kind, ts_codec::specs::Reading::code_at))]
 fn node_fault(octets: &[u8]) -> Result<(Frame, &[u8]), ReadFault>
     ensures { Gives (λ x. (x.0, x.1.now)) result (fields_at 0x25 octets.now) }
@@ -255,6 +283,7 @@ fn node_fault(octets: &[u8]) -> Result<(Frame, &[u8]), ReadFault>
     }
 }
 
+/// The frame's fault of this code; none where no fault has it.
 fn frame_fault_of(code: u8) -> Option<FrameFault>
     ensures { result ≡ lookup code frame_faults }
 {
@@ -268,6 +297,8 @@ fn frame_fault_of(code: u8) -> Option<FrameFault>
     })
 }
 
+/// The frame that reports a wrong frame, from the code after its kind, and what follows it. An
+/// unknown code is refused.
 #[tactic(auto, unfolding(crate::specs::FrameReading::fields_at, ts_codec::specs::Reading::of_kind, ts_codec::specs::Reading::code_at))]
 fn frame_fault(octets: &[u8]) -> Result<(Frame, &[u8]), ReadFault>
     ensures { Gives (λ x. (x.0, x.1.now)) result (fields_at 0x26 octets.now) }
@@ -279,6 +310,8 @@ fn frame_fault(octets: &[u8]) -> Result<(Frame, &[u8]), ReadFault>
     }
 }
 
+/// The frame that says which node of which group it is, from the fields after its kind, and what
+/// follows them.
 #[tactic(auto, unfolding(crate::specs::FrameReading::identity_at))]
 fn identity(octets: &[u8]) -> Result<(Frame, &[u8]), ReadFault>
     ensures { Gives (λ x. (x.0, x.1.now)) result (identity_at octets.now) }
@@ -294,6 +327,7 @@ fn identity(octets: &[u8]) -> Result<(Frame, &[u8]), ReadFault>
     Ok((identity, rest))
 }
 
+/// The frame that submits a command, from the fields after its kind, and what follows them.
 #[tactic(auto, unfolding(crate::specs::FrameReading::fields_at, ts_codec::specs::Reading::of_kind))]
 fn submit(alloc: Global, octets: &[u8]) -> Result<(Frame, &[u8]), ReadFault>
     ensures { Gives (λ x. (x.0, x.1.now)) result (fields_at 0x10 octets.now) }
@@ -302,6 +336,7 @@ fn submit(alloc: Global, octets: &[u8]) -> Result<(Frame, &[u8]), ReadFault>
     Ok((Frame::Submit { command }, rest))
 }
 
+/// The frame that asks a question, from the fields after its kind, and what follows them.
 #[tactic(auto, unfolding(crate::specs::FrameReading::fields_at, ts_codec::specs::Reading::of_kind))]
 fn asked(alloc: Global, octets: &[u8]) -> Result<(Frame, &[u8]), ReadFault>
     ensures { Gives (λ x. (x.0, x.1.now)) result (fields_at 0x11 octets.now) }
@@ -310,6 +345,8 @@ fn asked(alloc: Global, octets: &[u8]) -> Result<(Frame, &[u8]), ReadFault>
     Ok((Frame::Question { question }, rest))
 }
 
+/// The frame that asks for the outcome of a command, from the id after its kind, and what follows
+/// it.
 #[tactic(auto, unfolding(crate::specs::FrameReading::fields_at, ts_codec::specs::Reading::of_kind))]
 fn inquiry(octets: &[u8]) -> Result<(Frame, &[u8]), ReadFault>
     ensures { Gives (λ x. (x.0, x.1.now)) result (fields_at 0x13 octets.now) }
@@ -318,6 +355,8 @@ fn inquiry(octets: &[u8]) -> Result<(Frame, &[u8]), ReadFault>
     Ok((Frame::Outcome { id }, rest))
 }
 
+/// The frame that says that it was done, or how many messages were given, from the fields after its
+/// kind, and what follows them.
 #[tactic(auto, unfolding(crate::specs::FrameReading::fields_at, ts_codec::specs::Reading::of_kind))]
 fn done(octets: &[u8]) -> Result<(Frame, &[u8]), ReadFault>
     ensures { Gives (λ x. (x.0, x.1.now)) result (fields_at 0x20 octets.now) }
@@ -326,6 +365,7 @@ fn done(octets: &[u8]) -> Result<(Frame, &[u8]), ReadFault>
     Ok((Frame::Done { count }, rest))
 }
 
+/// The frame that carries an answer, from the fields after its kind, and what follows them.
 #[tactic(auto, unfolding(crate::specs::FrameReading::fields_at, ts_codec::specs::Reading::of_kind))]
 fn replied(alloc: Global, octets: &[u8]) -> Result<(Frame, &[u8]), ReadFault>
     ensures { Gives (λ x. (x.0, x.1.now)) result (fields_at 0x23 octets.now) }
@@ -334,6 +374,8 @@ fn replied(alloc: Global, octets: &[u8]) -> Result<(Frame, &[u8]), ReadFault>
     Ok((Frame::Answer { answer }, rest))
 }
 
+/// The frame that says how many commands are known, from the fields after its kind, and what
+/// follows them.
 #[tactic(auto, unfolding(crate::specs::FrameReading::fields_at, ts_codec::specs::Reading::of_kind))]
 fn known(octets: &[u8]) -> Result<(Frame, &[u8]), ReadFault>
     ensures { Gives (λ x. (x.0, x.1.now)) result (fields_at 0x27 octets.now) }
@@ -348,7 +390,7 @@ fn reported(alloc: Global, octets: &[u8]) -> Result<(Frame, &[u8]), ReadFault>
     ensures { Gives (λ x. (x.0, x.1.now)) result (fields_at 0x29 octets.now) }
 {
     let (content, rest) = blob32(octets)?;
-    let text = Vec::from_slice(alloc, content)?;
+    let text = Octets::copy_of(alloc, content)?;
     Ok((Frame::Reported { text }, rest))
 }
 

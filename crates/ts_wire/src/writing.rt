@@ -21,6 +21,7 @@ use ts_synod::{Body, Vote};
 /// The most octets after a frame's length.
 pub const MAX_LENGTH: usize = 8_388_608;
 
+/// Writes a command's encoding behind its length in four octets.
 fn push_command(alloc: Global, out: &mut Vec<u8>, command: &Command) -> Result<(), AllocError>
     ensures { OnOk result (out.new.items ≡ out.old.items ++ blob32 (command_octets command.now)) }
 {
@@ -28,6 +29,7 @@ fn push_command(alloc: Global, out: &mut Vec<u8>, command: &Command) -> Result<(
     push_blob32(out, octets.as_slice())
 }
 
+/// Writes a question's encoding behind its length in four octets.
 fn push_question(alloc: Global, out: &mut Vec<u8>, question: &Question) -> Result<(), AllocError>
     ensures { OnOk result (out.new.items ≡ out.old.items ++ blob32 (question_octets question.now)) }
 {
@@ -36,6 +38,7 @@ fn push_question(alloc: Global, out: &mut Vec<u8>, question: &Question) -> Resul
     push_blob32(out, octets.as_slice())
 }
 
+/// Writes the vote that a promise reports behind an octet 1, or an octet 0 where it reports none.
 #[tactic(auto, using(crate::proofs::Joins::two, crate::proofs::Joins::behind))]
 fn push_taken(
     alloc: Global,
@@ -55,6 +58,7 @@ fn push_taken(
     Ok(())
 }
 
+/// The kind of the frame of a message with this body.
 fn body_kind(body: &Body<Command>) -> u8
     ensures { result ≡ body_kind body.now }
 {
@@ -69,6 +73,7 @@ fn body_kind(body: &Body<Command>) -> u8
     }
 }
 
+/// Writes the fields of a message's body, in the order in which they are read.
 #[tactic(auto, using(crate::proofs::Joins::two, crate::proofs::Joins::three))]
 fn push_body(alloc: Global, out: &mut Vec<u8>, body: &Body<Command>) -> Result<(), AllocError>
     ensures { OnOk result (out.new.items ≡ out.old.items ++ body_encoding body.now) }
@@ -123,6 +128,7 @@ fn push_body(alloc: Global, out: &mut Vec<u8>, body: &Body<Command>) -> Result<(
     Ok(())
 }
 
+/// The code of a refusal.
 fn refusal_code(refusal: Refusal) -> u8
     ensures { result ≡ refusal_code refusal }
 {
@@ -140,6 +146,7 @@ fn refusal_code(refusal: Refusal) -> u8
     }
 }
 
+/// Writes an outcome: its form, and the position of a repeated command or the code of a refusal.
 fn push_outcome(out: &mut Vec<u8>, outcome: Outcome) -> Result<(), AllocError>
     ensures { OnOk result (out.new.items ≡ out.old.items ++ outcome_encoding outcome) }
 {
@@ -157,6 +164,7 @@ fn push_outcome(out: &mut Vec<u8>, outcome: Outcome) -> Result<(), AllocError>
     Ok(())
 }
 
+/// The kind of a frame.
 fn kind_of(frame: &Frame) -> u8
     ensures { result ≡ kind_of frame.now }
 {
@@ -184,6 +192,7 @@ fn kind_of(frame: &Frame) -> u8
     }
 }
 
+/// Writes the fields of a frame, which follow its kind.
 #[tactic(auto, using(crate::proofs::Joins::two))]
 fn push_fields(alloc: Global, out: &mut Vec<u8>, frame: &Frame) -> Result<(), AllocError>
     ensures { OnOk result (out.new.items ≡ out.old.items ++ fields frame.now) }

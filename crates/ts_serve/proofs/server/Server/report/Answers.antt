@@ -1,14 +1,14 @@
--- The server's text was said.
+-- A report was said.
 use Rattle.std.proofs.Common.{refl, ◌∷◌, []}
-use Rattle.ts_wire.specs.declared.frame.Frame.TheVariants.{Reported}
 use Rattle.ts_serve.proofs.Saying.{said}
 use Rattle.ts_serve.proofs.server.Server.report.Goals as goal
 
 pub returns : goal.returns
 returns g c = record {
-  said = said _ _ _ (Reported c.notes.result ∷ []) c.send.result _
+  said = said _ _ _ (c.report_frame.result ∷ []) c.send.result _
       (record {
-        text = c.notes.result;
+        frame = c.report_frame.result;
+        report = c.report_frame.ensures;
         said = refl;
         same = refl;
       }) c.send.ensures.sent c.send.ensures.front c.send.ensures.fault;
