@@ -16,7 +16,8 @@
 //! - law [`laws::accepts_signatures`]: that test is true exactly where the identifier names an
 //!   algorithm and the signature is one by it: `IsNativeSignature`, by the relations of `ts_rsa`,
 //!   `ts_ecdsa` and `ts_eddsa`.
-//! - [`algorithm_named`]: the algorithm that an identifier names, exactly.
+//! - [`algorithm_named`]: the algorithm that an identifier names, exactly. [`ALGORITHMS`]: which
+//!   there are, in words.
 //!
 //! No call allocates. docs/SIGNATURES.md has each algorithm with its section.
 //!
@@ -34,5 +35,5 @@ mod native;
 mod public_key;
 mod rsa;
 
-pub use algorithm::{SignatureAlgorithm, algorithm_named};
+pub use algorithm::{ALGORITHMS, SignatureAlgorithm, algorithm_named};
 pub use native::NativeCheck;
