@@ -17,7 +17,7 @@ fn is_among(kind: u8, messages: bool, changes: bool, questions: bool) -> bool {
     match kind {
         0x01..=0x07 => messages,
         0x10 | 0x12 | 0x14 | 0x16 => changes,
-        0x11 | 0x13 | 0x15 | 0x17 => questions,
+        0x11 | 0x13 | 0x15 | 0x17 | 0x18 => questions,
         _ => false,
     }
 }

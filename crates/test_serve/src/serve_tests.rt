@@ -636,8 +636,17 @@ fn are_frames_answered(alloc: Global) -> Result<bool, AllocError> {
     };
     let other = server.answer_frame(Frame::Unknown);
     let refused = refusal(alloc, FrameFault::Kind)?;
+    let Ok(none) = server.answer_frame(Frame::Report) else {
+        return Err(AllocError);
+    };
+    server.note(b"up\n");
+    let Ok(report) = server.answer_frame(Frame::Report) else {
+        return Err(AllocError);
+    };
     Ok(
         is_second
+            && none.as_slice() == b"\x00\x00\x00\x06\x02\x29\x00\x00\x00\x00".as_slice()
+            && report.as_slice() == b"\x00\x00\x00\x09\x02\x29\x00\x00\x00\x03up\n".as_slice()
             && said.as_slice() == PREFIX_0
             && matches!(other, Err(AnswerFault::NoRequest))
             && is_request(&Frame::Take)
