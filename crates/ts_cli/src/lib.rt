@@ -68,6 +68,6 @@ pub use reach::Reach;
 pub use serve_words::ServeWords;
 pub use sync_words::SyncWords;
 pub use task::Task;
-pub use values::{address_of, is_address, peer_of};
 pub use ts_usage::VERSION;
+pub use values::{address_of, is_address, peer_of};
 pub use verify_words::VerifyWords;

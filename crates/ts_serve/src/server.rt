@@ -110,9 +110,7 @@ impl<D: Disk, M: Machine<Command, Outcome = Outcome, Question = Question, Answer
                 outbox,
                 failed: false,
                 takes_own: false,
-                notes: RefCell::new(Notes {
-                    text: None,
-                }),
+                notes: RefCell::new(Notes { text: None }),
             }),
             Err(_) => Err(node),
         }
