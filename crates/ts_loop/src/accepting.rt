@@ -11,6 +11,7 @@ use mio::{Interest, Registry, Token};
 use std::alloc::Global;
 use std::io;
 use std::io::ErrorKind;
+use std::net::SocketAddr;
 use std::random::RandomSource;
 use ts_links::Connections;
 use ts_links::reaching::{close, open};
@@ -56,6 +57,7 @@ pub(crate) struct Entry<'a, R> {
 fn put_door<R: RandomSource>(
     doors: &mut [Option<Door>],
     mut stream: TcpStream,
+    from: SocketAddr,
     entry: &Entry<'_, R>,
     slot: usize,
     now: u64,
@@ -76,7 +78,7 @@ fn put_door<R: RandomSource>(
             return false;
         }
     }
-    doors[slot] = Some(Door::new(stream, lock));
+    doors[slot] = Some(Door::new(stream, from, lock));
     true
 }
 
@@ -153,6 +155,7 @@ fn let_in<R: RandomSource>(
     table: &mut Connections,
     doors: &mut [Option<Door>],
     stream: TcpStream,
+    from: SocketAddr,
     entry: &Entry<'_, R>,
     now: u64,
     counts: &mut Counts,
@@ -165,7 +168,7 @@ fn let_in<R: RandomSource>(
         return;
     };
     counts.opened();
-    if put_door(doors, stream, entry, slot, now) {
+    if put_door(doors, stream, from, entry, slot, now) {
         return;
     }
     counts.closed(Why::Failed);
@@ -194,9 +197,9 @@ pub(crate) fn accept_some<R: RandomSource>(
 {
     for _accept in 0..ACCEPTS {
         match listener.accept() {
-            Ok((stream, _)) => {
+            Ok((stream, from)) => {
                 let _nodelay = stream.set_nodelay(true);
-                let_in(table, doors, stream, entry, now, counts);
+                let_in(table, doors, stream, from, entry, now, counts);
             }
             Err(error) => return after_error(&error, now, counts),
         }

@@ -8,6 +8,7 @@ use crate::door::PIECE;
 use crate::frames::{is_settled, messages_in, octets_of, outcome_of, prefix_of};
 use crate::line::{Change, Line};
 use crate::rounds::PEERS;
+use crate::senders::{Sender, Senders};
 use crate::telling::{MOST, log_frame, tell_rows};
 use mio::event::Event;
 use mio::{Registry, Token};
@@ -72,6 +73,8 @@ pub(crate) struct Carrier {
     pub prefix: u32,
     /// How many of these standard error was told of, once it was told.
     told: Option<u32>,
+    /// From where the commands came that clients submitted here.
+    senders: Senders,
     /// When it learned one last, or was told to catch up.
     grown: u64,
     /// How many milliseconds the last position took.
@@ -98,6 +101,7 @@ impl Carrier {
             gate: Gate::new(),
             prefix: 0,
             told: None,
+            senders: Senders::new(alloc),
             grown: 0,
             pace: 0,
             rivals: 0,
@@ -134,7 +138,10 @@ impl Carrier {
 
     /// The frame that begins here is taken next of a slot: it may be a client's command, or say
     /// that a round of the one that is under way was refused.
-    pub fn see(&mut self, held: &[u8], slot: usize, now: u64) {
+    pub fn see(&mut self, held: &[u8], slot: usize, from: SocketAddr, now: u64) {
+        if held.get(KIND) == Some(&SUBMIT) {
+            self.senders.see(held, Sender::At(from));
+        }
         if !self.carries {
             return;
         }
@@ -151,7 +158,11 @@ impl Carrier {
 
     /// The frame is taken next for a request of HTTP: it may be a client's command.
     pub fn see_http(&mut self, frame: &[u8], now: u64) {
-        if self.carries && frame.get(KIND) == Some(&SUBMIT) {
+        if frame.get(KIND) != Some(&SUBMIT) {
+            return;
+        }
+        self.senders.see(frame, Sender::Http);
+        if self.carries {
             self.begin(frame, now);
             self.more = true;
         }
@@ -410,7 +421,7 @@ impl Carrier {
                     return;
                 };
                 if let Some(answer) = ask(table, service, self.alloc, &request, now) {
-                    tell_rows(rt, self.alloc, from, &answer);
+                    tell_rows(rt, self.alloc, from, &answer, &self.senders);
                 }
                 return;
             }

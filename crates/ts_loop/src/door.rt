@@ -6,7 +6,7 @@ ghost use Rattle.ts_links.specs.Calls.{IsQuiet};
 use crate::lock::{Handed, Lock};
 use mio::net::TcpStream;
 use std::io::{ErrorKind, Read, Write};
-use std::net::Shutdown;
+use std::net::{Shutdown, SocketAddr};
 use ts_access::Key;
 use ts_links::reaching::{arrive, leave};
 use ts_links::{Connections, Stage};
@@ -19,6 +19,8 @@ pub(crate) const PIECE: usize = 16_384;
 #[derive(Drop)]
 pub(crate) struct Door {
     pub stream: TcpStream,
+    /// The address of its client.
+    pub from: SocketAddr,
     /// A read may give something.
     pub readable: bool,
     /// A write may take something.
@@ -35,9 +37,10 @@ pub(crate) struct Door {
 
 impl Door {
     /// The door of a new connection.
-    pub fn new(stream: TcpStream, lock: Option<Lock>) -> Door {
+    pub fn new(stream: TcpStream, from: SocketAddr, lock: Option<Lock>) -> Door {
         Door {
             stream,
+            from,
             readable: true,
             writable: true,
             ended: false,

@@ -76,6 +76,7 @@ mod pumping;
 mod reporting;
 mod rounds;
 mod seal;
+mod senders;
 mod serving;
 mod showing;
 mod telling;

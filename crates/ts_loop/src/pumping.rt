@@ -5,6 +5,7 @@ ghost use Rattle.ts_links.specs.Calls.{HasReached};
 use crate::carrier::Carrier;
 use crate::door::{Door, PIECE, finish, read_once, shut_if_done, write_last};
 use crate::watch::{Watch, kind_at, moment};
+use std::net::SocketAddr;
 use std::rt::Clock;
 use ts_access::Key;
 use ts_links::reaching::take_some;
@@ -102,6 +103,7 @@ fn take_one<S: Service, R: Clock>(
     service: &mut S,
     carrier: &mut Carrier,
     slot: usize,
+    from: SocketAddr,
     watch: &mut Watch,
 ) -> (u32, bool)
     requires { S.is_ready service.old }
@@ -111,7 +113,7 @@ fn take_one<S: Service, R: Clock>(
     if carrier.gate.holds_back(table.held(slot), round.now) {
         return (0, true);
     }
-    carrier.see(table.held(slot), slot, round.now);
+    carrier.see(table.held(slot), slot, from, round.now);
     take_next(round, table, service, slot, watch)
 }
 
@@ -123,6 +125,7 @@ fn take_turns<S: Service, R: Clock>(
     service: &mut S,
     carrier: &mut Carrier,
     slot: usize,
+    from: SocketAddr,
     watch: &mut Watch,
 ) -> (u32, bool)
     requires { S.is_ready service.old }
@@ -130,7 +133,7 @@ fn take_turns<S: Service, R: Clock>(
     ensures ready { S.is_ready service.new }
 {
     for turns in 0..TURNS {
-        let (taken, good) = take_one(round, table, service, carrier, slot, watch);
+        let (taken, good) = take_one(round, table, service, carrier, slot, from, watch);
         if taken == 0 || !good {
             return (turns, good);
         }
@@ -158,7 +161,7 @@ pub(crate) fn pump<S: Service, R: Clock>(
         write_last(door);
         return (0, Pumped::Failed);
     }
-    let (taken, good) = take_turns(round, table, service, carrier, slot, watch);
+    let (taken, good) = take_turns(round, table, service, carrier, slot, door.from, watch);
     if !good {
         return (taken, Pumped::Failed);
     }
