@@ -74,23 +74,30 @@ fn scene(commands: bool, keys: &[Key]) -> Scene<'_> {
     }
 }
 
-/// What waits to leave on a new connection on which these pieces came, and whether the node is
-/// asked.
-fn answer_to(
-    alloc: Global,
+/// Takes these pieces, and what they ask.
+fn take(
+    face: &mut Face,
+    board: &mut Board,
     scene: &Scene<'_>,
     pieces: &[&[u8]],
-) -> Result<(Vec<u8>, bool), HttpFault> {
-    let mut face = Face::new(alloc, 0);
-    let mut board = Board::new(alloc, 1);
+) -> Result<(), HttpFault> {
     for piece in pieces {
         face.push(piece, 0)?;
     }
-    face.take(scene, &mut board, 0)?;
-    Ok((
-        Vec::from_slice(alloc, face.octets())?,
+    face.take(scene, board, 0)
+}
+
+/// Whether what waits to leave on a new connection on which these pieces came begins so, and
+/// whether the node is asked. A connection is dropped in one place, since each such place is
+/// proved.
+fn answer_to(alloc: Global, scene: &Scene<'_>, pieces: &[&[u8]], wanted: &str) -> (bool, bool) {
+    let mut face = Face::new(alloc, 0);
+    let mut board = Board::new(alloc, 1);
+    let is_taken = take(&mut face, &mut board, scene, pieces).is_ok();
+    (
+        is_taken && begins(face.octets(), wanted),
         face.asks().is_some(),
-    ))
+    )
 }
 
 /// Whether octets begin as a text says, and are none where it is empty.
@@ -103,10 +110,7 @@ fn begins(octets: &[u8], text: &str) -> bool {
 
 /// Whether what is answered to a text begins so.
 fn is_answered(alloc: Global, scene: &Scene<'_>, text: &str, wanted: &str) -> bool {
-    match answer_to(alloc, scene, &[text.as_bytes()]) {
-        Ok((octets, _)) => begins(&octets, wanted),
-        Err(_) => false,
-    }
+    answer_to(alloc, scene, &[text.as_bytes()], wanted).0
 }
 
 #[test]
@@ -118,41 +122,44 @@ fn answers_without_the_node(rt: HostRuntime) {
 }
 
 /// Takes what waits, and has the node answer it by a frame.
-fn step(face: &mut Face, board: &mut Board, frame: &Frame) -> Result<(), HttpFault> {
+fn step(face: &mut Face, board: &mut Board, frame: Frame) -> Result<(), HttpFault> {
     let scene = scene(false, &[]);
-    face.take(&scene, board, 0)?;
-    face.give(frame, board, 0)
+    match face.take(&scene, board, 0) {
+        Ok(()) => face.give(&frame, board, 0),
+        Err(fault) => Err(fault),
+    }
 }
 
-/// What is answered to two requests that came together, once the node has answered each.
-fn healthy(alloc: Global) -> Result<Vec<u8>, HttpFault> {
-    let mut face = Face::new(alloc, 0);
-    let mut board = Board::new(alloc, 2);
-    face.push(
-        b"GET /healthz HTTP/1.1\r\nHost: a\r\n\r\nGET /v1/status HTTP/1.1\r\nHost: a\r\n\r\n",
-        0,
-    )?;
-    let prefix = Frame::Prefix { prefix: 7 };
+/// Two requests that come together.
+const TWO: &[u8] =
+    b"GET /healthz HTTP/1.1\r\nHost: a\r\n\r\nGET /v1/status HTTP/1.1\r\nHost: a\r\n\r\n";
+
+/// Takes two requests, and has the node answer the first, and the two steps of the second.
+fn take_two(face: &mut Face, board: &mut Board) -> Result<(), HttpFault> {
+    face.push(TWO, 0)?;
+    step(face, board, Frame::Prefix { prefix: 7 })?;
+    step(face, board, Frame::Prefix { prefix: 7 })?;
     let identity = Frame::Identity {
         node: 2,
         nodes: 3,
         group: 731_402,
     };
-    step(&mut face, &mut board, &prefix)?;
-    step(&mut face, &mut board, &prefix)?;
-    step(&mut face, &mut board, &identity)?;
-    Ok(Vec::from_slice(alloc, face.octets())?)
+    step(face, board, identity)
+}
+
+/// Whether both are answered, in their order.
+fn are_two_answered(alloc: Global) -> bool {
+    let mut face = Face::new(alloc, 0);
+    let mut board = Board::new(alloc, 2);
+    let is_taken = take_two(&mut face, &mut board).is_ok();
+    let status = b"\r\n\r\n{\"group\":731402,\"node\":2,\"nodes\":3,\"prefix\":7}\n";
+    let octets = face.octets();
+    is_taken && octets.starts_with(b"HTTP/1.1 200 OK\r\n") && octets.ends_with(status)
 }
 
 #[test]
 fn answers_one_request_after_another(rt: HostRuntime) {
-    let octets = match healthy(rt.alloc()) {
-        Ok(octets) => octets,
-        Err(_) => Vec::new(rt.alloc()),
-    };
-    assert!(rt; octets.starts_with(b"HTTP/1.1 200 OK\r\n"));
-    let status = b"\r\n\r\n{\"group\":731402,\"node\":2,\"nodes\":3,\"prefix\":7}\n";
-    assert!(rt; octets.ends_with(status));
+    assert!(rt; are_two_answered(rt.alloc()));
 }
 
 /// What a request for a command begins with.
@@ -175,10 +182,8 @@ a5a5a5a5a5a5a5a5a5a5a5a5a5a5a5a5a5a5a5a5a5a5a5a5a5a5a5a5a5a5a5a6\r\n";
 fn answer_with(alloc: Global, commands: bool, field: &[u8], wanted: &str) -> bool {
     let keys = [key(Role::Reader, 0x5a), key(Role::Admin, 0xa5)];
     let scene = scene(commands, &keys);
-    match answer_to(alloc, &scene, &[COMMAND, field, b"\r\n", &NOOP]) {
-        Ok((octets, asks)) => begins(&octets, wanted) && asks == wanted.is_empty(),
-        Err(_) => false,
-    }
+    let (begins, asks) = answer_to(alloc, &scene, &[COMMAND, field, b"\r\n", &NOOP], wanted);
+    begins && asks == wanted.is_empty()
 }
 
 #[test]

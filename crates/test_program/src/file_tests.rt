@@ -14,16 +14,13 @@ const FOLDER: &str = "ts_tasks_test";
 
 const PATH: &str = "ts_tasks_test/node";
 
-/// Appends a fact to the record. Whether it was opened.
+/// Appends a fact to the record. Whether it was opened, and the fact kept.
 fn append_round<R: Files + Eprint>(rt: &R, alloc: Global) -> Result<bool, Fault> {
     let (a, b) = open_disks(rt, alloc, PATH)?;
-    match Record::<_, Command>::open(alloc, a, b) {
-        Ok(mut record) => {
-            record.append(alloc, &[Fact::Used { round: 7 }])?;
-            Ok(true)
-        }
-        Err(_) => Ok(false),
-    }
+    Ok(match Record::<_, Command>::open(alloc, a, b) {
+        Ok(mut record) => record.append(alloc, &[Fact::Used { round: 7 }]).is_ok(),
+        Err(_) => false,
+    })
 }
 
 /// Whose record it is, and whether it has that fact alone. `None` where it is not opened.
