@@ -1,23 +1,18 @@
--- One more bit of a multiple.
-use Rattle.std.proofs.Common.{◌≡◌, ℕ, ◌+◌, ◌*◌, ◌/◌, ◌%◌, None, refl, add-one, arith}
-use Rattle.ts_curve.specs.Points.{Point, double, sum, multiple}
+-- One more bit of each of two multiples.
+use Rattle.std.proofs.Common.{◌≡◌, ℕ, ◌+◌, ◌*◌, ◌/◌, ◌%◌, ◌≤◌, None, refl, add-one, eqb, arith}
+use Rattle.ts_curve.specs.Points.{Point, double, with_bits, joint_multiple}
 
-pub multiple_even : (p a i h k : ℕ) (q : Point) → k ≡ 2 * h
-    → multiple p a (i + 1) k q ≡ double p a (multiple p a i h q)
-unfolding multiple
-multiple_even p a i h k q e =
-    let half : k / 2 ≡ h = omega arith in
-    let low : k % 2 ≡ 0 = omega arith in
-    rw (add-one, half, low) refl
+pub joint_step : (p a i h j u v b c : ℕ) (g q : Point) → b ≤ 1 → c ≤ 1 → u ≡ 2 * h + b
+    → v ≡ 2 * j + c → joint_multiple p a (i + 1) u v g q
+    ≡ with_bits p a (eqb b 1) (eqb c 1) g q (double p a (joint_multiple p a i h j g q))
+unfolding joint_multiple
+joint_step p a i h j u v b c g q bb cc eu ev =
+    let half_u : u / 2 ≡ h = omega arith in
+    let low_u : u % 2 ≡ b = omega arith in
+    let half_v : v / 2 ≡ j = omega arith in
+    let low_v : v % 2 ≡ c = omega arith in
+    rw (add-one, half_u, low_u, half_v, low_v) refl
 
-pub multiple_odd : (p a i h k : ℕ) (q : Point) → k ≡ 2 * h + 1
-    → multiple p a (i + 1) k q ≡ sum p a (double p a (multiple p a i h q)) q
-unfolding multiple
-multiple_odd p a i h k q e =
-    let half : k / 2 ≡ h = omega arith in
-    let low : k % 2 ≡ 1 = omega arith in
-    rw (add-one, half, low) refl
-
-pub multiple_none : (p a k : ℕ) (q : Point) → multiple p a 0 k q ≡ None
-unfolding multiple
-multiple_none p a k q = refl
+pub joint_none : (p a u v : ℕ) (g q : Point) → joint_multiple p a 0 u v g q ≡ None
+unfolding joint_multiple
+joint_none p a u v g q = refl

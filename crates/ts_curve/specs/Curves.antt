@@ -2,7 +2,7 @@
 use Rattle.std.specs.Prelude.{◌≡◌, ℕ, ◌-◌, ◌<◌, Bool, ◌&&◌, nat_lt, nat_eq, Some}
 use Rattle.ts_ring.specs.Modular.{add, mul}
 use Rattle.ts_prime.specs.Primes.{p256, n256, p384, n384}
-use Rattle.ts_curve.specs.Points.{Point, sum, multiple}
+use Rattle.ts_curve.specs.Points.{Point, joint_multiple}
 
 -- the curve y^2 = x^3 + a x + b over the numbers modulo a prime, its base point, the order of that
 -- point, and how many bits the order has
@@ -46,13 +46,9 @@ curve_p384 = record {
 abbrev pub base : Curve → Point
 base c = Some (c.base_x, c.base_y)
 
--- the sum of two points
-abbrev pub point_sum : Curve → Point → Point → Point
-point_sum c = sum c.prime c.a
-
--- k times a point, for k below 2 ^ bits
-abbrev pub times : Curve → ℕ → Point → Point
-times c k q = multiple c.prime c.a c.bits k q
+-- the sum of u times the base point and v times another, for u and v below 2 ^ bits
+abbrev pub combination : Curve → ℕ → ℕ → Point → Point
+combination c u v q = joint_multiple c.prime c.a c.bits u v (base c) q
 
 -- x^3 + a x + b
 abbrev pub right_side : Curve → ℕ → ℕ

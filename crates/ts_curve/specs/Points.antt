@@ -1,6 +1,7 @@
 -- Points of a curve y^2 = x^3 + a x + b over the numbers modulo a prime p, and their sum
 -- (SEC 1 2.2.1).
 use Rattle.std.specs.Prelude.{ℕ, zero, suc, ◌/◌, ◌%◌, nat_eq, if◌then◌else◌, Option, Some, None}
+use Rattle.std.specs.Prelude.{Bool, true, false}
 use Rattle.ts_ring.specs.Modular.{add, sub, mul, inverse}
 
 -- the coordinates of a point; None is the point at infinity
@@ -37,10 +38,18 @@ sum p a (Some t) (Some u) =
     then (if nat_eq t.1 u.1 then double p a (Some t) else None)
     else Some (third p (chord p t.0 t.1 u.0 u.1) t.0 t.1 u.0)
 
--- k times a point, for k below 2 ^ bits: the highest bit of k first, at each bit the double, and
--- the point added where the bit is 1
-unfoldable pub multiple : ℕ → ℕ → ℕ → ℕ → Point → Point
-multiple p a zero k q = None
-multiple p a (suc bits) k q =
-    let high = double p a (multiple p a bits (k / 2) q) in
-    if nat_eq (k % 2) 0 then high else sum p a high q
+-- a point, and g, q or the sum of both added, as two bits say
+abbrev pub with_bits : ℕ → ℕ → Bool → Bool → Point → Point → Point → Point
+with_bits p a false false g q t = t
+with_bits p a false true g q t = sum p a t q
+with_bits p a true false g q t = sum p a t g
+with_bits p a true true g q t = sum p a t (sum p a g q)
+
+-- The sum of u times g and v times q, for u and v below 2 ^ bits: their highest bits first, at each
+-- place the double, and g added where the bit of u is 1, q where that of v is, and the sum of both
+-- where both are.
+unfoldable pub joint_multiple : ℕ → ℕ → ℕ → ℕ → ℕ → Point → Point → Point
+joint_multiple p a zero u v g q = None
+joint_multiple p a (suc bits) u v g q =
+    with_bits p a (nat_eq (u % 2) 1) (nat_eq (v % 2) 1) g q
+    (double p a (joint_multiple p a bits (u / 2) (v / 2) g q))

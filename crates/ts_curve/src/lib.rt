@@ -6,15 +6,15 @@
 //! [`DomainParameters`], a curve. No call allocates.
 //!
 //! ```text
-//! // the multiple of the base point of P-256 by the number of 32 octets or fewer
-//! let k: Residue<OrderP256> = residue_of_octets(octets);
-//! let point = base_point::<P256>().multiple(&k.to_limbs());
+//! // u times the base point of P-256, and v times another point
+//! let u: Residue<OrderP256> = residue_of_octets(octets);
+//! let point = base_point::<P256>().joint_multiple(&u.to_limbs(), &other, &v.to_limbs());
 //! point.x()    // None: the point is infinity
 //! ```
 //!
 //! Contracts see a `Residue` as its number, and a `CurvePoint` as its coordinates, or as `None`
-//! where it is infinity. The sum of two points is that of chord and tangent, the multiple is by
-//! doubling and adding (`specs/Points.antt`); the curves are in `specs/Curves.antt`.
+//! where it is infinity. The sum of two points is that of chord and tangent, the sum of two
+//! multiples is by doubling and adding, both at once (`specs/Points.antt`); the curves are in `specs/Curves.antt`.
 //!
 //! What is proved of each call:
 //!
@@ -24,7 +24,7 @@
 //!   and the prime is one.
 //! - [`Residue`]: `product`, `sum`, `difference` and `inverse` are those modulo the prime, `zero`,
 //!   `one`, `copy` and `is_equal` are exact; `from_limbs` is the remainder, `to_limbs` the number.
-//! - [`CurvePoint`]: `new`, `infinity`, `double`, `sum` and `multiple` are those of
+//! - [`CurvePoint`]: `new`, `infinity`, `double`, `sum` and `joint_multiple` are those of
 //!   `specs/Points.antt`, where a is -3; `x` is the first coordinate.
 //! - [`DomainParameters`], for [`P256`] and [`P384`]: the coefficient b and the base point.
 //!   [`base_point`] is the base point, [`is_on_curve`] tells exactly whether coordinates are on the
@@ -37,7 +37,7 @@
 //! # Not promised
 //!
 //! Constant time: nothing here is for secrets. That the sum of points is associative, so that any
-//! other way to add up gives the same multiple; that the base point has the order that is named.
+//! other way to add up gives the same sum of multiples; that the base point has the order that is named.
 //! That the numbers of `specs/Curves.antt` are those of SP 800-186 is for a reader to compare.
 #![tactic(auto)]
 

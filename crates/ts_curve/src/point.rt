@@ -1,7 +1,7 @@
 //! Points of a curve whose a is -3.
 
 ghost use Rattle.std.specs.Prelude.{◌≡◌, ◌-◌, ℕ, Some, None, IfSome, IfNone, true, false};
-ghost use Rattle.ts_curve.specs.Points.{double, sum, multiple};
+ghost use Rattle.ts_curve.specs.Points.{double, joint_multiple, sum, with_bits};
 
 use crate::jacobian;
 use crate::limbs::Limbs;
@@ -80,27 +80,37 @@ impl<M: Modulus> CurvePoint<M> {
         Some(self.x.product(&inverse.product(&inverse)))
     }
 
-    /// The multiple by a number of limbs.
-    pub fn multiple<L: Limbs>(&self, k: &L) -> Self
-        ensures { result ≡ multiple M.prime (M.prime - 3) L.BITS (L.number k.now) self.now }
+    /// The sum of `u` times this point and `v` times another, in one pass over the bits of both.
+    pub fn joint_multiple<L: Limbs>(&self, u: &L, other: &Self, v: &L) -> Self
+        ensures { result ≡ joint_multiple M.prime (M.prime - 3) L.BITS (L.number u.now)
+            (L.number v.now) self.now other.now }
     {
-        let mut rest = *k;
+        let both = self.sum(other);
+        let mut rest_u = *u;
+        let mut rest_v = *v;
         let mut total = Self::infinity();
         for _i in 0..L::BITS {
-            let (next, bit) = L::doubled(&rest);
-            rest = next;
-            total = total.step(self, bit == 1);
+            let (next_u, bit_u) = L::doubled(&rest_u);
+            let (next_v, bit_v) = L::doubled(&rest_v);
+            rest_u = next_u;
+            rest_v = next_v;
+            total = total.step(bit_u == 1, bit_v == 1, self, other, &both);
         }
         total
     }
 
-    /// The double, and the sum of it and `point` where `is_odd`.
-    fn step(&self, point: &Self, is_odd: bool) -> Self
-        ensures even { is_odd ≡ false → result ≡ double M.prime (M.prime - 3) self.now }
-        ensures odd { is_odd ≡ true → result
-            ≡ sum M.prime (M.prime - 3) (double M.prime (M.prime - 3) self.now) point.now }
+    /// The double, and the point added that goes with these two bits: `g`, `q`, or the sum of both.
+    fn step(&self, of_g: bool, of_q: bool, g: &Self, q: &Self, both: &Self) -> Self
+        requires { both.now ≡ sum M.prime (M.prime - 3) g.now q.now }
+        ensures { result ≡ with_bits M.prime (M.prime - 3) of_g of_q g.now q.now
+            (double M.prime (M.prime - 3) self.now) }
     {
         let twice = self.double();
-        if is_odd { twice.sum(point) } else { twice }
+        match (of_g, of_q) {
+            (false, false) => twice,
+            (false, true) => twice.sum(q),
+            (true, false) => twice.sum(g),
+            (true, true) => twice.sum(both),
+        }
     }
 }

@@ -10,7 +10,7 @@ use Rattle.ts_der.specs.Integer.{is_negative}
 use Rattle.ts_der.proofs.Laws.{ok_is}
 use Rattle.ts_curve.specs.Octets.{number_of}
 use Rattle.ts_curve.specs.Points.{Point}
-use Rattle.ts_curve.specs.Curves.{Curve, base, point_sum, times, is_on_curve}
+use Rattle.ts_curve.specs.Curves.{Curve, combination, is_on_curve}
 use Rattle.ts_curve.proofs.Tests.{both, joined, on_curve_test}
 use Rattle.ts_ecdsa.specs.Number.{FirstIs, checked_point, IsNumberSignature}
 use Rattle.ts_ecdsa.specs.Key.{size, key_x, key_y, key_point, IsPublicKey}
@@ -24,7 +24,7 @@ same_point : (c : Curve) (q : Point) (e r s : ℕ)
     → checked_point c q (e % c.order) r s ≡ checked_point c q e r s
 same_point c q e r s =
     let w = inverse c.order s in
-    ap (λ k. point_sum c (times c k (base c)) (times c (mul c.order r w) q))
+    ap (λ k. combination c k (mul c.order r w) q)
     (mul-mod_first e w c.order)
 
 number_to : (c : Curve) (q : Point) (e r s : ℕ) → IsNumberSignature c q (e % c.order) r s

@@ -2,7 +2,7 @@
 use Rattle.std.specs.Prelude.{◌≡◌, ℕ, ◌%◌, ◌<◌, Some, None}
 use Rattle.ts_ring.specs.Modular.{mul, inverse}
 use Rattle.ts_curve.specs.Points.{Point}
-use Rattle.ts_curve.specs.Curves.{Curve, base, point_sum, times}
+use Rattle.ts_curve.specs.Curves.{Curve, combination}
 
 -- a point is not infinity, and its first coordinate modulo n is r
 abbrev pub FirstIs : ℕ → Point → ℕ → Type 0
@@ -13,7 +13,7 @@ FirstIs n (Some t) r = t.0 % n ≡ r
 abbrev pub checked_point : Curve → Point → ℕ → ℕ → ℕ → Point
 checked_point c q e r s =
     let w = inverse c.order s in
-    point_sum c (times c (mul c.order e w) (base c)) (times c (mul c.order r w) q)
+    combination c (mul c.order e w) (mul c.order r w) q
 
 -- (r, s) is a signature of e under the key q: both lie in 1 to n - 1, and r is the first coordinate
 -- of R modulo n

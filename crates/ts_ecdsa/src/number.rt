@@ -28,9 +28,7 @@ pub fn is_number_signature<C: DomainParameters>(
     let inverse = s.inverse();
     let u = e.product(&inverse).to_limbs();
     let v = r.product(&inverse).to_limbs();
-    let first = base_point::<C>().multiple(&u);
-    let second = q.multiple(&v);
-    match first.sum(&second).x() {
+    match base_point::<C>().joint_multiple(&u, q, &v).x() {
         None => false,
         Some(x) => scalar_of::<C>(&x).is_equal(&r),
     }
