@@ -1,6 +1,6 @@
 -- Frames, how each is encoded, and which have an encoding.
-use Rattle.std.specs.Prelude.{◌≡◌, ◌≤◌, ◌+◌, ◌||◌, ◌&&◌, ℕ, Bool, true, nat_le, nat_lt, List, []}
-use Rattle.std.specs.Prelude.{◌∷◌, ◌++◌, length, Option, Some, None}
+use Rattle.std.specs.Prelude.{◌≡◌, ◌≤◌, ◌<◌, ◌+◌, ◌^◌, ◌||◌, ◌&&◌, ℕ, Bool, true, nat_le, nat_lt}
+use Rattle.std.specs.Prelude.{List, [], ◌∷◌, ◌++◌, length, Option, Some, None}
 use Rattle.std.specs.Int.{to_be_bytes, w32, w64}
 use Rattle.ts_synod.specs.declared.message.Body.{Body}
 use Rattle.ts_synod.specs.declared.message.Body.TheVariants.{Prepare, Promise, Busy, Accept}
@@ -136,7 +136,7 @@ FieldsFit (Answer answer) = AnswerFits answer
 FieldsFit (Prefix prefix) = nat_le prefix 1000000 ≡ true
 FieldsFit (Identity node nodes group) = (is_node node ≡ true) × (is_node nodes ≡ true)
     × (nat_lt group 4294967296 ≡ true)
-FieldsFit (Reported text) = nat_lt (length text) 4294967296 ≡ true
+FieldsFit (Reported text) = length text < 2 ^ 32
 FieldsFit other = Unit {0}
 
 -- the fields fit, and the length is at most 8,388,608

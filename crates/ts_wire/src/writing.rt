@@ -14,6 +14,7 @@ use crate::frame::Frame;
 use crate::wire_error::WriteError;
 use std::alloc::{AllocError, Global};
 use ts_codec::writing::{push_blob32, push_number32, push_number64};
+use ts_octets::Octets;
 use ts_question::Question;
 use ts_store::{Command, Outcome, Refusal};
 use ts_synod::{Body, Vote};
@@ -192,6 +193,18 @@ fn kind_of(frame: &Frame) -> u8
     }
 }
 
+/// Writes a text as a blob. One of 2^32 octets or more, which no frame can have, is refused as if
+/// memory were.
+fn push_text(out: &mut Vec<u8>, text: &Octets) -> Result<(), AllocError>
+    ensures { OnOk result (out.new.items ≡ out.old.items ++ blob32 text.now) }
+{
+    let octets = text.as_slice();
+    if octets.len() >= 1 << 32 {
+        return Err(AllocError);
+    }
+    push_blob32(out, octets)
+}
+
 /// Writes the fields of a frame, which follow its kind.
 #[tactic(auto, using(crate::proofs::Joins::two))]
 fn push_fields(alloc: Global, out: &mut Vec<u8>, frame: &Frame) -> Result<(), AllocError>
@@ -224,7 +237,7 @@ fn push_fields(alloc: Global, out: &mut Vec<u8>, frame: &Frame) -> Result<(), Al
             out.push(*nodes)?;
             push_number32(out, *group)?;
         }
-        Frame::Reported { text } => push_blob32(out, text.as_slice())?,
+        Frame::Reported { text } => push_text(out, text)?,
         Frame::Take
         | Frame::CatchUp
         | Frame::Status
