@@ -61,6 +61,7 @@ mod carrying;
 mod connection;
 mod fault;
 mod listening;
+mod notes;
 mod outbox;
 mod peer;
 mod replies;

@@ -15,31 +15,19 @@ ghost use Rattle.ts_serve.specs.Turn.{Calls, Given, Handled, HasReported, Identi
 ghost use Rattle.ts_serve.specs.Steps.{Answers, Refuses, Says};
 
 use crate::fault::ServeFault;
+use crate::notes::Notes;
 use crate::outbox::Outbox;
 use crate::replies::{answer_of, failed_then};
 use crate::sending::{refuse, send, send_all};
 use std::alloc::{AllocError, Global};
 use std::cell::RefCell;
 use std::io::Write;
-use std::marker::Model;
 use ts_disk::Disk;
 use ts_node::{Identity, Input, Machine, Node, NodeFault, Output};
 use ts_octets::Octets;
 use ts_question::{Answer, Question};
 use ts_store::{Command, Outcome};
 use ts_wire::{Feed, Frame, FrameFault, NodeFault as WireFault};
-
-/// A text about the server, if it was given one.
-#[derive(Drop)]
-struct Notes {
-    text: Option<Octets>,
-}
-
-impl Model for Notes {
-    ghost Value = { Unit {0} };
-
-    ghost view = { λ _. tt };
-}
 
 /// A node, and the messages of it that wait to be taken, at most 256.
 #[derive(Drop)]
