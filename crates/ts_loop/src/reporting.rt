@@ -15,14 +15,14 @@ fn peer_line(alloc: Global, line: &Line, now: u64) -> Result<String, AllocError>
     let state = if line.is_known() { "reached" } else { "lost" };
     let (prefix, waiting, dropped) = (line.prefix, line.waiting(), line.dropped);
     if line.heard == 0 {
-        return format!(in alloc;
+        return Ok(format!(in alloc;
             "peer {node} {state} prefix {prefix} waiting {waiting} dropped {dropped} heard never\n"
-        );
+        )?);
     }
     let silent = now.saturating_sub(line.heard) / 1_000;
-    format!(in alloc;
+    Ok(format!(in alloc;
         "peer {node} {state} prefix {prefix} waiting {waiting} dropped {dropped} heard {silent}\n"
-    )
+    )?)
 }
 
 /// Adds a line of the peers.
