@@ -60,7 +60,7 @@ fn line_of(alloc: Global, upkeep: Upkeep, answer: &Frame) -> Result<String, Faul
             let (node, nodes, group) = (*node, *nodes, *group);
             Ok(format!(in alloc; "node {node} of {nodes} group {group}\n")?)
         }
-        (Upkeep::Report, Frame::Reported { text }) => text_of(alloc, text),
+        (Upkeep::Report, Frame::Reported { text }) => text_of(alloc, text.as_slice()),
         (Upkeep::CatchUp, Frame::Done { .. }) => Ok(String::from_str(alloc, "catchup\n")?),
         (Upkeep::Compact, Frame::Done { count: 0 }) => {
             Ok(String::from_str(alloc, "compact working\n")?)
