@@ -128,17 +128,17 @@ fn check_word(words: &ServeWords) -> &'static str {
     if words.stand_in {
         return "stand-in";
     }
-    match words.table {
-        Some(_) => "native, table",
-        None => "native",
+    if words.table.is_some() {
+        return "native, table";
     }
+    "native"
 }
 
 /// What serves a node: the program's version, its check of signatures, and which algorithms that
 /// knows.
 fn about_of(alloc: Global, words: &ServeWords) -> Result<String, AllocError> {
-    let check = check_word(words);
-    let mut about = format!(in alloc; "version {VERSION}\ncheck {check}\n")?;
+    let (version, check) = (VERSION, check_word(words));
+    let mut about = format!(in alloc; "version {version}\ncheck {check}\n")?;
     if !words.stand_in {
         about.push_str(ALGORITHMS)?;
     }
