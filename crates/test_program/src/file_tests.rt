@@ -14,13 +14,16 @@ const FOLDER: &str = "ts_tasks_test";
 
 const PATH: &str = "ts_tasks_test/node";
 
-/// Appends a fact to the record. Whether it was opened, and the fact kept.
+/// Appends a fact to the record. Whether it was opened.
 fn append_round<R: Files + Eprint>(rt: &R, alloc: Global) -> Result<bool, Fault> {
     let (a, b) = open_disks(rt, alloc, PATH)?;
-    Ok(match Record::<_, Command>::open(alloc, a, b) {
-        Ok(mut record) => record.append(alloc, &[Fact::Used { round: 7 }]).is_ok(),
-        Err(_) => false,
-    })
+    match Record::<_, Command>::open(alloc, a, b) {
+        Ok(mut record) => {
+            record.append(alloc, &[Fact::Used { round: 7 }])?;
+            Ok(true)
+        }
+        Err(_) => Ok(false),
+    }
 }
 
 /// Whose record it is, and whether it has that fact alone. `None` where it is not opened.
