@@ -87,6 +87,24 @@ pub fn tend<P: Peer>(alloc: Global, peer: &mut P, upkeep: Upkeep) -> Result<Stri
     line_of(alloc, upkeep, &answer)
 }
 
+/// Adds the line that says what a peer is answered to this. A peer of an earlier version doesn't
+/// know it, and nothing is added.
+fn add_line<P: Peer>(
+    alloc: Global,
+    peer: &mut P,
+    upkeep: Upkeep,
+    text: &mut String,
+) -> Result<(), Fault>
+    requires { P.is_ready peer.old }
+    ensures { P.is_ready peer.new }
+{
+    match tend(alloc, peer, upkeep) {
+        Ok(line) => Ok(text.push_str(line.as_str())?),
+        Err(Fault::Frame(FrameFault::Kind)) => Ok(()),
+        Err(fault) => Err(fault),
+    }
+}
+
 /// Asks a peer how it does: how many commands it knows, which node of which group it is, and its
 /// report. A peer of an earlier version has no report.
 ///
@@ -98,13 +116,8 @@ pub fn state_of<P: Peer>(alloc: Global, peer: &mut P) -> Result<String, Fault>
     ensures { P.is_ready peer.new }
 {
     let mut text = tend(alloc, peer, Upkeep::Status)?;
-    for upkeep in [Upkeep::Identify, Upkeep::Report] {
-        match tend(alloc, peer, upkeep) {
-            Ok(line) => text.push_str(line.as_str())?,
-            Err(Fault::Frame(FrameFault::Kind)) => {}
-            Err(fault) => return Err(fault),
-        }
-    }
+    add_line(alloc, peer, Upkeep::Identify, &mut text)?;
+    add_line(alloc, peer, Upkeep::Report, &mut text)?;
     Ok(text)
 }
 
