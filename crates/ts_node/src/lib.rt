@@ -59,6 +59,7 @@
 //! gave or an earlier call left (`IsSound`), and that what arrives fits a record (`InputFits`).
 #![tactic(auto)]
 
+mod batch;
 mod feeding;
 mod growth;
 mod identity;
