@@ -20,8 +20,8 @@ use Rattle.ts_node.specs.Node.{IsSound, is_broken}
 use Rattle.ts_node.specs.Batch.{IsBatch}
 use Rattle.ts_node.specs.Call.{IsCall}
 use Rattle.ts_node.specs.Turn.{IsTurn}
-use Rattle.ts_node.specs.Run.{AreAllowed, Group, Happening, IsAllowed, IsOpened, after_all, called}
-use Rattle.ts_node.specs.Run.{cut, refused, reopened, rewritten, stopped, turned}
+use Rattle.ts_node.specs.Run.{AreAllowed, Group, Happening, IsAllowed, IsOpened, called, cut}
+use Rattle.ts_node.specs.Run.{refused, reopened, rewritten, stopped, turned}
 
 -- an input that the messages sent so far allow, or a compaction
 abbrev pub IsOffered : {C Q : Type 0} → List (Message C) → Input C Q → Type 0
@@ -123,8 +123,8 @@ module _ {D C M O Q A B : Type 0} (state : D → State) (octets : C → List ℕ
   abbrev pub MayAll : Group D C M O Q A → List (Happening D C M O Q A) → Type 0
   MayAll s run = AreAllowed octets store (is_answer rest) n s run
 
-  -- A call of `turn_all`: what became of each input that it took is a happening, one after another,
-  -- and after the last of them the node is the new one.
+  -- A call of `turn_all`: what became of each input that it took is a happening, one after another;
+  -- and what it left is a refusal, which changes nothing, and after which the node is the new one.
   abbrev pub BatchesAre : Type 0
   BatchesAre = (s : Group D C M O Q A) (i : ℕ) (inputs : List (Input C Q))
       (result : Result (Vec (Result (Output C O A) NodeFault)) NodeFault) (new : Node D C M)
@@ -132,7 +132,7 @@ module _ {D C M O Q A B : Type 0} (state : D → State) (octets : C → List ℕ
       → IsBatch octets store basis is_answer state (s.nodes i) inputs result new
       → MatchResult result
       (λ answers. (run : List (Happening D C M O Q A)) × AreOnes i inputs answers.items run
-      × MayAll s run × ((after_all s run).nodes i ≡ new))
+      × MayAll s (run ++ refused i new ∷ []))
       (λ fault. (fault ≡ faults.DiskFailed) ⊎ (fault ≡ faults.Broken))
 
   -- A batch that is cut off at any moment, or after which the node stops: nothing happened, or all

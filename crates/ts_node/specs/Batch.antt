@@ -136,6 +136,16 @@ module _ {D C M O Q A B : Type 0} (octets : C → List ℕ) (store : Store C O (
   IsNext before old input (Err fault) after new = (new.ahead ≡ false)
       × IsTaken before (holding old before) input (Err fault) after (holding new after)
 
+  -- Inputs are taken in memory, up to where a batch ends; and the volatile part is then that of the
+  -- node which the last of them left.
+  pub record HasStaged (old : Node D C M) (inputs : List (Input C Q))
+      (results : List (Result (Output C O A) NodeFault)) (after : List (Fact C))
+      (new : Node D C M) : Type 0 where
+    pub last : Node D C M
+    pub taken : AreTaken [] old inputs results after last
+    pub ends : IsStop after last (drop (length results) inputs)
+    pub volatile : volatile new ≡ volatile last
+
   -- Some turns, of which a crash at any moment leaves no fact, or all facts of all of them.
   pub record IsBatch (state : D → State) (old : Node D C M) (inputs : List (Input C Q))
       (result : Result (Vec (Result (Output C O A) NodeFault)) NodeFault)
@@ -152,9 +162,8 @@ module _ {D C M O Q A B : Type 0} (octets : C → List ℕ) (store : Store C O (
     -- It ends only where it has to, and not before its first input, if that is an event.
     pub ends : OnOk result (IsStop more last (drop (length results) inputs))
     pub some : OnOk result (IsEvent inputs → 1 ≤ length results)
-    -- Where nothing is kept the record stays as it is, and where nothing is taken the node does.
-    pub none_kept : OnOk result (more ≡ [] → new.kept ≡ old.kept)
-    pub none_taken : OnOk result (results ≡ [] → new ≡ old)
+    -- Where there are no facts the record stays as it is.
+    pub none : OnOk result (more ≡ [] → new.kept ≡ old.kept)
     pub same_config : config new ≡ config old
     pub same_basis : basis new.machine ≡ basis old.machine
     pub whole : OnOk result (is_broken new ≡ false)

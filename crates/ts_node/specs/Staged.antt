@@ -1,7 +1,7 @@
 -- What a turn has made so far: its facts and messages, and the roles as they are then.
 use Rattle.std.proofs.Common.{◌≡◌, ◌≤◌, ◌+◌, ◌++◌, ℕ, List, length, slice_get, Some, Result, Ok, Err}
 use Rattle.std.proofs.Common.{true, false}
-use Rattle.std.specs.Prelude.{OnOk, IsErrOf}
+use Rattle.std.specs.Prelude.{OnOk, IfErr, IsErrOf}
 use Rattle.ts_disk.specs.Disk.{State}
 use Rattle.ts_journal.specs.Images.{AnyPair}
 use Rattle.ts_synod.specs.declared.message.Fact.{Fact}
@@ -196,6 +196,7 @@ pub record HasRest {D C M O Q A : Type 0} (octets : C → List ℕ)
       → (turn store k (node_with kept v) sent (inputs_of k.me sent event looked made)).effect
       ≡ record { facts = more; messages = made; volatile = then' }
   pub comes : Stages old reply looked made more then' before result after new
+  pub only : IfErr result (λ fault. fault ≡ faults.Broken)
   pub few : looked ≤ 64
   pub ends : OnOk result ((k : Config) (kept : List (Fact C)) (v : world.Volatile C)
       (sent : List (Message C)) (event : world.Input C Q)

@@ -106,7 +106,7 @@ module _ {C O Q : Type 0} (octets : C → List ℕ) (store : Store C O (List C) 
       → List (Message C) → Turn C O Q (List C) → Type 0
   EndsBehind before config kept sent looked made t = (has_own config.me (drop looked made) ≡ false)
       ⊎ (looked ≡ 64)
-      ⊎ (FitTogether octets (before ++ t.effect.facts ++ facts_next config kept sent looked t) → ⊥)
+      ⊎ (FitTogether octets (before ++ (t.effect.facts ++ facts_next config kept sent looked t)) → ⊥)
 
   -- the same of a turn whose facts are kept alone
   abbrev pub Ends : Config → List (Fact C) → List (Message C) → ℕ → List (Message C)

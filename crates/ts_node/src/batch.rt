@@ -1,10 +1,10 @@
 //! A node takes several inputs, and keeps the facts of all of them together.
 
 ghost use Rattle.std.specs.Prelude.{◌≡◌, ◌≤◌, ◌++◌, ◌∷◌, [], IfOk, IfErr, OnOk, OnErr, length};
-ghost use Rattle.std.specs.Prelude.{true, false, drop, All, Result};
+ghost use Rattle.std.specs.Prelude.{true, false, All, Result};
 ghost use Rattle.ts_synod.specs.declared.message.Fact.{Fact};
 ghost use Rattle.ts_node.specs.declared.input.Output.{Output as Given};
-ghost use Rattle.ts_node.specs.Batch.{AreTaken, IsBatch, IsEvent, IsNext, IsPlanned, IsStop};
+ghost use Rattle.ts_node.specs.Batch.{HasStaged, IsBatch, IsEvent, IsNext, IsPlanned, IsStop};
 ghost use Rattle.ts_node.specs.Batch.{IsTaken, holding};
 ghost use Rattle.ts_node.specs.Inputs.{InputFits};
 ghost use Rattle.ts_node.specs.Machine.{store_of};
@@ -73,9 +73,13 @@ impl<D: Disk, C: Command + Codec, M: Machine<C>> Node<D, C, M> {
     {
         let mut staged = Staged::empty(self.alloc);
         let mut results = Vec::new(self.alloc);
-        self.stage_all(inputs, &mut staged, &mut results)?;
-        self.keep_staged(staged)?;
-        Ok(results)
+        match self.stage_all(inputs, &mut staged, &mut results) {
+            Ok(()) => match self.keep_staged(staged) {
+                Ok(()) => Ok(results),
+                Err(fault) => Err(fault),
+            },
+            Err(fault) => Err(fault),
+        }
     }
 
     /// Takes inputs in memory, as far as their facts can be kept at once.
@@ -92,12 +96,9 @@ impl<D: Disk, C: Command + Codec, M: Machine<C>> Node<D, C, M> {
         requires ready { AreReady C.octets staged.old }
         requires fits { All (InputFits C.octets) inputs.now }
         requires event { IsEvent inputs.now }
-        ensures taken { OnOk result (AreTaken C.octets (store_of M.Question M.client_id M.outcome)
-            M.basis M.is_answer [] self.old inputs.now results.new.items staged.new.facts.items
-            (holding self.new staged.new.facts.items)) }
-        ensures ends { OnOk result (IsStop C.octets (store_of M.Question M.client_id M.outcome)
-            M.basis M.is_answer staged.new.facts.items (holding self.new staged.new.facts.items)
-            (drop (length results.new.items) inputs.now)) }
+        ensures taken { OnOk result (HasStaged C.octets
+            (store_of M.Question M.client_id M.outcome) M.basis M.is_answer self.old inputs.now
+            results.new.items staged.new.facts.items self.new) }
         ensures some { OnOk result (1 ≤ length results.new.items) }
         ensures fault { IfErr result (λ fault. fault ≡ NodeFault.Broken) }
         ensures ahead { OnErr result (self.new.ahead ≡ true) }

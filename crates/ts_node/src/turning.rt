@@ -23,13 +23,24 @@ use crate::turn::{Staged, Turn};
 use std::alloc::{AllocError, Global};
 use ts_disk::Disk;
 use ts_record::Fault;
-use ts_synod::{Codec, Command, Message};
+use ts_synod::{Codec, Command, Fact, Message};
 
 /// One of the messages is to this node.
 fn has_own<C>(messages: &[Message<C>], me: u8) -> bool
     ensures { result ≡ has_own me messages.now }
 {
     messages.iter().any(|message| message.to == me)
+}
+
+/// There are no facts.
+fn are_none<C>(facts: &[Fact<C>]) -> bool
+    ensures none { result ≡ true → facts.now ≡ [] }
+    ensures some { result ≡ false → facts.now ≡ [] → ⊥ }
+{
+    match facts.first() {
+        None => true,
+        Some(_) => false,
+    }
 }
 
 /// Keeps a message that is to another node.
@@ -205,9 +216,13 @@ impl<D: Disk, C: Command + Codec, M: Machine<C>> Node<D, C, M> {
             return Err(NodeFault::Memory);
         };
         let mut staged = Staged::empty(self.alloc);
-        let output = self.begin(plan, size, reply, &mut staged)?;
-        self.keep_staged(staged)?;
-        Ok(output)
+        match self.begin(plan, size, reply, &mut staged) {
+            Ok(output) => match self.keep_staged(staged) {
+                Ok(()) => Ok(output),
+                Err(fault) => Err(fault),
+            },
+            Err(fault) => Err(fault),
+        }
     }
 
     /// Makes a turn of a plan, and of the messages to the node itself, behind facts that are to be
@@ -289,13 +304,12 @@ impl<D: Disk, C: Command + Codec, M: Machine<C>> Node<D, C, M> {
             self.new }
         ensures moments { Moments D.state C.octets self.old staged.facts.items self.new }
         ensures none { OnOk result (staged.facts.items ≡ [] → self.new.kept ≡ self.old.kept) }
-        ensures config { config self.new ≡ config self.old }
-        ensures machine { self.new.machine ≡ self.old.machine }
+        ensures same { self.new ≡ record self.old { kept = self.new.kept; ahead = self.new.ahead } }
         ensures whole { OnOk result (self.new.kept.broken ≡ false) }
         ensures still { OnOk result (self.new.ahead ≡ false) }
         ensures sound { IsSound D.state C.octets M.commands self.new }
     {
-        if staged.facts.is_empty() {
+        if are_none(&staged.facts) {
             return Ok(());
         }
         match self.kept.append(self.alloc, &staged.facts) {
