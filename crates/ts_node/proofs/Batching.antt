@@ -1,5 +1,5 @@
 -- An input of a batch, in memory.
-use Rattle.std.proofs.Common.{◌≡◌, ◌≢◌, ◌∙◌, ◌≤◌, ◌+◌, ◌<◌, ◌++◌, ◌∷◌, ℕ, suc, List, [], Result, Ok, Err, Option, Some, None, IfOk, OnOk, length, take, drop, refl, sym, ap, subst, arith, append_assoc}
+use Rattle.std.proofs.Common.{◌≡◌, ◌≢◌, ◌∙◌, ◌≤◌, ◌+◌, ◌<◌, ◌++◌, ◌∷◌, ℕ, suc, List, [], Bool, true, false, true≢false, Result, Ok, Err, Option, Some, None, IfOk, OnOk, length, take, drop, refl, sym, ap, subst, arith, append_assoc}
 use Rattle.std.proofs.lemmas.List.{append-nil}
 use Rattle.ts_synod.specs.declared.message.Fact.{Fact}
 use Rattle.ts_synod.specs.declared.message.Message.{Message}
@@ -89,6 +89,17 @@ module _ {D C M O Q A B : Type 0} (octets : C → List ℕ) (store : Store C O (
         go faults.Broken fs sent event h = absurd h
         go faults.GenerationsExhausted fs sent event h = absurd h
 
+    pub refused_next : (roles : Roles C) (after : List (Fact C)) → after ≡ before → volatile new ≡ volatile old → (fault : NodeFault) → StandFor old.roles (old.kept.facts ++ before)
+        → ((facts : List (Fact C)) (sent : List (Message C)) (event : world.Input C Q) → StandFor old.roles facts → IsInput sent input event
+        → Submits (is_answer (basis old.machine)) roles (Err fault) (step store (config old) (node_with facts (volatile old)) sent event))
+        → new.ahead ≡ false → IsNext octets store basis is_answer before old input (Err fault) after new
+    refused_next roles after is vol faults.Broken stand submits still = absurd (let e = an_event input real in submits (old.kept.facts ++ before) e.0 e.1 stand e.2)
+    refused_next roles after is vol faults.Memory stand submits still = (still, plan_refused roles after is vol faults.Memory stand submits)
+    refused_next roles after is vol faults.RoundsExhausted stand submits still = (still, plan_refused roles after is vol faults.RoundsExhausted stand submits)
+    refused_next roles after is vol faults.PositionsExhausted stand submits still = (still, plan_refused roles after is vol faults.PositionsExhausted stand submits)
+    refused_next roles after is vol faults.DiskFailed stand submits still = (still, plan_refused roles after is vol faults.DiskFailed stand submits)
+    refused_next roles after is vol faults.GenerationsExhausted stand submits still = (still, plan_refused roles after is vol faults.GenerationsExhausted stand submits)
+
   -- a plan for an input, whose roles and machine are others than those before it
   module _ (old : Node D C M) (before : List (Fact C)) (input : Input C Q) (real : input ≡ kinds.Compact → ⊥) (stand : StandFor old.roles (old.kept.facts ++ before)) (roles : Roles C) (machine : M) (conf : config_of roles ≡ config old) (vol : volatile_of roles ≡ volatile old)
       (stands : (fs : List (Fact C)) → StandFor old.roles fs → StandFor roles fs) (plan : Plan C) (reply : Reply O A)
@@ -169,3 +180,22 @@ module _ {D C M O Q A B : Type 0} (octets : C → List ℕ) (store : Store C O (
       let f = step_fits octets store (config node) (node_with (facts node) (volatile node)) e.0 input e.1 fits e.2 in
       let together : FitTogether octets ([] ++ (step store (config node) (node_with (facts node) (volatile node)) e.0 e.1).effect.facts) = (f.fit, f.short) in
       stop (facts node) e.0 e.1 (same_refl (facts node)) e.2 (subst (λ fs. FitTogether octets (fs ++ (step store (config node) (node_with (facts node) (volatile node)) e.0 e.1).effect.facts)) (sym is) together)
+
+  -- what a batch notes
+  pub next_other : (before : List (Fact C)) (old : Node D C M) (input : Input C Q) (fault : NodeFault) (after : List (Fact C)) (new : Node D C M) → fault ≢ faults.Broken → IsNext octets store basis is_answer before old input (Err fault) after new
+      → (new.ahead ≡ false) × IsTaken octets store basis is_answer before (holding old before) input (Err fault) after (holding new after)
+  next_other before old input faults.Broken after new other h = absurd (other refl)
+  next_other before old input faults.Memory after new other h = h
+  next_other before old input faults.RoundsExhausted after new other h = h
+  next_other before old input faults.PositionsExhausted after new other h = h
+  next_other before old input faults.DiskFailed after new other h = h
+  next_other before old input faults.GenerationsExhausted after new other h = h
+
+-- what is noted
+pub noted : {E X N S : Type 0} (r : Result Bool E) → OnOk r N → OnOk r S → (N → S → X) → IfOk r (λ went. went ≡ true → X)
+noted (Ok went) n s f = λ is. f n s
+noted (Err e) n s f = tt
+
+pub not_left : {E X : Type 0} (r : Result Bool E) → IfOk r (λ went. went ≡ true) → IfOk r (λ went. went ≡ false → X)
+not_left (Ok went) is = λ left. absurd (true≢false (sym is ∙ left))
+not_left (Err e) is = tt

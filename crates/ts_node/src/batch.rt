@@ -145,9 +145,9 @@ impl<D: Disk, C: Command + Codec, M: Machine<C>> Node<D, C, M> {
         ensures fault { IfErr result (λ fault. fault ≡ NodeFault.Broken) }
         ensures ahead { OnErr result (self.new.ahead ≡ true) }
         ensures still { OnOk result (self.new.ahead ≡ false) }
-        ensures staged { self.new.ahead ≡ false
-            → IsStaged D.state C.octets M.commands self.new staged.new.facts.items }
-        ensures ready { self.new.ahead ≡ false → AreReady C.octets staged.new }
+        ensures staged { OnOk result
+            (IsStaged D.state C.octets M.commands self.new staged.new.facts.items) }
+        ensures ready { OnOk result (AreReady C.octets staged.new) }
         ensures kept { self.new.kept ≡ self.old.kept }
         ensures config { config self.new ≡ config self.old }
         ensures basis { M.basis self.new.machine ≡ M.basis self.old.machine }

@@ -2,9 +2,11 @@
 use Rattle.std.proofs.Common.{◌∙◌, true≢false, refl, sym, subst, arith}
 use Rattle.ts_record.specs.Kept.{member}
 use Rattle.ts_node.specs.Machine.{store_of}
-use Rattle.ts_node.specs.Node.{config, owner}
+use Rattle.ts_synod.specs.Laws.{node_with}
+use Rattle.ts_synod.specs.Turn.{turn}
+use Rattle.ts_node.specs.Node.{config, owner, volatile}
 use Rattle.ts_node.specs.Roles.{facts_in, volatile_after}
-use Rattle.ts_node.specs.Turn.{EndsBehind}
+use Rattle.ts_node.specs.Turn.{EndsBehind, inputs_of}
 use Rattle.ts_node.proofs.Breaks.{both_not, second_not}
 use Rattle.ts_node.proofs.Coming.{one_step}
 use Rattle.ts_node.proofs.Images.{rests}
@@ -51,7 +53,7 @@ returns-in-Ok-keep_staged-clause-come g c =
       few = b.few;
       alone = λ only. absurd (true≢false (sym c.requires.own ∙ only));
       moments = moments_kept g.D.Disk.state g.C.Codec.octets g.M.Machine.commands store old c.begin.new.self c.keep_staged.new.self c.args.plan c.args.reply c.empty-staged.result.facts.items c.begin.new.staged.facts.items none c.begin.ensures.kept c.begin.ensures.config c.in-Ok.output b c.keep_staged.ensures.moments;
-      ends = λ fs sent event stand makes. subst (λ xs. EndsBehind g.C.Codec.octets store xs (config old) fs sent b.looked b.made _) none (b.ends fs sent event stand makes);
+      ends = λ fs sent event stand makes. subst (λ xs. EndsBehind g.C.Codec.octets store xs (config old) fs sent b.looked b.made (turn store (config old) (node_with fs (volatile old)) sent (inputs_of (config old).me sent event b.looked b.made))) none (b.ends fs sent event stand makes);
     }
 
 pub returns-in-Err-keep_staged-clause-come : goal.returns-in-Err-keep_staged-clause-come
@@ -66,7 +68,7 @@ returns-in-Err-keep_staged-clause-come g c =
       more = b.more;
       then' = b.then';
       so = b.so;
-      comes = come_failed g.D.Disk.state g.C.Codec.octets g.M.Machine.commands store old c.begin.new.self c.keep_staged.new.self c.args.plan c.args.reply c.empty-staged.result.facts.items c.begin.new.staged.facts.items none c.begin.ensures.kept c.begin.ensures.config _ c.in-Ok.output c.in-Err-keep_staged.fault _ b c.in-Err-keep_staged.ensures.keeps;
+      comes = come_failed g.D.Disk.state g.C.Codec.octets g.M.Machine.commands store old c.begin.new.self c.keep_staged.new.self c.args.plan c.args.reply c.empty-staged.result.facts.items c.begin.new.staged.facts.items none c.begin.ensures.kept c.begin.ensures.config (Unit {0}) c.in-Ok.output c.in-Err-keep_staged.fault (volatile c.begin.new.self) b c.in-Err-keep_staged.ensures.keeps;
       few = b.few;
       alone = λ only. absurd (true≢false (sym c.requires.own ∙ only));
       moments = moments_kept g.D.Disk.state g.C.Codec.octets g.M.Machine.commands store old c.begin.new.self c.keep_staged.new.self c.args.plan c.args.reply c.empty-staged.result.facts.items c.begin.new.staged.facts.items none c.begin.ensures.kept c.begin.ensures.config c.in-Ok.output b c.keep_staged.ensures.moments;
