@@ -33,7 +33,7 @@ module _ {D C M O Q A B : Type 0} (octets : C → List ℕ) (store : Store C O (
   pub taken_more : (before : List (Fact C)) (old : Node D C M) (inputs : List (Input C Q)) (results : List (Result (Output C O A) NodeFault)) (mid : List (Fact C)) (node : Node D C M) (input : Input C Q) (r : Result (Output C O A) NodeFault) (after : List (Fact C)) (new : Node D C M)
       → length results ≡ length inputs → AreTaken octets store basis is_answer before old inputs results mid node → IsTaken octets store basis is_answer mid node input r after new
       → AreTaken octets store basis is_answer before old (inputs ++ input ∷ []) (results ++ r ∷ []) after new
-  taken_more before old [] [] mid node input r after new long are one = (after, new, subst (λ n. IsTaken octets store basis is_answer before n input r after new) are.1 (subst (λ fs. IsTaken octets store basis is_answer fs node input r after new) are.0 one), refl, refl)
+  taken_more before old [] [] mid node input r after new long are one = (after, new, subst (λ n. IsTaken octets store basis is_answer before n input r after new) are.1 (subst (λ fs. IsTaken octets store basis is_answer fs node input r after new) are.0 one), (refl, refl))
   taken_more before old [] (q ∷ results) mid node input r after new long are one = absurd are
   taken_more before old (x ∷ inputs) [] mid node input r after new long are one = absurd (omega (arith, long))
   taken_more before old (x ∷ inputs) (q ∷ results) mid node input r after new long are one = (are.0, are.1, are.2, taken_more are.0 are.1 inputs results mid node input r after new (omega (arith, long)) are.3 one)
@@ -105,7 +105,7 @@ module _ {D C M O Q A B : Type 0} (octets : C → List ℕ) (store : Store C O (
       (stands : (fs : List (Fact C)) → StandFor old.roles fs → StandFor roles fs) (plan : Plan C) (reply : Reply O A)
       (submits : (fs : List (Fact C)) (sent : List (Message C)) (event : world.Input C Q) → StandFor old.roles fs → IsInput sent input event
       → Makes roles plan (step store (config old) (node_with fs (volatile old)) sent event).effect × IsReply (is_answer (basis old.machine)) reply (step store (config old) (node_with fs (volatile old)) sent event).reply) where
-    mid : Node D C M
+    abbrev mid : Node D C M
     mid = record old { roles = roles; machine = machine }
 
     there : (fs : List (Fact C)) (sent : List (Message C)) (event : world.Input C Q) → Makes roles plan (step store (config old) (node_with fs (volatile old)) sent event).effect → Makes roles plan (step store (config_of roles) (node_with fs (volatile_of roles)) sent event).effect
@@ -180,22 +180,3 @@ module _ {D C M O Q A B : Type 0} (octets : C → List ℕ) (store : Store C O (
       let f = step_fits octets store (config node) (node_with (facts node) (volatile node)) e.0 input e.1 fits e.2 in
       let together : FitTogether octets ([] ++ (step store (config node) (node_with (facts node) (volatile node)) e.0 e.1).effect.facts) = (f.fit, f.short) in
       stop (facts node) e.0 e.1 (same_refl (facts node)) e.2 (subst (λ fs. FitTogether octets (fs ++ (step store (config node) (node_with (facts node) (volatile node)) e.0 e.1).effect.facts)) (sym is) together)
-
-  -- what a batch notes
-  pub next_other : (before : List (Fact C)) (old : Node D C M) (input : Input C Q) (fault : NodeFault) (after : List (Fact C)) (new : Node D C M) → fault ≢ faults.Broken → IsNext octets store basis is_answer before old input (Err fault) after new
-      → (new.ahead ≡ false) × IsTaken octets store basis is_answer before (holding old before) input (Err fault) after (holding new after)
-  next_other before old input faults.Broken after new other h = absurd (other refl)
-  next_other before old input faults.Memory after new other h = h
-  next_other before old input faults.RoundsExhausted after new other h = h
-  next_other before old input faults.PositionsExhausted after new other h = h
-  next_other before old input faults.DiskFailed after new other h = h
-  next_other before old input faults.GenerationsExhausted after new other h = h
-
--- what is noted
-pub noted : {E X N S : Type 0} (r : Result Bool E) → OnOk r N → OnOk r S → (N → S → X) → IfOk r (λ went. went ≡ true → X)
-noted (Ok went) n s f = λ is. f n s
-noted (Err e) n s f = tt
-
-pub not_left : {E X : Type 0} (r : Result Bool E) → IfOk r (λ went. went ≡ true) → IfOk r (λ went. went ≡ false → X)
-not_left (Ok went) is = λ left. absurd (true≢false (sym is ∙ left))
-not_left (Err e) is = tt
