@@ -4,13 +4,12 @@ use Rattle.std.proofs.lemmas.List.{append-nil, drop_more, length-take-le, take_m
 use Rattle.std.proofs.lemmas.List.Elements.{All-get_or}
 use Rattle.std.specs.Global.{Vec}
 use Rattle.std.specs.Prelude.{slice_index_or}
-use Rattle.ts_disk.specs.Disk.{State, IsDisk}
+use Rattle.ts_disk.specs.Disk.{State}
 use Rattle.ts_journal.specs.Images.{EveryPair}
 use Rattle.ts_synod.specs.declared.message.Fact.{Fact}
 use Rattle.ts_synod.specs.Config.{Config}
 use Rattle.ts_synod.specs.Node as world
 use Rattle.ts_synod.specs.Store.{Store}
-use Rattle.ts_record.specs.Kept.{member}
 use Rattle.ts_node.specs.declared.input.Input.{Input}
 use Rattle.ts_node.specs.declared.input.Input.TheVariants as kinds
 use Rattle.ts_node.specs.declared.input.NodeFault.{NodeFault}
@@ -19,10 +18,10 @@ use Rattle.ts_node.specs.declared.input.Output.{Output}
 use Rattle.ts_node.specs.declared.node.Node.{Node}
 use Rattle.ts_node.specs.Batch.{AreTaken, HasStaged, IsBatch, IsEvent, IsStop, IsTaken, holding}
 use Rattle.ts_node.specs.Inputs.{InputFits}
-use Rattle.ts_node.specs.Node.{Failed, IsWhole, Moments, ToEither, config, facts, is_broken, member_as, owner, volatile}
+use Rattle.ts_node.specs.Node.{Failed, Moments, ToEither, config, facts, is_broken, member_as, volatile}
 use Rattle.ts_node.specs.Staged.{Keeps}
 use Rattle.ts_node.proofs.Batching.{not_first, taken_more, taken_some}
-use Rattle.ts_node.proofs.Images.{rests}
+use Rattle.ts_node.proofs.Breaks.{no_event}
 
 take_all : {A : Type 0} (i : ℕ) (xs : List A) → length xs ≤ i → take i xs ≡ xs
 take_all zero [] l = refl
@@ -107,6 +106,29 @@ module _ {D C M O Q A B : Type 0} (octets : C → List ℕ) (store : Store C O (
     untaken : (xs : List (Input C Q)) → AreTaken octets store basis is_answer [] old xs [] [] old
     untaken [] = (refl, refl)
     untaken (x ∷ xs) = (refl, refl)
+
+    -- nothing is taken, since no event is first
+    pub batch_empty : (answers : Vec (Result (Output C O A) NodeFault)) → answers.items ≡ [] → (IsEvent inputs → ⊥) → Moments state octets old [] old → IsBatch octets store basis is_answer state old inputs (Ok answers) old
+    batch_empty answers is none moments = record {
+      results = [];
+      more = [];
+      last = old;
+      taken = λ up. untaken inputs;
+      answered = is;
+      keeps = λ up. (sym (append-nil (facts old)), refl);
+      moments = λ up. moments;
+      ends = stop inputs none;
+      some = λ event. absurd (none event);
+      none = λ e. refl;
+      same_config = refl;
+      same_basis = refl;
+      whole = whole;
+      broken = λ down. absurd (true≢false (sym down ∙ whole));
+    }
+      where
+        stop : (xs : List (Input C Q)) → (IsEvent xs → ⊥) → IsStop octets store basis is_answer [] old xs
+        stop [] other = tt
+        stop (x ∷ xs) other = λ kept sent event force is together. other (λ compact. no_event sent x event compact is)
 
     -- a batch in which memory was refused once the roles were changed
     pub batch_broken : (fault : NodeFault) (new : Node D C M) → fault ≡ faults.Broken → new.ahead ≡ true → new.kept ≡ old.kept → config new ≡ config old → basis new.machine ≡ basis old.machine → Moments state octets old [] new
