@@ -74,11 +74,7 @@ fn batch_of(alloc: Global, nodes: u8) -> Result<(usize, usize, u32), AllocError>
     let Reply::Prefix(prefix) = status.reply else {
         return Err(AllocError);
     };
-    Ok((
-        member.calls().saturating_sub(idle.calls()),
-        taken,
-        prefix,
-    ))
+    Ok((member.calls().saturating_sub(idle.calls()), taken, prefix))
 }
 
 /// Two commands before a compaction are kept by one append, and a node alone knows both after it;

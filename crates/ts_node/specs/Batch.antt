@@ -80,7 +80,8 @@ module _ {D C M O Q A B : Type 0} (octets : C → List ℕ) (store : Store C O (
   -- An input of a batch, at the node that the inputs before it left, and the node that it leaves.
   -- `before` are the facts of the batch so far, and `after` those with its own.
   pub record IsTaken (before : List (Fact C)) (old : Node D C M) (input : Input C Q)
-      (result : Result (Output C O A) NodeFault) (after : List (Fact C)) (new : Node D C M) : Type 0 where
+      (result : Result (Output C O A) NodeFault) (after : List (Fact C))
+      (new : Node D C M) : Type 0 where
     -- all messages that it made, how many of them were looked at, and its facts
     pub made : List (Message C)
     pub looked : ℕ
@@ -89,8 +90,8 @@ module _ {D C M O Q A B : Type 0} (octets : C → List ℕ) (store : Store C O (
     pub holds : facts new ≡ facts old ++ more
     -- It is no compaction.
     pub real : input ≡ kinds.Compact → ⊥
-    -- It does what a turn of the world's node does, whose facts are equivalent to the node's; and it
-    -- goes on while there is a message to the node itself, up to its bounds.
+    -- It does what a turn of the world's node does, whose facts are equivalent to the node's; and
+    -- it goes on while there is a message to the node itself, up to its bounds.
     pub turned : (kept : List (Fact C)) (sent : List (Message C)) (event : world.Input C Q)
         → SameForce kept (facts old) → IsInput sent input event
         → TakesTurn (is_answer (basis old.machine)) old result made new

@@ -1,6 +1,6 @@
 -- What a turn has made so far: its facts and messages, and the roles as they are then.
-use Rattle.std.proofs.Common.{◌≡◌, ◌≤◌, ◌+◌, ◌++◌, ℕ, List, length, slice_get, Some, Result, Ok, Err}
-use Rattle.std.proofs.Common.{true, false}
+use Rattle.std.proofs.Common.{◌≡◌, ◌≤◌, ◌+◌, ◌++◌, ℕ, List, length, slice_get, Some, Result, Ok}
+use Rattle.std.proofs.Common.{Err, true, false}
 use Rattle.std.specs.Prelude.{OnOk, IfErr, IsErrOf}
 use Rattle.ts_disk.specs.Disk.{State}
 use Rattle.ts_journal.specs.Images.{AnyPair}
@@ -64,8 +64,9 @@ pub record IsFull {C O Q : Type 0} (octets : C → List ℕ) (store : Store C O 
     (roles : Roles C) (turn_now : Turn C) : Type 0 where
   pub message : Message C
   pub is : slice_get turn_now.messages.items turn_now.looked ≡ Some message
-  pub full : FitBehind octets turn_now.before (turn_now.facts.items ++ (world.on_message store config
-      (kept ++ turn_now.facts.items) (volatile_of roles) message).facts) → ⊥
+  pub full : FitBehind octets turn_now.before (turn_now.facts.items
+      ++ (world.on_message store config (kept ++ turn_now.facts.items) (volatile_of roles)
+      message).facts) → ⊥
 
 -- the facts of turns that are to be kept at once, and so long are their encodings
 pub record AreReady {C : Type 0} (octets : C → List ℕ) (staged : Staged C) : Type 0 where

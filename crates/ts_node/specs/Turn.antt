@@ -100,13 +100,14 @@ module _ {C O Q : Type 0} (octets : C → List ℕ) (store : Store C O (List C) 
       (world.Deliver (length sent + looked))).effect.facts
 
   -- why a turn ends, behind facts that are kept together with its own: it has no message to the
-  -- node itself left, or has looked at 64; or a record can't keep the facts of the next one together
-  -- with all those before
+  -- node itself left, or has looked at 64; or a record can't keep the facts of the next one
+  -- together with all those before
   abbrev pub EndsBehind : List (Fact C) → Config → List (Fact C) → List (Message C) → ℕ
       → List (Message C) → Turn C O Q (List C) → Type 0
   EndsBehind before config kept sent looked made t = (has_own config.me (drop looked made) ≡ false)
       ⊎ (looked ≡ 64)
-      ⊎ (FitTogether octets (before ++ (t.effect.facts ++ facts_next config kept sent looked t)) → ⊥)
+      ⊎ (FitTogether octets (before
+      ++ (t.effect.facts ++ facts_next config kept sent looked t)) → ⊥)
 
   -- the same of a turn whose facts are kept alone
   abbrev pub Ends : Config → List (Fact C) → List (Message C) → ℕ → List (Message C)

@@ -37,14 +37,14 @@
 //!   so knows a command after one append in place of four. Where memory is refused once the
 //!   roles are ahead of the record the node is broken, as after a device's failure, and nothing
 //!   of the turn is kept.
-//! - `Node::turn_all`: `batch`: the inputs are taken one after another, each as a turn of the world's
-//!   node at the node that those before it left (`taken`), or it is refused, which changes nothing;
-//!   the answers are these turns' (`answered`); at every moment each pair of images opens to the
-//!   facts before, or to those and all of theirs (`moments`); it ends before an input only where
-//!   that is a compaction, or a record can't keep its facts at once with those before it (`ends`),
-//!   and where the first is an event it takes one at least (`some`). Where memory is refused once
-//!   the roles are ahead of the record, or a device fails, nothing is answered, nothing is kept or
-//!   all of it, and the node is broken.
+//! - `Node::turn_all`: `batch`: the inputs are taken one after another, each as a turn of the
+//!   world's node at the node that those before it left, or it is refused, which changes nothing
+//!   (`taken`); the answers are these turns' (`answered`); at every moment each pair of images opens
+//!   to the facts before, or to those and all of theirs (`moments`); it ends before an input only
+//!   where that is a compaction, or a record can't keep its facts at once with those before it
+//!   (`ends`), and where the first is an event it takes one at least (`some`). Where memory is
+//!   refused once the roles are ahead of the record, or a device fails, nothing is answered, and the
+//!   node is broken.
 //! - `headline`: what is promised of every run of nodes (`specs/Run`). `calls_are_allowed`:
 //!   these runs are the lists of calls that meet their contracts, with stops between and within
 //!   them. Of a call of `turn_all` each input that it took is one thing that happens.

@@ -93,12 +93,7 @@ fn give_out<C: Drop>(
 
 impl<C: Drop> Staged<C> {
     /// Puts the facts of a turn behind those before, and gives its messages out.
-    fn put(
-        &mut self,
-        alloc: Global,
-        turn: Turn<C>,
-        me: u8,
-    ) -> Result<Vec<Message<C>>, AllocError>
+    fn put(&mut self, alloc: Global, turn: Turn<C>, me: u8) -> Result<Vec<Message<C>>, AllocError>
         requires { turn.looked ≤ length turn.messages.items }
         ensures given { IfOk result (λ given. given.items
             ≡ given_out me turn.looked turn.messages.items) }

@@ -44,7 +44,7 @@ returns-then-not-branch-clause-some g c =
     let w = c.in_ok-next.ensures.left c.if-not-branch.true in
     let fits = fits_here g.C.Codec.octets c.args.inputs.now c.loop-input.input-index c.input-item.result c.loop-input-test.true c.input-item.is c.requires.fits in
     let some = some_left g.C.Codec.octets (store_of g.row.M-Question.Denot m.client_id m.outcome) m.basis m.is_answer c.args.self.now c.args.inputs.now c.loop-input.input-index c.loop-input.results.items c.loop-input.staged.facts.items at now.taken now.count c.input-item.result c.loop-input-test.true c.input-item.is
-        c.requires.event fits w.3 in
+    c.requires.event fits w.3 in
     subst (λ n. 1 ≤ n) (sym (ap length w.0 ∙ now.count)) some
 
 pub returns-clause-taken : goal.returns-clause-taken
