@@ -1,5 +1,5 @@
 -- The inputs of a batch, one after another, and what the batch comes to.
-use Rattle.std.proofs.Common.{◌≡◌, ◌∙◌, ◌≤◌, ◌<◌, ◌+◌, ◌++◌, ◌∷◌, ℕ, zero, suc, List, [], true, false, true≢false, Result, Ok, Err, IfOk, OnOk, All, length, take, drop, refl, sym, ap, subst, arith}
+use Rattle.std.proofs.Common.{◌≡◌, ◌∙◌, ◌≤◌, ◌<◌, ◌+◌, ◌++◌, ◌∷◌, ℕ, zero, suc, List, [], true, false, true≢false, Result, Ok, Err, All, length, take, drop, refl, sym, ap, subst, arith}
 use Rattle.std.proofs.lemmas.List.{append-nil, drop_more, length-take-le, take_more}
 use Rattle.std.proofs.lemmas.List.Elements.{All-get_or}
 use Rattle.std.specs.Global.{Vec}
@@ -8,10 +8,8 @@ use Rattle.ts_disk.specs.Disk.{State}
 use Rattle.ts_journal.specs.Images.{EveryPair}
 use Rattle.ts_synod.specs.declared.message.Fact.{Fact}
 use Rattle.ts_synod.specs.Config.{Config}
-use Rattle.ts_synod.specs.Node as world
 use Rattle.ts_synod.specs.Store.{Store}
 use Rattle.ts_node.specs.declared.input.Input.{Input}
-use Rattle.ts_node.specs.declared.input.Input.TheVariants as kinds
 use Rattle.ts_node.specs.declared.input.NodeFault.{NodeFault}
 use Rattle.ts_node.specs.declared.input.NodeFault.TheVariants as faults
 use Rattle.ts_node.specs.declared.input.Output.{Output}

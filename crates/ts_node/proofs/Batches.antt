@@ -1,16 +1,14 @@
 -- What the contract of a batch says is what a run allows.
-use Rattle.std.proofs.Common.{◌≡◌, ◌∙◌, ◌⊎◌, ◌+◌, ◌++◌, ◌∷◌, ℕ, zero, suc, List, [], map, length, take, Result, Ok, Err, Some, true, false, inl, inr, refl, sym, ap, subst, slice_get, ⊎_elim, append_assoc, length-append, arith}
+use Rattle.std.proofs.Common.{◌≡◌, ◌∙◌, ◌⊎◌, ◌++◌, ◌∷◌, ℕ, zero, suc, List, [], map, length, take, Result, Ok, Err, Some, true, false, inl, inr, refl, sym, ap, subst, slice_get, ⊎_elim, append_assoc, length-append, arith}
 use Rattle.std.proofs.lemmas.List.{append-nil}
 use Rattle.std.specs.Global.{Vec}
 use Rattle.std.specs.List.{AllByRecursion}
-use Rattle.std.specs.Prelude.{MatchResult}
 use Rattle.ts_disk.specs.Disk.{State}
 use Rattle.ts_synod.specs.declared.message.Fact.{Fact}
 use Rattle.ts_synod.specs.declared.message.Message.{Message}
 use Rattle.ts_synod.specs.Config.{is_node}
 use Rattle.ts_synod.specs.Force.{SameForce}
 use Rattle.ts_synod.specs.Laws.{node_with}
-use Rattle.ts_synod.specs.Lists.{put}
 use Rattle.ts_synod.specs.Node as world
 use Rattle.ts_synod.specs.Store.{Store}
 use Rattle.ts_synod.specs.Turn.{Turn, turn}
@@ -25,11 +23,11 @@ use Rattle.ts_node.specs.declared.input.NodeFault.{NodeFault}
 use Rattle.ts_node.specs.declared.input.NodeFault.TheVariants as faults
 use Rattle.ts_node.specs.Inputs.{IsInput}
 use Rattle.ts_node.specs.Node.{IsSame, config, facts, is_broken, member_as, owner, volatile}
-use Rattle.ts_node.specs.Batch.{AreTaken, IsBatch, IsTaken, Stays, TakesTurn}
+use Rattle.ts_node.specs.Batch.{AreTaken, IsTaken, Stays, TakesTurn}
 use Rattle.ts_node.specs.Staged.{Keeps}
 use Rattle.ts_node.specs.Turn.{DoesTurn, own_numbers}
-use Rattle.ts_node.specs.Run.{AreAllowed, Group, Happening, IsAllowed, IsOpened, after, after_all, refused, reopened, turned}
-use Rattle.ts_node.specs.Allowed.{AreLeft, AreOnes, BatchesAre, BreaksAre, IsOffered, May, MayAll, Works}
+use Rattle.ts_node.specs.Run.{Group, Happening, after, after_all, refused, reopened, turned}
+use Rattle.ts_node.specs.Allowed.{AreOnes, BatchesAre, BreaksAre, IsOffered, May, MayAll}
 use Rattle.ts_record.specs.Record.{OpensToForce}
 use Rattle.ts_node.proofs.Breaks.{second_not}
 use Rattle.ts_node.proofs.Images.{same_refl}

@@ -1,5 +1,5 @@
 -- An input of a batch, in memory.
-use Rattle.std.proofs.Common.{◌≡◌, ◌≢◌, ◌∙◌, ◌≤◌, ◌+◌, ◌<◌, ◌++◌, ◌∷◌, ℕ, suc, List, [], Bool, true, false, true≢false, Result, Ok, Err, Option, Some, None, IfOk, OnOk, length, take, drop, refl, sym, ap, subst, arith, append_assoc}
+use Rattle.std.proofs.Common.{◌≡◌, ◌∙◌, ◌++◌, ◌∷◌, ℕ, List, [], false, Result, Ok, Err, Option, Some, None, length, refl, sym, ap, subst, arith, append_assoc}
 use Rattle.std.proofs.lemmas.List.{append-nil}
 use Rattle.ts_synod.specs.declared.message.Fact.{Fact}
 use Rattle.ts_synod.specs.declared.message.Message.{Message}
@@ -22,8 +22,8 @@ use Rattle.ts_node.specs.declared.roles.Roles.{Roles}
 use Rattle.ts_node.specs.Batch.{AreTaken, IsNext, IsPlanned, IsStop, IsTaken, Stays, TakesTurn, holding}
 use Rattle.ts_node.specs.Inputs.{InputFits, IsInput, IsReply, Submits}
 use Rattle.ts_node.specs.Node.{config, facts, volatile}
-use Rattle.ts_node.specs.Roles.{Makes, StandFor, config_of, facts_in, volatile_of}
-use Rattle.ts_node.specs.Staged.{HasBegun, Stages}
+use Rattle.ts_node.specs.Roles.{Makes, StandFor, config_of, volatile_of}
+use Rattle.ts_node.specs.Staged.{HasBegun}
 use Rattle.ts_node.specs.Turn.{EndsBehind, FitTogether, given_out, inputs_of}
 use Rattle.ts_node.proofs.Fits.{an_event, step_fits}
 use Rattle.ts_node.proofs.Images.{same_refl, stand_force}

@@ -1,14 +1,12 @@
 -- Roles that are ahead of their record, by the facts of turns.
-use Rattle.std.proofs.Common.{◌≡◌, ◌∙◌, ◌≤◌, ◌+◌, ◌++◌, ℕ, List, [], true, false, true≢false, Result, Ok, Err, OnOk, length, refl, sym, ap, subst, arith, length-append, append_assoc}
+use Rattle.std.proofs.Common.{◌≡◌, ◌∙◌, ◌≤◌, ◌++◌, ℕ, List, [], true, false, true≢false, Ok, Err, length, sym, ap, subst, arith, length-append, append_assoc}
 use Rattle.std.proofs.lemmas.List.{append-nil}
 use Rattle.std.proofs.lemmas.Grind.{flat_map-append}
 use Rattle.ts_disk.specs.Disk.{State, IsDisk}
 use Rattle.ts_journal.specs.Images.{EveryPair}
 use Rattle.ts_synod.specs.declared.message.Fact.{Fact}
-use Rattle.ts_synod.specs.declared.message.Message.{Message}
 use Rattle.ts_synod.specs.Config.{Config}
 use Rattle.ts_synod.specs.Force.{log_of}
-use Rattle.ts_synod.specs.Laws.{node_with}
 use Rattle.ts_synod.specs.Node as world
 use Rattle.ts_synod.specs.Node.{step}
 use Rattle.ts_synod.specs.Store.{Store}
@@ -26,7 +24,7 @@ use Rattle.ts_node.specs.declared.turn.Turn.{Turn}
 use Rattle.ts_node.specs.Growing.{IsPart}
 use Rattle.ts_node.specs.Node.{Failed, IsWhole, Moments, ToEither, config, facts, member_as, owner, volatile}
 use Rattle.ts_node.specs.Roles.{StandFor, config_of}
-use Rattle.ts_node.specs.Staged.{AreReady, Comes, HasBegun, HasCome, IsHeld, IsStaged, Keeps, Stages}
+use Rattle.ts_node.specs.Staged.{AreReady, Comes, HasBegun, IsHeld, IsStaged, Keeps, Stages}
 use Rattle.ts_node.proofs.Fits.{all_more}
 use Rattle.ts_record.specs.Kept.{member}
 use Rattle.ts_node.proofs.Images.{log_extends, part_extends, rests}

@@ -1,5 +1,5 @@
 -- Inputs are taken in memory, one after another.
-use Rattle.std.proofs.Common.{◌∙◌, ◌++◌, ◌∷◌, ◌≤◌, [], length, ap, sym, subst, arith, length-append}
+use Rattle.std.proofs.Common.{◌∙◌, ◌∷◌, ◌≤◌, [], length, ap, sym, subst, arith, length-append}
 use Rattle.ts_node.specs.Batch.{holding}
 use Rattle.ts_node.specs.Machine.{store_of}
 use Rattle.ts_node.proofs.Batched.{fits_here, held_staged, some_left, staged_all, staged_left, taken_step}
