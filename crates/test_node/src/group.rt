@@ -263,6 +263,20 @@ impl Member {
         }
     }
 
+    /// Takes a batch: two commands, a compaction and another command. It answers how many it took.
+    pub fn batch(&mut self) -> Result<usize, NodeFault> {
+        let inputs = [
+            Input::Submit(Number { value: 7 }),
+            Input::Submit(Number { value: 8 }),
+            Input::Compact,
+            Input::Submit(Number { value: 9 }),
+        ];
+        match self.node.turn_all(&inputs) {
+            Ok(answers) => Ok(answers.len()),
+            Err(fault) => Err(fault),
+        }
+    }
+
     /// How many calls its first disk was given.
     pub fn calls(self) -> usize {
         let (a, _b, _machine) = self.node.close();

@@ -56,3 +56,33 @@ fn one_append(rt: HostRuntime) -> Result<(), Fail> {
     assert_eq!(rt; opening, again);
     Ok(())
 }
+
+/// The calls of the first disk in a batch of a node of so many; how many inputs it took, and how
+/// many commands the node knows then.
+fn batch_of(alloc: Global, nodes: u8) -> Result<(usize, usize, u32), AllocError>
+    requires from { 1 ≤ nodes }
+    requires few { nodes ≤ 9 }
+{
+    let idle = Member::first(alloc, nodes)?;
+    let mut member = Member::first(alloc, nodes)?;
+    let Ok(taken) = member.batch() else {
+        return Err(AllocError);
+    };
+    let (Ok(status), _) = member.handle(&Input::Status) else {
+        return Err(AllocError);
+    };
+    let Reply::Prefix(prefix) = status.reply else {
+        return Err(AllocError);
+    };
+    Ok((member.calls().saturating_sub(idle.calls()), taken, prefix))
+}
+
+/// Two commands before a compaction are kept by one append, and a node alone knows both after it;
+/// one of three begins a round for each.
+#[test]
+fn one_append_of_a_batch(rt: HostRuntime) -> Result<(), Fail> {
+    let alloc = rt.alloc();
+    assert_eq!(rt; batch_of(alloc, 1)?, (4, 2, 2));
+    assert_eq!(rt; batch_of(alloc, 3)?, (4, 2, 0));
+    Ok(())
+}

@@ -28,10 +28,8 @@ use Rattle.ts_node.specs.Turn.{DoesTurn, HandlesTurn, IsTurn, own_numbers}
 use Rattle.ts_node.specs.Run.{Group, IsAllowed, called, refused, rewritten, step_at, stopped, turn_of, turned}
 use Rattle.ts_node.specs.Allowed.{AllCallsAre, CallsAre, CutsAre, May, RestsAre, StopsAre, TurnsAre, Works, answer_of, stop_of, turn_answer_of}
 use Rattle.ts_node.proofs.Breaks.{no_event}
-use Rattle.ts_node.proofs.Images.{from_either}
-
-same_refl : {C : Type 0} (fs : List (Fact C)) → SameForce fs fs
-same_refl fs = record { used = refl; promised = λ p. refl; taken = λ p. refl; learned = λ p. refl }
+use Rattle.ts_node.proofs.Batches.{all_batches_are}
+use Rattle.ts_node.proofs.Images.{from_either, same_refl}
 
 -- a turn is the same for facts of one force
 same_turn : {C O T Q V : Type 0} (store : Store C O T Q V) (k : Config) (fs gs : List (Fact C)) → SameForce fs gs → (v : world.Volatile C) (sent : List (Message C)) (inputs : List (world.Input C Q)) → turn store k (node_with fs v) sent inputs ≡ turn store k (node_with gs v) sent inputs
@@ -190,4 +188,6 @@ module _ {D C M O Q A B : Type 0} (state : D → State) (octets : C → List ℕ
       (works.node, (facts old, opens, same_refl (facts old)), at)
 
   pub all_calls_are : AllCallsAre state octets store commands basis is_answer n rest
-  all_calls_are = record { calls = calls_are; stops = stops_are; turns = turns_are; cuts = cuts_are; pauses = rests_are }
+  all_calls_are =
+      let all = all_batches_are state octets store commands basis is_answer n rest in
+      record { calls = calls_are; stops = stops_are; turns = turns_are; cuts = cuts_are; batches = all.0; breaks = all.1; pauses = rests_are }

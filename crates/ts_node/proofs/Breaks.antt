@@ -14,6 +14,10 @@ pub first_not : (a b : Bool) → (a || b) ≡ false → a ≡ false
 first_not true b h = absurd (true≢false h)
 first_not false b h = refl
 
+pub second_not : (a b : Bool) → (a || b) ≡ false → b ≡ false
+second_not true b h = absurd (true≢false h)
+second_not false b h = h
+
 pub second_yes : (a : Bool) → (a || true) ≡ false → ⊥
 second_yes true h = true≢false h
 second_yes false h = true≢false h

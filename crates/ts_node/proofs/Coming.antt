@@ -1,5 +1,6 @@
 -- What a turn comes to.
-use Rattle.std.proofs.Common.{◌≡◌, ◌∙◌, ◌⊎◌, ◌==◌, ◌+◌, ◌++◌, ◌∷◌, ℕ, List, [], Bool, true, false, Some, Result, Ok, Err, IsErrOf, IfOk, OnOk, length, drop, slice_get, inl, inr, refl, sym, ap, subst}
+use Rattle.std.proofs.Common.{◌≡◌, ◌∙◌, ◌⊎◌, ◌==◌, ◌+◌, ◌++◌, ◌∷◌, ℕ, List, [], Bool, true, false, Some, Result, Ok, Err, IsErrOf, IfErr, IfOk, OnOk, length, drop, slice_get, inl, inr, refl, sym, ap, subst, arith, length-append}
+use Rattle.std.proofs.lemmas.Grind.{flat_map-append}
 use Rattle.std.specs.List.{list_any}
 use Rattle.ts_disk.specs.Disk.{State}
 use Rattle.ts_journal.specs.Images.{EveryPair, Member}
@@ -11,6 +12,7 @@ use Rattle.ts_synod.specs.Node as world
 use Rattle.ts_synod.specs.Node.{Effect, step}
 use Rattle.ts_synod.specs.Store.{Store}
 use Rattle.ts_synod.specs.Turn.{turn}
+use Rattle.ts_record.specs.Facts.{AllFit, Fits, encoding, encodings}
 use Rattle.ts_node.specs.declared.input.NodeFault.{NodeFault}
 use Rattle.ts_node.specs.declared.input.NodeFault.TheVariants as faults
 use Rattle.ts_node.specs.declared.input.Output.{Output}
@@ -22,28 +24,44 @@ use Rattle.ts_node.specs.declared.turn.Turn.{Turn}
 use Rattle.ts_node.specs.Inputs.{IsReply, Submits}
 use Rattle.ts_node.specs.Node.{Compacts, Failed, Handles, IsSame, Moments, ToEither, config, facts, member_as, volatile}
 use Rattle.ts_node.specs.Roles.{Makes, StandFor, config_of, facts_in, volatile_after, volatile_of}
-use Rattle.ts_node.specs.Staged.{Comes, Ended, HasCome, IsFull, IsSoFar}
-use Rattle.ts_node.specs.Turn.{Ends, FitTogether, HandlesTurn, Turned, given_out, has_own, inputs_of}
+use Rattle.ts_node.specs.Staged.{Comes, FitBehind, HasCome, IsFull, IsSoFar, Stages}
+use Rattle.ts_node.specs.Turn.{Ends, EndsBehind, FitTogether, HandlesTurn, Turned, given_out, has_own, inputs_of}
+use Rattle.ts_node.proofs.Fits.{all_more}
+use Rattle.ts_node.proofs.Rooms.{all_second}
 use Rattle.ts_node.proofs.Turns.{delivered, next, turn_one}
 
 none_left : {X : Type 0} (p : X → Bool) (xs : List X) → list_any p (drop (length xs) xs) ≡ false
 none_left p [] = refl
 none_left p (x ∷ xs) = none_left p xs
 
+-- facts that a record can keep at once, without the first
+pub fit_behind : {C : Type 0} (octets : C → List ℕ) (xs ys : List (Fact C)) (n : ℕ) → n ≡ length (encodings octets xs) → FitTogether octets (xs ++ ys) → FitBehind octets n ys
+fit_behind octets xs ys n so_long together =
+    let a = ap length (flat_map-append (encoding octets) xs ys) in
+    let b = length-append (encodings octets xs) (encodings octets ys) in
+    (all_second (Fits octets) xs ys together.0, let l = together.1 in omega arith)
+
+-- and with them
+pub fit_both : {C : Type 0} (octets : C → List ℕ) (xs ys : List (Fact C)) (n : ℕ) → n ≡ length (encodings octets xs) → AllFit octets xs → FitBehind octets n ys → FitTogether octets (xs ++ ys)
+fit_both octets xs ys n so_long fit behind =
+    let a = ap length (flat_map-append (encoding octets) xs ys) in
+    let b = length-append (encodings octets xs) (encodings octets ys) in
+    (all_more (Fits octets) xs ys fit behind.0, let l = behind.1 in omega arith)
+
 module _ {C O Q : Type 0} (octets : C → List ℕ) (store : Store C O (List C) Q (List C)) (k : Config) (kept : List (Fact C)) (v : world.Volatile C) (sent : List (Message C)) (event : world.Input C Q) (roles : Roles C) (now : Turn C) (was : IsSoFar store k kept v sent event roles now) where
-  -- why a turn ends
-  pub ends_of : (now.looked ≡ length now.messages.items) ⊎ (now.looked ≡ 64) ⊎ IsFull octets store k kept sent roles now
-      → Ends octets store k kept sent now.looked now.messages.items (turn store k (node_with kept v) sent (inputs_of k.me sent event now.looked now.messages.items))
-  ends_of (inl e) = inl (ap (λ n. list_any (λ m. m.to == k.me) (drop n now.messages.items)) e ∙ none_left (λ m. m.to == k.me) now.messages.items)
-  ends_of (inr (inl e)) = inr (inl e)
-  ends_of (inr (inr full)) =
+  -- why a turn ends, behind facts that are to be kept together with its own
+  pub ends_of : (before : List (Fact C)) → now.before ≡ length (encodings octets before) → (now.looked ≡ length now.messages.items) ⊎ (now.looked ≡ 64) ⊎ IsFull octets store k kept sent roles now
+      → EndsBehind octets store before k kept sent now.looked now.messages.items (turn store k (node_with kept v) sent (inputs_of k.me sent event now.looked now.messages.items))
+  ends_of before so_long (inl e) = inl (ap (λ n. list_any (λ m. m.to == k.me) (drop n now.messages.items)) e ∙ none_left (λ m. m.to == k.me) now.messages.items)
+  ends_of before so_long (inr (inl e)) = inr (inl e)
+  ends_of before so_long (inr (inr full)) =
       let node = node_with kept v in
       let e = (turn store k node sent (inputs_of k.me sent event now.looked now.messages.items)).effect in
       let there : slice_get e.messages now.looked ≡ Some full.message = subst (λ (f : Effect C). slice_get f.messages now.looked ≡ Some full.message) (sym was.effect) full.is in
       let so = delivered store k node sent e now.looked full.message there ∙ ap (λ (f : Effect C). world.on_message store k (kept ++ f.facts) f.volatile full.message) was.effect in
       let same : e.facts ++ (next store k node sent e (world.Deliver (length sent + now.looked))).facts ≡ now.facts.items ++ (world.on_message store k (kept ++ now.facts.items) (volatile_of roles) full.message).facts =
       ap (λ (f : Effect C). e.facts ++ f.facts) so ∙ ap (λ (f : Effect C). f.facts ++ (world.on_message store k (kept ++ now.facts.items) (volatile_of roles) full.message).facts) was.effect in
-      inr (inr (λ together. full.full (subst (FitTogether octets) same together)))
+      inr (inr (λ together. full.full (fit_behind octets before _ now.before so_long (subst (λ fs. FitTogether octets (before ++ fs)) same together))))
 
 -- the first step of a turn
 pub begun : {C O Q : Type 0} (store : Store C O (List C) Q (List C)) (kept : List (Fact C)) (sent : List (Message C)) (event : world.Input C Q) (roles0 roles1 : Roles C) (plan : Plan C) (now : Turn C) → StandFor roles0 kept
@@ -66,26 +84,18 @@ pub one_step : {C O Q : Type 0} (store : Store C O (List C) Q (List C)) (kept : 
 one_step store kept sent event roles plan made makes =
     turn_one store (config_of roles) (node_with kept (volatile_of roles)) sent event ∙ (λ i. record { facts = sym makes.facts i; messages = sym makes.messages i; volatile = sym makes.volatile i })
 
+-- a turn whose first step is made, from the node before it
+pub stages_from : {D C M O A : Type 0} (reply : Reply O A) (looked : ℕ) (made : List (Message C)) (more : List (Fact C)) (then' : world.Volatile C) (before after : List (Fact C)) (old new : Node D C M) (roles : Roles C) (machine : M) → config_of roles ≡ config_of old.roles → (r : Result (Output C O A) NodeFault) → IfErr r (λ fault. fault ≡ faults.Broken)
+    → Stages (record old { roles = roles; machine = machine }) reply looked made more then' before r after new → Stages old reply looked made more then' before r after new
+stages_from reply looked made more then' before after old new roles machine conf (Ok output) only h = (h.0, h.1, h.2, h.3 ∙ ap (λ (k : Config). given_out k.me looked made) conf)
+stages_from reply looked made more then' before after old new roles machine conf (Err faults.Memory) only h = absurd (cc)
+stages_from reply looked made more then' before after old new roles machine conf (Err faults.Broken) only h = h
+stages_from reply looked made more then' before after old new roles machine conf (Err faults.DiskFailed) only h = absurd h
+stages_from reply looked made more then' before after old new roles machine conf (Err faults.RoundsExhausted) only h = absurd h
+stages_from reply looked made more then' before after old new roles machine conf (Err faults.PositionsExhausted) only h = absurd h
+stages_from reply looked made more then' before after old new roles machine conf (Err faults.GenerationsExhausted) only h = absurd h
+
 module _ {D C M O A : Type 0} (state : D → State) (reply : Reply O A) (looked : ℕ) (made : List (Message C)) (more : List (Fact C)) (then' : world.Volatile C) (old new : Node D C M) where
-  pub comes_of : (r : Result (Output C O A) NodeFault) → Ended state old reply looked made more then' r new → Comes state old reply looked made more then' r new
-  comes_of (Ok output) h = h
-  comes_of (Err faults.Memory) h = absurd h
-  comes_of (Err faults.DiskFailed) h = h
-  comes_of (Err faults.Broken) h = h
-  comes_of (Err faults.RoundsExhausted) h = h
-  comes_of (Err faults.PositionsExhausted) h = h
-  comes_of (Err faults.GenerationsExhausted) h = h
-
-  -- from a node whose roles and machine are others
-  pub ended_from : (roles : Roles C) (machine : M) → config_of roles ≡ config_of old.roles → (r : Result (Output C O A) NodeFault) → Ended state (record old { roles = roles; machine = machine }) reply looked made more then' r new → Ended state old reply looked made more then' r new
-  ended_from roles machine conf (Ok output) h = (h.0, h.1, h.2, h.3 ∙ ap (λ (k : Config). given_out k.me looked made) conf)
-  ended_from roles machine conf (Err faults.Memory) h = absurd h
-  ended_from roles machine conf (Err faults.DiskFailed) h = h
-  ended_from roles machine conf (Err faults.Broken) h = h
-  ended_from roles machine conf (Err faults.RoundsExhausted) h = absurd h
-  ended_from roles machine conf (Err faults.PositionsExhausted) h = absurd h
-  ended_from roles machine conf (Err faults.GenerationsExhausted) h = absurd h
-
   pub given_of : (r : Result (Output C O A) NodeFault) → Comes state old reply looked made more then' r new → IfOk r (λ output. output.messages.items ≡ given_out (config old).me looked made)
   given_of (Ok output) h = h.3
   given_of (Err fault) h = tt

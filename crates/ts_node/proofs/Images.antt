@@ -62,6 +62,9 @@ part_extends f g cs more is =
 pub cause : {T : Type 0} (r : Result T Fault) (fault : Fault) → r ≡ Err fault → IfErr r (λ f. (f ≡ Memory) ⊎ (f ≡ DiskFailed) ⊎ (f ≡ Broken)) → (fault ≡ Memory) ⊎ (fault ≡ DiskFailed) ⊎ (fault ≡ Broken)
 cause r fault is h = subst (λ x. IfErr x (λ f. (f ≡ Memory) ⊎ (f ≡ DiskFailed) ⊎ (f ≡ Broken))) is h
 
+pub same_refl : {C : Type 0} (fs : List (Fact C)) → SameForce fs fs
+same_refl fs = record { used = refl; promised = λ p. refl; taken = λ p. refl; learned = λ p. refl }
+
 -- roles stand for facts of the same force
 pub stand_force : {C : Type 0} (roles : Roles C) (fs gs : List (Fact C)) → SameForce gs fs → StandFor roles fs → StandFor roles gs
 stand_force roles fs gs force h = record {

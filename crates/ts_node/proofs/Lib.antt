@@ -13,5 +13,9 @@ pub mod Rooms
 pub mod Turns
 pub mod Staging
 pub mod Coming
+pub mod Stages
+pub mod Batching
+pub mod Batched
 pub mod Simulation
+pub mod Batches
 pub mod Allowing

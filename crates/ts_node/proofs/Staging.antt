@@ -19,8 +19,8 @@ use Rattle.ts_node.specs.declared.roles.Roles.{Roles}
 use Rattle.ts_node.specs.declared.turn.Turn.{Turn}
 use Rattle.ts_node.specs.Growing.{IsPart}
 use Rattle.ts_node.specs.Roles.{Makes, StandFor, Unchanged, config_of, facts_in, volatile_after, volatile_of}
-use Rattle.ts_node.specs.Staged.{IsFull, IsHeld, IsSoFar}
-use Rattle.ts_node.specs.Turn.{FitTogether, inputs_of}
+use Rattle.ts_node.specs.Staged.{FitBehind, IsFull, IsHeld, IsSoFar}
+use Rattle.ts_node.specs.Turn.{inputs_of}
 use Rattle.ts_node.proofs.Fits.{all_more}
 use Rattle.ts_node.proofs.Images.{log_extends, part_extends}
 use Rattle.ts_node.proofs.Rooms.{all_second}
@@ -54,7 +54,7 @@ module _ {C O Q : Type 0} (store : Store C O (List C) Q (List C)) (config : Conf
     made = subst (λ k. Makes roles1 plan (world.on_message store k (kept ++ now.facts.items) (volatile_of roles) m)) was.same (makes (kept ++ now.facts.items) was.stand)
 
     -- there is no room
-    pub look_full : (octets : C → List ℕ) (size : ℕ) → m.to ≡ roles.me → size ≡ length (encodings octets now.facts.items) → (AllFit octets (facts_in plan.change) → size + length (encodings octets (facts_in plan.change)) ≤ 4194500 → ⊥)
+    pub look_full : (octets : C → List ℕ) (size : ℕ) → m.to ≡ roles.me → size ≡ now.before + length (encodings octets now.facts.items) → (AllFit octets (facts_in plan.change) → size + length (encodings octets (facts_in plan.change)) ≤ 4194500 → ⊥)
         → IsFull octets store config kept sent roles1 now
     look_full octets size own so_long none =
         let v : volatile_of roles1 ≡ volatile_of roles = same.volatile in
@@ -63,7 +63,7 @@ module _ {C O Q : Type 0} (store : Store C O (List C) Q (List C)) (config : Conf
           is = get_is now.messages.items now.looked m within is;
           full = λ together.
               let f : facts_in plan.change ≡ (world.on_message store config (kept ++ now.facts.items) (volatile_of roles1) m).facts = made.facts ∙ ap (λ w. (world.on_message store config (kept ++ now.facts.items) w m).facts) (sym v) in
-              let two = subst (λ fs. FitTogether octets (now.facts.items ++ fs)) (sym f) together in
+              let two = subst (λ fs. FitBehind octets now.before (now.facts.items ++ fs)) (sym f) together in
               let a = ap length (flat_map-append (encoding octets) now.facts.items (facts_in plan.change)) in
               let b = length-append (encodings octets now.facts.items) (encodings octets (facts_in plan.change)) in
               none (all_second (Fits octets) now.facts.items (facts_in plan.change) two.0) (let l = two.1 in omega arith);
@@ -106,8 +106,8 @@ module _ {C O Q : Type 0} (store : Store C O (List C) Q (List C)) (config : Conf
         }
 
 pub held_more : {C : Type 0} (octets : C → List ℕ) (now then' : Turn C) (more : List (Fact C)) (size : ℕ) → IsHeld octets now → AllFit octets more → size ≡ now.size + length (encodings octets more) → size ≤ 4194500
-    → then'.facts.items ≡ now.facts.items ++ more → then'.size ≡ size → then'.looked + 1 ≤ length then'.messages.items → IsHeld octets (record then' { looked = then'.looked + 1 })
-held_more octets now then' more size was fit is short facts same looked = record {
+    → then'.facts.items ≡ now.facts.items ++ more → then'.size ≡ size → then'.before ≡ now.before → then'.looked + 1 ≤ length then'.messages.items → IsHeld octets (record then' { looked = then'.looked + 1 })
+held_more octets now then' more size was fit is short facts same behind looked = record {
   fit = subst (AllFit octets) (sym facts) (all_more (Fits octets) now.facts.items more was.fit fit);
   size =
       let a = ap (λ fs. length (encodings octets fs)) facts in

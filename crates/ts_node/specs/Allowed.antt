@@ -1,6 +1,8 @@
 -- Whatever a call of a node comes to is something that a run allows (`IsAllowed`), by the contract
 -- of that call alone.
-use Rattle.std.proofs.Common.{◌≡◌, ◌⊎◌, ℕ, List, true, false, Result}
+use Rattle.std.proofs.Common.{◌≡◌, ◌⊎◌, ◌++◌, ◌∷◌, ℕ, List, [], true, false, Result, Ok, Err}
+use Rattle.std.specs.Global.{Vec}
+use Rattle.std.specs.List.{AllByRecursion}
 use Rattle.std.specs.Prelude.{MatchResult}
 use Rattle.ts_disk.specs.Disk.{State}
 use Rattle.ts_synod.specs.declared.message.Message.{Message}
@@ -15,10 +17,11 @@ use Rattle.ts_node.specs.declared.input.NodeFault.{NodeFault}
 use Rattle.ts_node.specs.declared.input.NodeFault.TheVariants as faults
 use Rattle.ts_node.specs.Inputs.{IsInput}
 use Rattle.ts_node.specs.Node.{IsSound, is_broken}
+use Rattle.ts_node.specs.Batch.{IsBatch}
 use Rattle.ts_node.specs.Call.{IsCall}
 use Rattle.ts_node.specs.Turn.{IsTurn}
-use Rattle.ts_node.specs.Run.{Group, Happening, IsAllowed, IsOpened, called, cut, refused, reopened}
-use Rattle.ts_node.specs.Run.{rewritten, stopped, turned}
+use Rattle.ts_node.specs.Run.{AreAllowed, Group, Happening, IsAllowed, IsOpened, called, cut}
+use Rattle.ts_node.specs.Run.{refused, reopened, rewritten, stopped, turned}
 
 -- an input that the messages sent so far allow, or a compaction
 abbrev pub IsOffered : {C Q : Type 0} → List (Message C) → Input C Q → Type 0
@@ -49,6 +52,20 @@ abbrev pub AreLeft : {D C M : Type 0} → (D → State) → Node D C M → Node 
     → Type 0
 AreLeft state old new a b = (state new.kept.a).left_since (state old.kept.a).moment a
     × (state new.kept.b).left_since (state old.kept.b).moment b
+
+-- what became of an input of a batch is this happening at node i: a turn, or a refusal
+abbrev pub IsOne : {D C M O Q A : Type 0} → ℕ → Input C Q → Result (Output C O A) NodeFault
+    → Happening D C M O Q A → Type 0
+IsOne {D} {C} {M} i input (Ok output) h =
+    (made : List (Message C)) × (new : Node D C M) × (h ≡ turned i input output made new)
+IsOne {D} {C} {M} i input (Err fault) h = (new : Node D C M) × (h ≡ refused i new)
+
+-- the same of the first inputs, one for each result
+abbrev pub AreOnes : {D C M O Q A : Type 0} → ℕ → List (Input C Q)
+    → List (Result (Output C O A) NodeFault) → List (Happening D C M O Q A) → Type 0
+AreOnes i inputs [] [] = Unit {0}
+AreOnes i (input ∷ inputs) (r ∷ rs) (h ∷ hs) = IsOne i input r h × AreOnes i inputs rs hs
+AreOnes i inputs results run = ⊥
 
 module _ {D C M O Q A B : Type 0} (state : D → State) (octets : C → List ℕ)
     (store : Store C O (List C) Q (List C)) (commands : M → List C) (basis : M → B)
@@ -102,6 +119,35 @@ module _ {D C M O Q A B : Type 0} (state : D → State) (octets : C → List ℕ
       → May s (reopened i a b opened)
       ⊎ ((made : List (Message C)) × May s (cut i input made a b opened))
 
+  -- these can happen in a group, one after another
+  abbrev pub MayAll : Group D C M O Q A → List (Happening D C M O Q A) → Type 0
+  MayAll s run = AreAllowed octets store (is_answer rest) n s run
+
+  -- A call of `turn_all`: what became of each input that it took is a happening, one after another;
+  -- and what it left is a refusal, which changes nothing, and after which the node is the new one.
+  abbrev pub BatchesAre : Type 0
+  BatchesAre = (s : Group D C M O Q A) (i : ℕ) (inputs : List (Input C Q))
+      (result : Result (Vec (Result (Output C O A) NodeFault)) NodeFault) (new : Node D C M)
+      → Works s i → AllByRecursion (IsOffered s.sent) inputs
+      → IsBatch octets store basis is_answer state (s.nodes i) inputs result new
+      → MatchResult result
+      (λ answers. (run : List (Happening D C M O Q A)) × AreOnes i inputs answers.items run
+      × MayAll s (run ++ refused i new ∷ []))
+      (λ fault. (fault ≡ faults.DiskFailed) ⊎ (fault ≡ faults.Broken))
+
+  -- A batch that is cut off at any moment, or after which the node stops: nothing happened, or all
+  -- of it did, and then the node is opened. What it would have sent counts as sent, and is lost.
+  abbrev pub BreaksAre : Type 0
+  BreaksAre = (s : Group D C M O Q A) (i : ℕ) (inputs : List (Input C Q))
+      (result : Result (Vec (Result (Output C O A) NodeFault)) NodeFault) (new : Node D C M)
+      (a b : List ℕ) (opened : Node D C M) → Works s i
+      → AllByRecursion (IsOffered s.sent) inputs
+      → IsBatch octets store basis is_answer state (s.nodes i) inputs result new
+      → AreLeft state (s.nodes i) new a b → IsOpened octets a b opened
+      → May s (reopened i a b opened)
+      ⊎ ((results : List (Result (Output C O A) NodeFault)) × (run : List (Happening D C M O Q A))
+      × AreOnes i inputs results run × MayAll s (run ++ reopened i a b opened ∷ []))
+
   -- a node that stops between two calls is opened on images that its disks may be left with
   abbrev pub RestsAre : Type 0
   RestsAre = (s : Group D C M O Q A) (i : ℕ) (a b : List ℕ) (opened : Node D C M) → Works s i
@@ -115,4 +161,6 @@ module _ {D C M O Q A B : Type 0} (state : D → State) (octets : C → List ℕ
     pub stops : StopsAre
     pub turns : TurnsAre
     pub cuts : CutsAre
+    pub batches : BatchesAre
+    pub breaks : BreaksAre
     pub pauses : RestsAre

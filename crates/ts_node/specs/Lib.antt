@@ -6,5 +6,6 @@ pub mod Node
 pub mod Call
 pub mod Turn
 pub mod Staged
+pub mod Batch
 pub mod Run
 pub mod Allowed

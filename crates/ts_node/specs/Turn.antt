@@ -99,13 +99,20 @@ module _ {C O Q : Type 0} (octets : C → List ℕ) (store : Store C O (List C) 
       (node_with (kept ++ t.effect.facts) t.effect.volatile) (sent ++ t.effect.messages)
       (world.Deliver (length sent + looked))).effect.facts
 
-  -- why a turn ends: it has no message to the node itself left, or has looked at 64; or a record
-  -- can't keep the facts of the next one together with those before
+  -- why a turn ends, behind facts that are kept together with its own: it has no message to the
+  -- node itself left, or has looked at 64; or a record can't keep the facts of the next one
+  -- together with all those before
+  abbrev pub EndsBehind : List (Fact C) → Config → List (Fact C) → List (Message C) → ℕ
+      → List (Message C) → Turn C O Q (List C) → Type 0
+  EndsBehind before config kept sent looked made t = (has_own config.me (drop looked made) ≡ false)
+      ⊎ (looked ≡ 64)
+      ⊎ (FitTogether octets (before
+      ++ (t.effect.facts ++ facts_next config kept sent looked t)) → ⊥)
+
+  -- the same of a turn whose facts are kept alone
   abbrev pub Ends : Config → List (Fact C) → List (Message C) → ℕ → List (Message C)
       → Turn C O Q (List C) → Type 0
-  Ends config kept sent looked made t = (has_own config.me (drop looked made) ≡ false)
-      ⊎ (looked ≡ 64)
-      ⊎ (FitTogether octets (t.effect.facts ++ facts_next config kept sent looked t) → ⊥)
+  Ends config kept sent looked made t = EndsBehind [] config kept sent looked made t
 
 -- What stands behind a node: its disks and the encoding of its commands, the store of the world,
 -- and what its machine's answers rest on.

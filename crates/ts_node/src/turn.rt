@@ -28,8 +28,11 @@ const MAX_LOOKS: usize = 64;
 /// What a turn has made so far.
 #[derive(Drop)]
 pub(crate) struct Turn<C> {
+    /// How many octets the facts take that were made before and are to be kept together with its
+    /// own.
+    pub before: usize,
     pub facts: Vec<Fact<C>>,
-    /// How many octets the facts take in a record.
+    /// How many octets the facts take in a record, with those before them.
     pub size: usize,
     /// All messages that were made, to the node itself too.
     pub messages: Vec<Message<C>>,
@@ -37,17 +40,40 @@ pub(crate) struct Turn<C> {
     pub looked: usize,
 }
 
-impl<C> Turn<C> {
-    /// A turn that has made nothing.
-    pub fn empty(alloc: Global) -> Turn<C>
+/// The facts of turns that are to be kept at once.
+#[derive(Drop)]
+pub(crate) struct Staged<C> {
+    pub facts: Vec<Fact<C>>,
+    /// How many octets the facts take in a record.
+    pub size: usize,
+}
+
+impl<C> Staged<C> {
+    /// No facts.
+    pub fn empty(alloc: Global) -> Staged<C>
         ensures facts { result.facts.items ≡ [] }
         ensures size { result.size ≡ 0 }
+    {
+        Staged {
+            facts: Vec::new(alloc),
+            size: 0,
+        }
+    }
+}
+
+impl<C> Turn<C> {
+    /// A turn that has made nothing, behind facts of so many octets.
+    pub fn behind(alloc: Global, before: usize) -> Turn<C>
+        ensures before { result.before ≡ before }
+        ensures facts { result.facts.items ≡ [] }
+        ensures size { result.size ≡ before }
         ensures messages { result.messages.items ≡ [] }
         ensures looked { result.looked ≡ 0 }
     {
         Turn {
+            before,
             facts: Vec::new(alloc),
-            size: 0,
+            size: before,
             messages: Vec::new(alloc),
             looked: 0,
         }
@@ -70,6 +96,7 @@ impl<C: Command + Codec> Roles<C> {
         ensures messages { OnOk result
             (turn.new.messages.items ≡ turn.old.messages.items ++ plan.messages.items) }
         ensures size { OnOk result (turn.new.size ≡ size) }
+        ensures before { turn.new.before ≡ turn.old.before }
         ensures looked { turn.new.looked ≡ turn.old.looked }
         ensures stand { OnOk result ((facts : List (Fact C)) → StandFor self.old facts
             → StandFor self.new (facts ++ facts_in plan.change)) }
@@ -108,6 +135,7 @@ impl<C: Command + Codec> Roles<C> {
         ensures looked { IfOk result (λ went. went ≡ true
             → turn.new.looked ≡ turn.old.looked + 1) }
         ensures stays { IfOk result (λ went. went ≡ false → turn.new.looked ≡ turn.old.looked) }
+        ensures before { turn.new.before ≡ turn.old.before }
         ensures full { IfOk result (λ went. went ≡ false
             → (config : Config) (kept : List (Fact C)) (volatile : world.Volatile C)
             (sent : List (Message C)) (event : world.Input C M.Question)
@@ -168,6 +196,7 @@ impl<C: Command + Codec> Roles<C> {
             → StandFor self.old (kept ++ turn.old.facts.items)
             → StandFor self.new (kept ++ turn.new.facts.items)) }
         ensures held { OnOk result (IsHeld C.octets turn.new) }
+        ensures before { turn.new.before ≡ turn.old.before }
         ensures few { OnOk result (turn.new.looked ≤ 64) }
         ensures part { OnOk result (IsPart (M.commands machine.new) (learned_of self.new.log)) }
         ensures config { config_of self.new ≡ config_of self.old }

@@ -1,7 +1,7 @@
 //! A node takes an input and the messages to itself that follow from it, and keeps their facts
 //! together.
 
-ghost use Rattle.std.specs.Prelude.{◌≡◌, ◌≤◌, ◌==◌, ◌++◌, ◌∷◌, [], IfOk, OnOk, length, true};
+ghost use Rattle.std.specs.Prelude.{◌≡◌, ◌≤◌, ◌+◌, ◌==◌, ◌++◌, ◌∷◌, [], IfOk, OnOk, length, true};
 ghost use Rattle.std.specs.Prelude.{false, not};
 ghost use Rattle.std.specs.List.{filter};
 ghost use Rattle.ts_node.specs.Machine.{store_of};
@@ -10,7 +10,8 @@ ghost use Rattle.ts_record.specs.Facts.{AllFit, encodings};
 ghost use Rattle.ts_node.specs.Inputs.{InputFits};
 ghost use Rattle.ts_node.specs.Node.{IsSound, Moments, config, volatile};
 ghost use Rattle.ts_node.specs.Roles.{IsLatest, facts_in};
-ghost use Rattle.ts_node.specs.Staged.{Ended, HasCome, HasRest, IsHeld, IsStaged};
+ghost use Rattle.ts_node.specs.Staged.{AreReady, HasBegun, HasCome, HasRest, IsHeld, IsStaged};
+ghost use Rattle.ts_node.specs.Staged.{Keeps};
 ghost use Rattle.ts_node.specs.Turn.{IsTurn, given_out, has_own};
 
 use crate::input::{Input, NodeFault, Output, Reply};
@@ -18,17 +19,28 @@ use crate::machine::Machine;
 use crate::node::Node;
 use crate::plan::Plan;
 use crate::room::room_for;
-use crate::turn::Turn;
+use crate::turn::{Staged, Turn};
 use std::alloc::{AllocError, Global};
 use ts_disk::Disk;
 use ts_record::Fault;
-use ts_synod::{Codec, Command, Message};
+use ts_synod::{Codec, Command, Fact, Message};
 
 /// Whether one of the messages is to this node.
 fn has_own<C>(messages: &[Message<C>], me: u8) -> bool
     ensures { result ≡ has_own me messages.now }
 {
     messages.iter().any(|message| message.to == me)
+}
+
+/// There are no facts.
+fn are_none<C>(facts: &[Fact<C>]) -> bool
+    ensures none { result ≡ true → facts.now ≡ [] }
+    ensures some { result ≡ false → facts.now ≡ [] → ⊥ }
+{
+    match facts.first() {
+        None => true,
+        Some(_) => false,
+    }
 }
 
 /// Keeps a message that is to another node.
@@ -77,6 +89,31 @@ fn give_out<C: Drop>(
     let mut given = others(alloc, first, me)?;
     given.append(&mut rest)?;
     Ok(given)
+}
+
+impl<C: Drop> Staged<C> {
+    /// Puts the facts of a turn behind those before, and gives its messages out.
+    fn put(&mut self, alloc: Global, turn: Turn<C>, me: u8) -> Result<Vec<Message<C>>, AllocError>
+        requires { turn.looked ≤ length turn.messages.items }
+        ensures given { IfOk result (λ given. given.items
+            ≡ given_out me turn.looked turn.messages.items) }
+        ensures facts { OnOk result
+            (self.new.facts.items ≡ self.old.facts.items ++ turn.facts.items) }
+        ensures size { OnOk result (self.new.size ≡ turn.size) }
+    {
+        let Turn {
+            facts,
+            size,
+            messages,
+            looked,
+            ..
+        } = turn;
+        let given = give_out(alloc, messages, looked, me)?;
+        let mut facts = facts;
+        self.facts.append(&mut facts)?;
+        self.size = size;
+        Ok(given)
+    }
 }
 
 impl<D: Disk, C: Command + Codec, M: Machine<C>> Node<D, C, M> {
@@ -161,8 +198,6 @@ impl<D: Disk, C: Command + Codec, M: Machine<C>> Node<D, C, M> {
         requires still { self.old.ahead ≡ false }
         requires sound { IsSound D.state C.octets M.commands self.old }
         requires latest { IsLatest self.old.roles plan.change }
-        requires fit { AllFit C.octets (facts_in plan.change) }
-        requires short { length (encodings C.octets (facts_in plan.change)) ≤ 4194500 }
         requires own { has_own (config self.old).me plan.messages.items ≡ true }
         ensures come { HasCome D.state C.octets (store_of M.Question M.client_id M.outcome)
             self.old plan reply result self.new }
@@ -172,38 +207,50 @@ impl<D: Disk, C: Command + Codec, M: Machine<C>> Node<D, C, M> {
         ensures still { OnOk result (self.new.ahead ≡ false) }
         ensures sound { IsSound D.state C.octets M.commands self.new }
     {
-        match room_for(self.alloc, plan.change.facts(), 0) {
-            Ok(Some(size)) => self.begin(plan, size, reply),
-            _ => Err(NodeFault::Memory),
+        let Ok(Some(size)) = room_for(self.alloc, plan.change.facts(), 0) else {
+            return Err(NodeFault::Memory);
+        };
+        let mut staged = Staged::empty(self.alloc);
+        match self.begin(plan, size, reply, &mut staged) {
+            Ok(output) => match self.keep_staged(staged) {
+                Ok(()) => Ok(output),
+                Err(fault) => Err(fault),
+            },
+            Err(fault) => Err(fault),
         }
     }
 
-    /// A turn of a plan, whose facts take so many octets, and of the messages to the node itself.
-    fn begin(
+    /// Makes a turn of a plan, and of the messages to the node itself, behind facts that are to be
+    /// kept together with its own. Of all these there are so many octets with those of the plan. At
+    /// a fault other than `Broken` nothing is changed.
+    pub(crate) fn begin(
         &mut self,
         plan: Plan<C>,
         size: usize,
         reply: Reply<M::Outcome, M::Answer>,
+        staged: &mut Staged<C>,
     ) -> Result<Output<C, M::Outcome, M::Answer>, NodeFault>
-        requires whole { self.old.kept.broken ≡ false }
         requires still { self.old.ahead ≡ false }
-        requires sound { IsSound D.state C.octets M.commands self.old }
+        requires staged { IsStaged D.state C.octets M.commands self.old staged.old.facts.items }
+        requires ready { AreReady C.octets staged.old }
         requires latest { IsLatest self.old.roles plan.change }
         requires fit { AllFit C.octets (facts_in plan.change) }
-        requires short { length (encodings C.octets (facts_in plan.change)) ≤ 4194500 }
-        requires own { has_own (config self.old).me plan.messages.items ≡ true }
-        requires size { size ≡ length (encodings C.octets (facts_in plan.change)) }
-        ensures come { HasCome D.state C.octets (store_of M.Question M.client_id M.outcome)
-            self.old plan reply result self.new }
+        requires size { size ≡ staged.old.size
+            + length (encodings C.octets (facts_in plan.change)) }
+        requires short { size ≤ 4194500 }
+        ensures begun { HasBegun C.octets (store_of M.Question M.client_id M.outcome)
+            self.old plan reply staged.old.facts.items result staged.new.facts.items self.new }
+        ensures kept { self.new.kept ≡ self.old.kept }
+        ensures still { OnOk result (self.new.ahead ≡ false) }
+        ensures staged { self.new.ahead ≡ false
+            → IsStaged D.state C.octets M.commands self.new staged.new.facts.items }
+        ensures ready { self.new.ahead ≡ false → AreReady C.octets staged.new }
         ensures config { config self.new ≡ config self.old }
         ensures basis { M.basis self.new.machine ≡ M.basis self.old.machine }
-        ensures whole { OnOk result (self.new.kept.broken ≡ false) }
-        ensures still { OnOk result (self.new.ahead ≡ false) }
-        ensures sound { IsSound D.state C.octets M.commands self.new }
     {
-        let mut turn = Turn::empty(self.alloc);
+        let mut turn = Turn::behind(self.alloc, staged.size);
         match self.roles.advance(plan, size, &mut turn) {
-            Ok(()) => self.take_rest(turn, reply),
+            Ok(()) => self.take_rest(turn, reply, staged),
             Err(_) => Err(NodeFault::Memory),
         }
     }
@@ -213,57 +260,55 @@ impl<D: Disk, C: Command + Codec, M: Machine<C>> Node<D, C, M> {
         &mut self,
         turn: Turn<C>,
         reply: Reply<M::Outcome, M::Answer>,
+        staged: &mut Staged<C>,
     ) -> Result<Output<C, M::Outcome, M::Answer>, NodeFault>
-        requires whole { self.old.kept.broken ≡ false }
         requires still { self.old.ahead ≡ false }
-        requires staged { IsStaged D.state C.octets M.commands self.old turn }
+        requires staged { IsStaged D.state C.octets M.commands self.old
+            (staged.old.facts.items ++ turn.facts.items) }
+        requires ready { AreReady C.octets staged.old }
+        requires before { turn.before ≡ staged.old.size }
         requires held { IsHeld C.octets turn }
         requires none { turn.looked ≡ 0 }
-        ensures rest { HasRest D.state C.octets (store_of M.Question M.client_id M.outcome)
-            self.old turn reply result self.new }
+        ensures rest { HasRest C.octets (store_of M.Question M.client_id M.outcome)
+            self.old turn reply staged.old.facts.items result staged.new.facts.items self.new }
+        ensures kept { self.new.kept ≡ self.old.kept }
+        ensures still { OnOk result (self.new.ahead ≡ false) }
+        ensures staged { self.new.ahead ≡ false
+            → IsStaged D.state C.octets M.commands self.new staged.new.facts.items }
+        ensures ready { self.new.ahead ≡ false → AreReady C.octets staged.new }
         ensures config { config self.new ≡ config self.old }
         ensures basis { M.basis self.new.machine ≡ M.basis self.old.machine }
-        ensures whole { OnOk result (self.new.kept.broken ≡ false) }
-        ensures still { OnOk result (self.new.ahead ≡ false) }
-        ensures sound { IsSound D.state C.octets M.commands self.new }
     {
         let mut turn = turn;
-        match self.roles.take_own(&mut self.machine, &mut turn) {
-            Ok(()) => self.finish(turn, reply),
+        let Ok(()) = self.roles.take_own(&mut self.machine, &mut turn) else {
+            return Err(self.give_up());
+        };
+        match staged.put(self.alloc, turn, self.roles.me) {
+            Ok(messages) => Ok(Output { messages, reply }),
             Err(_) => Err(self.give_up()),
         }
     }
 
-    /// Keeps what a turn has made, and gives its messages out.
-    fn finish(
-        &mut self,
-        turn: Turn<C>,
-        reply: Reply<M::Outcome, M::Answer>,
-    ) -> Result<Output<C, M::Outcome, M::Answer>, NodeFault>
+    /// Keeps the facts of turns, by one append.
+    pub(crate) fn keep_staged(&mut self, staged: Staged<C>) -> Result<(), NodeFault>
         requires whole { self.old.kept.broken ≡ false }
         requires still { self.old.ahead ≡ false }
-        requires staged { IsStaged D.state C.octets M.commands self.old turn }
-        requires held { IsHeld C.octets turn }
-        ensures ended { Ended D.state self.old reply turn.looked turn.messages.items
-            turn.facts.items (volatile self.old) result self.new }
-        ensures moments { Moments D.state C.octets self.old turn.facts.items self.new }
-        ensures config { config self.new ≡ config self.old }
-        ensures machine { self.new.machine ≡ self.old.machine }
+        requires staged { IsStaged D.state C.octets M.commands self.old staged.facts.items }
+        requires ready { AreReady C.octets staged }
+        ensures keeps { Keeps D.state self.old staged.facts.items (volatile self.old) result
+            self.new }
+        ensures moments { Moments D.state C.octets self.old staged.facts.items self.new }
+        ensures none { OnOk result (staged.facts.items ≡ [] → self.new.kept ≡ self.old.kept) }
+        ensures same { self.new ≡ record self.old { kept = self.new.kept; ahead = self.new.ahead } }
         ensures whole { OnOk result (self.new.kept.broken ≡ false) }
         ensures still { OnOk result (self.new.ahead ≡ false) }
         ensures sound { IsSound D.state C.octets M.commands self.new }
     {
-        let Turn {
-            facts,
-            messages,
-            looked,
-            ..
-        } = turn;
-        let Ok(messages) = give_out(self.alloc, messages, looked, self.roles.me) else {
-            return Err(self.give_up());
-        };
-        match self.kept.append(self.alloc, &facts) {
-            Ok(()) => Ok(Output { messages, reply }),
+        if are_none(&staged.facts) {
+            return Ok(());
+        }
+        match self.kept.append(self.alloc, &staged.facts) {
+            Ok(()) => Ok(()),
             Err(fault) => Err(self.stop(fault)),
         }
     }
@@ -284,7 +329,7 @@ impl<D: Disk, C: Command + Codec, M: Machine<C>> Node<D, C, M> {
     }
 
     /// Breaks the node: its roles are ahead of the record.
-    fn give_up(&mut self) -> NodeFault
+    pub(crate) fn give_up(&mut self) -> NodeFault
         ensures fault { result ≡ NodeFault.Broken }
         ensures ahead { self.new ≡ record self.old { ahead = true } }
     {

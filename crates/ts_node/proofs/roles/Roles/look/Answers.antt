@@ -39,7 +39,7 @@ returns-clause-held g c =
     let found = subst (λ fs. AllFit octets fs × (c.in-Some.size ≡ now.size + length (encodings octets fs)) × (c.in-Some.size ≤ 4194500)) c.facts.ensures (rw c.in-Some.is at c.in_ok-size.ensures.some) in
     let e = ap length c.in_ok-advance.ensures.messages in
     let f = length-append now.messages.items plan.messages.items in
-    held_more octets now c.advance.new.turn (facts_in plan.change) c.in-Some.size c.requires.held found.0 found.1 found.2 c.in_ok-advance.ensures.facts c.in_ok-advance.ensures.size
+    held_more octets now c.advance.new.turn (facts_in plan.change) c.in-Some.size c.requires.held found.0 found.1 found.2 c.in_ok-advance.ensures.facts c.in_ok-advance.ensures.size c.advance.ensures.before
     (omega (arith, e, f, c.requires.more, c.advance.ensures.looked))
 
 pub returns-clause-stand : goal.returns-clause-stand

@@ -19,6 +19,7 @@ invariant-loop-look g l = record {
       → IsSoFar (store_of g.row.M-Question.Denot g.M.Machine.client_id g.M.Machine.outcome) config kept volatile sent event l.self l.turn;
   on : (kept : List (Fact g.row.C.Denot)) → StandFor l.initial.self (kept ++ l.initial.turn.facts.items) → StandFor l.self (kept ++ l.turn.facts.items);
   held : IsHeld g.C.Codec.octets l.turn;
+  before : l.turn.before ≡ l.initial.turn.before;
   stand : (facts : List (Fact g.row.C.Denot)) × StandFor l.self facts;
   part : IsPart (g.M.Machine.commands l.machine) (learned_of l.self.log);
   config : config_of l.self ≡ config_of l.initial.self;
