@@ -62,7 +62,7 @@ pub enum Task {
         /// How many times.
         rounds: u32,
     },
-    /// Print how many commands a node knows.
+    /// Print how a node does: its prefix, its peers, its appends and syncs.
     Status {
         /// The node, and the key that it is shown.
         reach: Reach,

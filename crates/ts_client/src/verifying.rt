@@ -76,9 +76,9 @@ fn certificates_in<'a>(
             Ok(cert) => certificates.push(cert)?,
             Err(fault) => {
                 let (rule, at) = (fault.kind, fault.at);
-                let place = certificates.len();
+                let place = certificates.len().saturating_add(1);
                 let _ = eprintln!(rt;
-                    "trustd: certificate {place}, from 0, is none: {rule} at {at}"
+                    "trustd: certificate {place} can't be read: {rule} at octet {at}"
                 );
                 return Err(Fault::Field);
             }
@@ -104,7 +104,8 @@ fn crls_in<'a>(
             Ok(crl) if crl.is_delta() => deltas.push(crl)?,
             Ok(crl) => lists.push(crl)?,
             Err(fault) => {
-                let _ = eprintln!(rt; "trustd: CRL {place}, from 0, can't be used: {fault}");
+                let place = place.saturating_add(1);
+                let _ = eprintln!(rt; "trustd: CRL {place} can't be used: {fault}");
                 return Err(Fault::Field);
             }
         }

@@ -61,7 +61,9 @@ pub(crate) fn group_of<R: Files + Eprint>(
         };
         if !may_be_added(&peers, member, node) {
             let (own, nodes) = (member.node, member.nodes);
-            let _ = eprintln!(rt; "trustd: peer {node} is no other node than {own} of {nodes}");
+            let _ = eprintln!(rt;
+                "trustd: --peer {node}: this is node {own} of {nodes}, and a peer is another, named once"
+            );
             return Err(Fault::Field);
         }
         let address = String::from_str(alloc, address)?;

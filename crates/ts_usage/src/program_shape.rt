@@ -196,7 +196,7 @@ fn with_upkeep<'a>(
     ensures { (app : App) → IfOk program.entry (IsApp app)
         → IfOk result (IsApp (shapes.with_upkeep app)) }
 {
-    let what = "Prints how many commands a node knows";
+    let what = "Prints how a node does: prefix, peers, appends";
     let program = among(program, reaching(alloc, "status", what));
     let what = "Prints which node of which group it is";
     let program = among(program, reaching(alloc, "identify", what));
@@ -249,10 +249,10 @@ pub fn program<'a>(alloc: Global) -> Result<Command<'a>, AllocError>
     let program = among(program, leaf(alloc, "command", what));
     let what = "Writes an encoded question to standard output";
     let program = among(program, leaf(alloc, "question", what));
-    let about = "Prints the id of an anchor or list";
+    let about = "Prints the id of an anchor or CRL";
     let what = "The certificate or CRL, in PEM or DER";
     let program = among(program, reading(alloc, "id", about, "FILE", what));
-    let what = "A certificate, list, command, question or record";
+    let what = "A certificate, CRL, command, question or record";
     let program = among(
         program,
         reading(alloc, "show", "Prints what a file holds", "FILE", what),
