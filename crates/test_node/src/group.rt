@@ -12,7 +12,7 @@ use crate::group_machine::{Number, Takes};
 use std::alloc::{AllocError, Global};
 use std::marker::Model;
 use ts_disk::{MemDisk, Torn};
-use ts_node::{Input, Node, NodeFault, Output, Refused, Reply};
+use ts_node::{Input, Node, NodeFault, Output, Refused, Reply, Staged};
 use ts_record::{Fault, Record};
 use ts_synod::{Ballot, Body, Message};
 
@@ -263,18 +263,23 @@ impl Member {
         }
     }
 
-    /// Takes a batch: two commands, a compaction and another command. It answers how many it took.
-    pub fn batch(&mut self) -> Result<usize, NodeFault> {
-        let inputs = [
-            Input::Submit(Number { value: 7 }),
-            Input::Submit(Number { value: 8 }),
-            Input::Compact,
-            Input::Submit(Number { value: 9 }),
-        ];
-        match self.node.turn_all(&inputs) {
-            Ok(answers) => Ok(answers.len()),
-            Err(fault) => Err(fault),
-        }
+    /// Takes two inputs in memory, and keeps both. How many messages it gave.
+    pub fn stage_two(
+        self,
+        alloc: Global,
+        first: &Input<Number, ()>,
+        second: &Input<Number, ()>,
+    ) -> Result<(Member, usize), NodeFault>
+        requires { InputFits (λ (number : Number). number.value ∷ []) first.now }
+        requires { InputFits (λ (number : Number). number.value ∷ []) second.now }
+    {
+        let Member { mut node, learned } = self;
+        let mut staged = Staged::empty(alloc);
+        let one = node.stage(first, &mut staged)?;
+        let two = node.stage(second, &mut staged)?;
+        node.keep_staged(&mut staged)?;
+        let given = one.messages.len().saturating_add(two.messages.len());
+        Ok((Member { node, learned }, given))
     }
 
     /// How many calls its first disk was given.

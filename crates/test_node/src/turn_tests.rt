@@ -57,32 +57,53 @@ fn one_append(rt: HostRuntime) -> Result<(), Fail> {
     Ok(())
 }
 
-/// The calls of the first disk in a batch of a node of so many; how many inputs it took, and how
-/// many commands the node knows then.
-fn batch_of(alloc: Global, nodes: u8) -> Result<(usize, usize, u32), AllocError>
+/// How many commands a node knows.
+fn prefix_of(member: &mut Member) -> Result<u32, AllocError> {
+    let (Ok(status), _) = member.handle(&Input::Status) else {
+        return Err(AllocError);
+    };
+    match status.reply {
+        Reply::Prefix(prefix) => Ok(prefix),
+        _ => Err(AllocError),
+    }
+}
+
+/// The calls of the first disk while a node of so many takes two commands in memory and keeps both;
+/// how many messages it gives, and how many commands it knows then.
+fn staged_of(alloc: Global, nodes: u8) -> Result<(usize, usize, u32), AllocError>
     requires from { 1 ≤ nodes }
     requires few { nodes ≤ 9 }
 {
     let idle = Member::first(alloc, nodes)?;
-    let mut member = Member::first(alloc, nodes)?;
-    let Ok(taken) = member.batch() else {
+    let member = Member::first(alloc, nodes)?;
+    let first = Input::Submit(Number { value: 7 });
+    let second = Input::Submit(Number { value: 8 });
+    let Ok((mut member, given)) = member.stage_two(alloc, &first, &second) else {
         return Err(AllocError);
     };
-    let (Ok(status), _) = member.handle(&Input::Status) else {
-        return Err(AllocError);
-    };
-    let Reply::Prefix(prefix) = status.reply else {
-        return Err(AllocError);
-    };
-    Ok((member.calls().saturating_sub(idle.calls()), taken, prefix))
+    let prefix = prefix_of(&mut member)?;
+    Ok((member.calls().saturating_sub(idle.calls()), given, prefix))
 }
 
-/// Two commands before a compaction are kept by one append, and a node alone knows both after it;
-/// one of three begins a round for each.
+/// Two commands that are taken in memory are kept by one append. A node alone knows both then; one
+/// of three has promised itself two ballots, and asked the others for each.
 #[test]
-fn one_append_of_a_batch(rt: HostRuntime) -> Result<(), Fail> {
+fn one_append_of_two(rt: HostRuntime) -> Result<(), Fail> {
     let alloc = rt.alloc();
-    assert_eq!(rt; batch_of(alloc, 1)?, (4, 2, 2));
-    assert_eq!(rt; batch_of(alloc, 3)?, (4, 2, 0));
+    assert_eq!(rt; staged_of(alloc, 1)?, (4, 0, 2));
+    assert_eq!(rt; staged_of(alloc, 3)?, (4, 4, 0));
+    Ok(())
+}
+
+/// What waits is kept before a compaction begins.
+#[test]
+fn kept_before_compaction(rt: HostRuntime) -> Result<(), Fail> {
+    let alloc = rt.alloc();
+    let member = Member::first(alloc, 1)?;
+    let command = Input::Submit(Number { value: 7 });
+    let Ok((mut member, _)) = member.stage_two(alloc, &command, &Input::Compact) else {
+        return Err(AllocError.into());
+    };
+    assert_eq!(rt; prefix_of(&mut member)?, 1);
     Ok(())
 }

@@ -1,8 +1,8 @@
--- What the contract of a batch says is what a run allows.
+-- What inputs come to that are taken in memory and then kept is what a run allows.
 use Rattle.std.proofs.Common.{◌≡◌, ◌∙◌, ◌⊎◌, ◌++◌, ◌∷◌, ℕ, zero, suc, List, [], map, length, take, Result, Ok, Err, Some, true, false, inl, inr, refl, sym, ap, subst, slice_get, ⊎_elim, append_assoc, length-append, arith}
 use Rattle.std.proofs.lemmas.List.{append-nil}
-use Rattle.std.specs.Global.{Vec}
 use Rattle.std.specs.List.{AllByRecursion}
+use Rattle.std.specs.Prelude.{MatchResult}
 use Rattle.ts_disk.specs.Disk.{State}
 use Rattle.ts_synod.specs.declared.message.Fact.{Fact}
 use Rattle.ts_synod.specs.declared.message.Message.{Message}
@@ -23,11 +23,12 @@ use Rattle.ts_node.specs.declared.input.NodeFault.{NodeFault}
 use Rattle.ts_node.specs.declared.input.NodeFault.TheVariants as faults
 use Rattle.ts_node.specs.Inputs.{IsInput}
 use Rattle.ts_node.specs.Node.{IsSame, config, facts, is_broken, member_as, owner, volatile}
-use Rattle.ts_node.specs.Batch.{AreTaken, IsTaken, Stays, TakesTurn}
+use Rattle.ts_node.specs.Ahead.{IsTaken, Stays, TakesTurn}
+use Rattle.ts_node.proofs.Behind.{AreTaken, IsBatch, batch_of}
 use Rattle.ts_node.specs.Staged.{Keeps}
 use Rattle.ts_node.specs.Turn.{DoesTurn, own_numbers}
-use Rattle.ts_node.specs.Run.{Group, Happening, after, after_all, refused, reopened, turned}
-use Rattle.ts_node.specs.Allowed.{AreOnes, BatchesAre, BreaksAre, IsOffered, May, MayAll}
+use Rattle.ts_node.specs.Run.{Group, Happening, IsOpened, after, after_all, refused, reopened, turned}
+use Rattle.ts_node.specs.Allowed.{AreLeft, AreOnes, BatchesAre, BreaksAre, IsOffered, May, MayAll, Works}
 use Rattle.ts_record.specs.Record.{OpensToForce}
 use Rattle.ts_node.proofs.Breaks.{second_not}
 use Rattle.ts_node.proofs.Images.{same_refl}
@@ -65,7 +66,7 @@ module _ {D C M O Q A B : Type 0} (state : D → State) (octets : C → List ℕ
       → (more : List (Fact C)) × (then' ≡ before ++ more) × (facts new ≡ facts old ++ more) × (config new ≡ config old)
   came before old [] [] then' new are = ([], are.0 ∙ sym (append-nil before), ap facts are.1 ∙ sym (append-nil (facts old)), ap config are.1)
   came before old [] (r ∷ results) then' new are = absurd are
-  came before old (input ∷ inputs) [] then' new are = ([], are.0 ∙ sym (append-nil before), ap facts are.1 ∙ sym (append-nil (facts old)), ap config are.1)
+  came before old (input ∷ inputs) [] then' new are = absurd are
   came before old (input ∷ inputs) (r ∷ results) then' new are =
       let one = are.2 in
       let next = came are.0 are.1 inputs results then' new are.3 in (
@@ -125,7 +126,7 @@ module _ {D C M O Q A B : Type 0} (state : D → State) (octets : C → List ℕ
         → (facts old ≡ target.facts → target ≡ record base { facts = facts old }) → AllByRecursion (IsOffered s.sent) inputs → AreTaken octets store basis is_answer before old inputs results then' last → Goes s inputs results last
     goes s base before then' old last [] [] is rests there offered are = record { run = []; ones = tt; may = tt; base = base; there = subst (λ (x : Node D C M). facts x ≡ target.facts → target ≡ record base { facts = facts x }) (sym are.1) there; is = is ∙ ap (with_record base) (sym are.1) }
     goes s base before then' old last [] (r ∷ results) is rests there offered are = absurd are
-    goes s base before then' old last (input ∷ inputs) [] is rests there offered are = record { run = []; ones = tt; may = tt; base = base; there = subst (λ (x : Node D C M). facts x ≡ target.facts → target ≡ record base { facts = facts x }) (sym are.1) there; is = is ∙ ap (with_record base) (sym are.1) }
+    goes s base before then' old last (input ∷ inputs) [] is rests there offered are = absurd are
     goes s base before then' old last (input ∷ inputs) (Ok output ∷ results) is rests there offered are =
         let one = are.2 in
         let mid = are.1 in
@@ -173,57 +174,63 @@ module _ {D C M O Q A B : Type 0} (state : D → State) (octets : C → List ℕ
   may_then s [] h may one = (one, tt)
   may_then s (x ∷ run) h may one = (may.0, may_then (after s x) run h may.1 one)
 
+  module _ (s : Group D C M O Q A) (i : ℕ) (inputs : List (Input C Q)) (results : List (Result (Output C O A) NodeFault)) (more : List (Fact C)) (new : Node D C M) (works : Works state octets store commands basis is_answer n rest s i) (offered : AllByRecursion (IsOffered s.sent) inputs) where
+    batch_is : (result : Result (Unit {0}) NodeFault) → IsBatch octets store basis is_answer state (s.nodes i) inputs results more result new
+        → MatchResult result (λ done. (run : List (Happening D C M O Q A)) × AreOnes i inputs results run × MayAll state octets store commands basis is_answer n rest s (run ++ refused i new ∷ [])) (λ fault. (fault ≡ faults.DiskFailed) ⊎ (fault ≡ faults.Broken))
+    batch_is (Ok done) batch =
+        let old = s.nodes i in
+        let last = batch.last in
+        let came_to = came [] old inputs results more last batch.taken in
+        let keeps = batch.keeps in
+        let e : facts new ≡ facts last = keeps.0 ∙ ap (λ fs. facts old ++ fs) came_to.1 ∙ sym came_to.2 in
+        let none : facts old ≡ new.kept.facts → new.kept ≡ old.kept = λ k. batch.none (no_more (facts old) more (sym keeps.0 ∙ sym k)) in
+        let went = goes i works.node new.kept s old.kept [] more old last inputs results (begins old works.whole) works.rests none offered batch.taken in (
+          went.run,
+          went.ones,
+          may_then s went.run (refused i new) went.may (
+            works.node,
+            batch.same_config ∙ sym came_to.3 ∙ ap config (sym went.is),
+            subst (λ (x : Node D C M). IsSame x new) (sym went.is) (record { kept = went.there (sym e); volatile = keeps.1; ahead = second_not new.kept.broken new.ahead batch.whole }),
+          ),
+        )
+    batch_is (Err fault) batch = go fault batch.keeps
+      where
+        go : (f : NodeFault) → Keeps {T = Unit {0}} state (s.nodes i) more (volatile batch.last) (Err f) new → (f ≡ faults.DiskFailed) ⊎ (f ≡ faults.Broken)
+        go faults.DiskFailed h = inl refl
+        go faults.Broken h = inr refl
+        go faults.Memory h = absurd h
+        go faults.RoundsExhausted h = absurd h
+        go faults.PositionsExhausted h = absurd h
+        go faults.GenerationsExhausted h = absurd h
+
+    break_is : (result : Result (Unit {0}) NodeFault) (a b : List ℕ) (opened : Node D C M) → IsBatch octets store basis is_answer state (s.nodes i) inputs results more result new → AreLeft state (s.nodes i) new a b → IsOpened octets a b opened
+        → May state octets store commands basis is_answer n rest s (reopened i a b opened) ⊎ ((run : List (Happening D C M O Q A)) × AreOnes i inputs results run × MayAll state octets store commands basis is_answer n rest s (run ++ reopened i a b opened ∷ []))
+    break_is result a b opened batch left at =
+        let old = s.nodes i in
+        let last = batch.last in
+        let came_to = came [] old inputs results more last batch.taken in
+        let e : facts old ++ more ≡ facts last = ap (λ fs. facts old ++ fs) came_to.1 ∙ sym came_to.2 in
+        let target = record old.kept { facts = facts last } in
+        ⊎_elim
+        (λ (before : OpensTo octets (owner old) (facts old) a b). inl (works.node, (facts old, before, same_refl (facts old)), at))
+        (λ (then' : OpensTo octets (owner old) (facts old ++ more) a b).
+        let went = goes i works.node target s old.kept [] more old last inputs results (begins old works.whole) works.rests (λ k. ap (λ fs. record old.kept { facts = fs }) (sym k)) offered batch.taken in
+        inr (
+          went.run,
+          went.ones,
+          may_then s went.run (reopened i a b opened) went.may (
+            works.node,
+            subst (λ (x : Node D C M). OpensToForce octets (owner x) (facts x) a b) (sym went.is) (facts last, subst (λ fs. OpensTo octets (owner last) fs a b) e (subst (λ k. OpensTo octets (member_as k) (facts old ++ more) a b) (sym came_to.3) then'), same_refl (facts last)),
+            at,
+          ),
+        ))
+        (batch.moments a b left.0 left.1)
+
   batches_are : BatchesAre state octets store commands basis is_answer n rest
-  batches_are s i inputs (Ok given) new works offered batch =
-      let old = s.nodes i in
-      let are = batch.taken works.whole in
-      let last = batch.last in
-      let came_to = came [] old inputs batch.results batch.more last are in
-      let keeps = batch.keeps works.whole in
-      let e : facts new ≡ facts last = keeps.0 ∙ ap (λ fs. facts old ++ fs) came_to.1 ∙ sym came_to.2 in
-      let none : facts old ≡ new.kept.facts → new.kept ≡ old.kept = λ k. batch.none (no_more (facts old) batch.more (sym keeps.0 ∙ sym k)) in
-      let went = goes i works.node new.kept s old.kept [] batch.more old last inputs batch.results (begins old works.whole) works.rests none offered are in (
-        went.run,
-        subst (λ rs. AreOnes i inputs rs went.run) (sym batch.answered) went.ones,
-        may_then s went.run (refused i new) went.may (
-          works.node,
-          batch.same_config ∙ sym came_to.3 ∙ ap config (sym went.is),
-          subst (λ (x : Node D C M). IsSame x new) (sym went.is) (record { kept = went.there (sym e); volatile = keeps.1; ahead = second_not new.kept.broken new.ahead batch.whole }),
-        ),
-      )
-  batches_are s i inputs (Err fault) new works offered batch = go fault (batch.keeps works.whole)
-    where
-      go : (f : NodeFault) → Keeps {T = Vec (Result (Output C O A) NodeFault)} state (s.nodes i) batch.more (volatile batch.last) (Err f) new → (f ≡ faults.DiskFailed) ⊎ (f ≡ faults.Broken)
-      go faults.DiskFailed h = inl refl
-      go faults.Broken h = inr refl
-      go faults.Memory h = absurd h
-      go faults.RoundsExhausted h = absurd h
-      go faults.PositionsExhausted h = absurd h
-      go faults.GenerationsExhausted h = absurd h
+  batches_are s i inputs results more staged result after new works offered are kept = batch_is s i inputs results more new works offered result (batch_of octets store basis is_answer state (s.nodes i) inputs results more staged after new works.whole are result kept)
 
   breaks_are : BreaksAre state octets store commands basis is_answer n rest
-  breaks_are s i inputs result new a b opened works offered batch left at =
-      let old = s.nodes i in
-      let are = batch.taken works.whole in
-      let last = batch.last in
-      let came_to = came [] old inputs batch.results batch.more last are in
-      let e : facts old ++ batch.more ≡ facts last = ap (λ fs. facts old ++ fs) came_to.1 ∙ sym came_to.2 in
-      let target = record old.kept { facts = facts last } in
-      ⊎_elim
-      (λ (before : OpensTo octets (owner old) (facts old) a b). inl (works.node, (facts old, before, same_refl (facts old)), at))
-      (λ (then' : OpensTo octets (owner old) (facts old ++ batch.more) a b).
-      let went = goes i works.node target s old.kept [] batch.more old last inputs batch.results (begins old works.whole) works.rests (λ k. ap (λ fs. record old.kept { facts = fs }) (sym k)) offered are in
-      inr (
-        batch.results,
-        went.run,
-        went.ones,
-        may_then s went.run (reopened i a b opened) went.may (
-          works.node,
-          subst (λ (x : Node D C M). OpensToForce octets (owner x) (facts x) a b) (sym went.is) (facts last, subst (λ fs. OpensTo octets (owner last) fs a b) e (subst (λ k. OpensTo octets (member_as k) (facts old ++ batch.more) a b) (sym came_to.3) then'), same_refl (facts last)),
-          at,
-        ),
-      ))
-      (batch.moments works.whole a b left.0 left.1)
+  breaks_are s i inputs results more staged result after new a b opened works offered are kept left at = break_is s i inputs results more new works offered result a b opened (batch_of octets store basis is_answer state (s.nodes i) inputs results more staged after new works.whole are result kept) left at
 
   pub all_batches_are : BatchesAre state octets store commands basis is_answer n rest × BreaksAre state octets store commands basis is_answer n rest
   all_batches_are = (batches_are, breaks_are)

@@ -1,4 +1,4 @@
--- An input of a batch, in memory.
+-- An input in memory, behind facts that wait.
 use Rattle.std.proofs.Common.{◌≡◌, ◌∙◌, ◌++◌, ◌∷◌, ℕ, List, [], false, Result, Ok, Err, Option, Some, None, length, refl, sym, ap, subst, arith, append_assoc}
 use Rattle.std.proofs.lemmas.List.{append-nil}
 use Rattle.ts_synod.specs.declared.message.Fact.{Fact}
@@ -19,34 +19,16 @@ use Rattle.ts_node.specs.declared.input.Reply.{Reply}
 use Rattle.ts_node.specs.declared.node.Node.{Node}
 use Rattle.ts_node.specs.declared.plan.Plan.{Plan}
 use Rattle.ts_node.specs.declared.roles.Roles.{Roles}
-use Rattle.ts_node.specs.Batch.{AreTaken, IsNext, IsPlanned, IsStop, IsTaken, Stays, TakesTurn, holding}
-use Rattle.ts_node.specs.Inputs.{InputFits, IsInput, IsReply, Submits}
+use Rattle.ts_node.specs.Ahead.{IsNext, IsPlanned, IsTaken, Stays, TakesTurn, holding}
+use Rattle.ts_node.specs.Inputs.{IsInput, IsReply, Submits}
 use Rattle.ts_node.specs.Node.{config, facts, volatile}
 use Rattle.ts_node.specs.Roles.{Makes, StandFor, config_of, volatile_of}
 use Rattle.ts_node.specs.Staged.{HasBegun}
 use Rattle.ts_node.specs.Turn.{EndsBehind, FitTogether, given_out, inputs_of}
-use Rattle.ts_node.proofs.Fits.{an_event, step_fits}
-use Rattle.ts_node.proofs.Images.{same_refl, stand_force}
+use Rattle.ts_node.proofs.Fits.{an_event}
+use Rattle.ts_node.proofs.Images.{stand_force}
 
 module _ {D C M O Q A B : Type 0} (octets : C → List ℕ) (store : Store C O (List C) Q (List C)) (basis : M → B) (is_answer : B → List C → Q → A → Type 0) where
-  -- an input more
-  pub taken_more : (before : List (Fact C)) (old : Node D C M) (inputs : List (Input C Q)) (results : List (Result (Output C O A) NodeFault)) (mid : List (Fact C)) (node : Node D C M) (input : Input C Q) (r : Result (Output C O A) NodeFault) (after : List (Fact C)) (new : Node D C M)
-      → length results ≡ length inputs → AreTaken octets store basis is_answer before old inputs results mid node → IsTaken octets store basis is_answer mid node input r after new
-      → AreTaken octets store basis is_answer before old (inputs ++ input ∷ []) (results ++ r ∷ []) after new
-  taken_more before old [] [] mid node input r after new long are one = (after, new, subst (λ n. IsTaken octets store basis is_answer before n input r after new) are.1 (subst (λ fs. IsTaken octets store basis is_answer fs node input r after new) are.0 one), (refl, refl))
-  taken_more before old [] (q ∷ results) mid node input r after new long are one = absurd are
-  taken_more before old (x ∷ inputs) [] mid node input r after new long are one = absurd (omega (arith, long))
-  taken_more before old (x ∷ inputs) (q ∷ results) mid node input r after new long are one = (are.0, are.1, are.2, taken_more are.0 are.1 inputs results mid node input r after new (omega (arith, long)) are.3 one)
-
-  -- the inputs behind those that were taken
-  pub taken_some : (before : List (Fact C)) (old : Node D C M) (inputs more : List (Input C Q)) (results : List (Result (Output C O A) NodeFault)) (after : List (Fact C)) (new : Node D C M)
-      → AreTaken octets store basis is_answer before old inputs results after new → AreTaken octets store basis is_answer before old (inputs ++ more) results after new
-  taken_some before old [] [] [] after new are = are
-  taken_some before old [] (x ∷ more) [] after new are = are
-  taken_some before old [] more (r ∷ results) after new are = absurd are
-  taken_some before old (input ∷ inputs) more [] after new are = are
-  taken_some before old (input ∷ inputs) more (r ∷ results) after new are = (are.0, are.1, are.2, taken_some are.0 are.1 inputs more results after new are.3)
-
   module _ (old new : Node D C M) (before : List (Fact C)) (input : Input C Q) (real : input ≡ kinds.Compact → ⊥) (conf : config new ≡ config old) (same : basis new.machine ≡ basis old.machine) (kept : new.kept ≡ old.kept) where
     held : (after more : List (Fact C)) → after ≡ before ++ more → facts (holding new after) ≡ facts (holding old before) ++ more
     held after more is = (λ i. (kept i).facts ++ is i) ∙ sym (append_assoc old.kept.facts before more)
@@ -172,11 +154,3 @@ module _ {D C M O Q A B : Type 0} (octets : C → List ℕ) (store : Store C O (
     planned_next (Err faults.RoundsExhausted) after new still kept conf1 same h = absurd h.comes
     planned_next (Err faults.PositionsExhausted) after new still kept conf1 same h = absurd h.comes
     planned_next (Err faults.GenerationsExhausted) after new still kept conf1 same h = absurd h.comes
-
-  -- The first input of a batch has room.
-  pub not_first : (node : Node D C M) (none : List (Fact C)) (input : Input C Q) → none ≡ [] → InputFits octets input → (input ≡ kinds.Compact → ⊥) → IsStop octets store basis is_answer none node (input ∷ []) → ⊥
-  not_first node none input is fits real stop =
-      let e = an_event input real in
-      let f = step_fits octets store (config node) (node_with (facts node) (volatile node)) e.0 input e.1 fits e.2 in
-      let together : FitTogether octets ([] ++ (step store (config node) (node_with (facts node) (volatile node)) e.0 e.1).effect.facts) = (f.fit, f.short) in
-      stop (facts node) e.0 e.1 (same_refl (facts node)) e.2 (subst (λ fs. FitTogether octets (fs ++ (step store (config node) (node_with (facts node) (volatile node)) e.0 e.1).effect.facts)) (sym is) together)

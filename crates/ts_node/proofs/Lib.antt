@@ -15,7 +15,7 @@ pub mod Staging
 pub mod Coming
 pub mod Stages
 pub mod Batching
-pub mod Batched
+pub mod Behind
 pub mod Simulation
 pub mod Batches
 pub mod Allowing

@@ -61,6 +61,14 @@ module _ {D C M : Type 0} (state : D → State) (octets : C → List ℕ) (comma
       let stands = subst (StandFor roles) (append_assoc node.kept.facts staged more ∙ ap (λ fs. node.kept.facts ++ fs) (sym is)) (stand (node.kept.facts ++ staged) stood) in
       record { opens = w.opens; whose = w.whose ∙ ap member_as (sym conf); stand = stands; part = subst (IsPart (commands machine)) stands.log part }
 
+-- no facts wait
+pub ready_none : {C : Type 0} (octets : C → List ℕ) (staged : Staged C) → staged.facts.items ≡ [] → staged.size ≡ 0 → AreReady octets staged
+ready_none octets staged none empty = record {
+  fit = subst (AllFit octets) (sym none) tt;
+  size = empty ∙ sym (ap (λ fs. length (encodings octets fs)) none);
+  short = (let e = empty in omega arith);
+}
+
 -- memory was refused once the roles were changed
 pub broken : {D C M O A : Type 0} (reply : Reply O A) (turn : Turn C) (old : Node D C M) (before after : List (Fact C)) (new : Node D C M) (fault : NodeFault) → fault ≡ faults.Broken → new.ahead ≡ true → Stages old reply turn.looked turn.messages.items turn.facts.items (volatile old) before (Err fault) after new
 broken reply turn old before after new fault is ahead = subst (λ f. Stages old reply turn.looked turn.messages.items turn.facts.items (volatile old) before (Err f) after new) (sym is) ahead

@@ -1,10 +1,10 @@
 -- Whatever a call of a node comes to is something that a run allows (`IsAllowed`), by the contract
 -- of that call alone.
 use Rattle.std.proofs.Common.{◌≡◌, ◌⊎◌, ◌++◌, ◌∷◌, ℕ, List, [], true, false, Result, Ok, Err}
-use Rattle.std.specs.Global.{Vec}
 use Rattle.std.specs.List.{AllByRecursion}
 use Rattle.std.specs.Prelude.{MatchResult}
 use Rattle.ts_disk.specs.Disk.{State}
+use Rattle.ts_synod.specs.declared.message.Fact.{Fact}
 use Rattle.ts_synod.specs.declared.message.Message.{Message}
 use Rattle.ts_synod.specs.Config.{is_node}
 use Rattle.ts_synod.specs.Node as world
@@ -15,9 +15,9 @@ use Rattle.ts_node.specs.declared.input.Input.TheVariants as inputs
 use Rattle.ts_node.specs.declared.input.Output.{Output}
 use Rattle.ts_node.specs.declared.input.NodeFault.{NodeFault}
 use Rattle.ts_node.specs.declared.input.NodeFault.TheVariants as faults
+use Rattle.ts_node.specs.Ahead.{AreBehind, IsKept}
 use Rattle.ts_node.specs.Inputs.{IsInput}
 use Rattle.ts_node.specs.Node.{IsSound, is_broken}
-use Rattle.ts_node.specs.Batch.{IsBatch}
 use Rattle.ts_node.specs.Call.{IsCall}
 use Rattle.ts_node.specs.Turn.{IsTurn}
 use Rattle.ts_node.specs.Run.{AreAllowed, Group, Happening, IsAllowed, IsOpened, called, cut}
@@ -123,29 +123,36 @@ module _ {D C M O Q A B : Type 0} (state : D → State) (octets : C → List ℕ
   abbrev pub MayAll : Group D C M O Q A → List (Happening D C M O Q A) → Type 0
   MayAll s run = AreAllowed octets store (is_answer rest) n s run
 
-  -- A call of `turn_all`: what became of each input that it took is a happening, one after another;
-  -- and what it left is a refusal, which changes nothing, and after which the node is the new one.
+  -- Calls of `stage` that take their inputs in memory, and then one of `keep_staged`: what became
+  -- of each input is a happening, one after another; and what is kept is a refusal, which changes
+  -- nothing, and after which the node is the new one. Meanwhile the world does not see this node:
+  -- the inputs are those that the messages allow once all is kept.
   abbrev pub BatchesAre : Type 0
   BatchesAre = (s : Group D C M O Q A) (i : ℕ) (inputs : List (Input C Q))
-      (result : Result (Vec (Result (Output C O A) NodeFault)) NodeFault) (new : Node D C M)
-      → Works s i → AllByRecursion (IsOffered s.sent) inputs
-      → IsBatch octets store basis is_answer state (s.nodes i) inputs result new
+      (results : List (Result (Output C O A) NodeFault)) (waiting : List (Fact C))
+      (staged : Node D C M) (result : Result (Unit {0}) NodeFault) (after : List (Fact C))
+      (new : Node D C M) → Works s i → AllByRecursion (IsOffered s.sent) inputs
+      → AreBehind octets store basis is_answer [] (s.nodes i) inputs results waiting staged
+      → IsKept state octets staged waiting result after new
       → MatchResult result
-      (λ answers. (run : List (Happening D C M O Q A)) × AreOnes i inputs answers.items run
+      (λ done. (run : List (Happening D C M O Q A)) × AreOnes i inputs results run
       × MayAll s (run ++ refused i new ∷ []))
       (λ fault. (fault ≡ faults.DiskFailed) ⊎ (fault ≡ faults.Broken))
 
-  -- A batch that is cut off at any moment, or after which the node stops: nothing happened, or all
-  -- of it did, and then the node is opened. What it would have sent counts as sent, and is lost.
+  -- Such calls that are cut off at any moment, or after which the node stops: nothing happened, or
+  -- all of it did, and then the node is opened. What it would have sent counts as sent, and is
+  -- lost. A node that stops before `keep_staged` is called is one that `RestsAre` speaks of.
   abbrev pub BreaksAre : Type 0
   BreaksAre = (s : Group D C M O Q A) (i : ℕ) (inputs : List (Input C Q))
-      (result : Result (Vec (Result (Output C O A) NodeFault)) NodeFault) (new : Node D C M)
-      (a b : List ℕ) (opened : Node D C M) → Works s i
+      (results : List (Result (Output C O A) NodeFault)) (waiting : List (Fact C))
+      (staged : Node D C M) (result : Result (Unit {0}) NodeFault) (after : List (Fact C))
+      (new : Node D C M) (a b : List ℕ) (opened : Node D C M) → Works s i
       → AllByRecursion (IsOffered s.sent) inputs
-      → IsBatch octets store basis is_answer state (s.nodes i) inputs result new
+      → AreBehind octets store basis is_answer [] (s.nodes i) inputs results waiting staged
+      → IsKept state octets staged waiting result after new
       → AreLeft state (s.nodes i) new a b → IsOpened octets a b opened
       → May s (reopened i a b opened)
-      ⊎ ((results : List (Result (Output C O A) NodeFault)) × (run : List (Happening D C M O Q A))
+      ⊎ ((run : List (Happening D C M O Q A))
       × AreOnes i inputs results run × MayAll s (run ++ reopened i a b opened ∷ []))
 
   -- a node that stops between two calls is opened on images that its disks may be left with

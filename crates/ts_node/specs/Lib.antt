@@ -6,6 +6,6 @@ pub mod Node
 pub mod Call
 pub mod Turn
 pub mod Staged
-pub mod Batch
+pub mod Ahead
 pub mod Run
 pub mod Allowed

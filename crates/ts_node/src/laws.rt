@@ -30,12 +30,13 @@ pub fn headline<D: Disk, C: Command + Codec, M: Machine<C>>()
         → Promised (store_of M.Question M.client_id M.outcome) (M.is_answer basis) n start run }
 {}
 
-/// What the contracts of `Node::handle`, `Node::turn`, `Node::turn_all` and `Node::open` say is
-/// what a run allows. Of a node of a group that is not broken, an answer and a fault are things
-/// that can happen; and where it stops, between two calls or at any moment within one, and is
-/// opened again, that is one too. A batch is a list of them: its turns and refusals in their order,
-/// and where it stops within, either none of them or all, and then the opening. So `headline`
-/// speaks of every list of such calls.
+/// What the contracts of a node's calls say is what a run allows: of `Node::handle`, `Node::turn`,
+/// `Node::stage` with `Node::keep_staged`, and `Node::open`. Of a node of a group that is not
+/// broken, an answer and a fault are things that can happen; and where it stops, between two calls
+/// or at any moment within one, and is opened again, that is one too. What was staged is a list of
+/// them, once it is kept: its turns and refusals in their order; and where the node stops within
+/// `keep_staged`, either none of them or all, and then the opening. So `headline` speaks of every
+/// list of such calls.
 pub fn calls_are_allowed<D: Disk, C: Command + Codec, M: Machine<C>>()
     ensures { (basis : M.Basis) (n : ℕ) → AllCallsAre D.state C.octets
         (store_of M.Question M.client_id M.outcome) M.commands M.basis M.is_answer n basis }

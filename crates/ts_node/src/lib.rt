@@ -4,8 +4,8 @@
 //! Each call of `Node::handle` is one event of the world of `ts_synod`, and what it keeps is on
 //! disk before it answers. A call of `Node::turn` is one such event, and then the delivery of each
 //! message to the node itself that follows from it; what all of them keep is on disk before it
-//! answers, by one append, which a crash leaves done or undone as a whole. A call of
-//! `Node::turn_all` is several such turns, of which all facts are kept by one append.
+//! answers, by one append, which a crash leaves done or undone as a whole. Calls of `Node::stage`
+//! make such turns in memory, and `Node::keep_staged` keeps the facts of all of them by one append.
 //!
 //! ```text
 //! // refused, it gives the disks and the machine back
@@ -13,7 +13,9 @@
 //! let output = node.handle(&Input::Submit(command))?;              // Started, or Settled
 //! for message in output.messages { .. }                            // to itself too
 //! let output = node.turn(&Input::Submit(command))?;                // those to itself are taken
-//! let answers = node.turn_all(&inputs)?;                           // of the first of them
+//! let mut staged = Staged::empty(alloc);
+//! let output = node.stage(&Input::Submit(command), &mut staged)?;  // what it answers has to wait
+//! node.keep_staged(&mut staged)?;                                  // now it may leave
 //! let (a, b, machine) = node.close();
 //! ```
 //!
@@ -37,17 +39,18 @@
 //!   `handle`. So a group of one node knows a command after one append instead of four. Where
 //!   memory is refused once the roles are ahead of the record the node is broken, as after a
 //!   device's failure, and nothing of the turn is kept.
-//! - `Node::turn_all`: `batch`: the inputs are taken one after another, each as a turn of the
-//!   world's node at the node that those before it left, or it is refused, which changes nothing
-//!   (`taken`); the answers are these turns' (`answered`); at every moment each pair of images opens
-//!   to the facts before, or to those and all of theirs (`moments`); it ends before an input only
-//!   where that is a compaction, or a record can't keep its facts at once with those before it
-//!   (`ends`), and where the first is an event it takes one at least (`some`). Where memory is
-//!   refused once the roles are ahead of the record, or a device fails, nothing is answered, and the
-//!   node is broken.
+//! - `Node::stage`: `stage`: the input is taken as a turn of the world's node at the node that holds
+//!   what waits, or it is refused, which changes nothing; no device is called (`IsBehind`). Only
+//!   where it is a compaction, or a record can't keep its facts with those that wait, are those kept
+//!   first, and it is a turn by itself (`IsApart`). Where memory is refused once the roles are ahead
+//!   of the record the node is broken. `ahead`.
+//! - `Node::keep_staged`: `kept`: at every moment each pair of images opens to the facts before, or
+//!   to those and all that waited; none waits then, and where none waited no device is called; or
+//!   the node is broken. `ahead`.
 //! - `headline`: what is promised of every run of nodes (`specs/Run`). `calls_are_allowed`:
 //!   these runs are the lists of calls that meet their contracts, with stops between and within
-//!   them. Of a call of `turn_all` each input that it took is one thing that happens.
+//!   them. Of calls of `stage` that are kept each input that was taken is one thing that happens, at
+//!   the moment at which all are kept.
 //! - `Node::is_broken`: a device failed, or memory was refused in the middle of a turn.
 //! - `Node::close`: the two disks and the machine.
 //!
@@ -69,7 +72,7 @@
 //! gave or an earlier call left (`IsSound`), and that what arrives fits a record (`InputFits`).
 #![tactic(auto)]
 
-mod batch;
+mod ahead;
 mod feeding;
 mod growth;
 mod identity;
@@ -91,3 +94,4 @@ pub use input::{Input, NodeFault, Output, Reply};
 pub use laws::{calls_are_allowed, headline};
 pub use machine::Machine;
 pub use node::{Node, Refused};
+pub use turn::Staged;

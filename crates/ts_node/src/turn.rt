@@ -40,12 +40,12 @@ pub(crate) struct Turn<C> {
     pub looked: usize,
 }
 
-/// The facts of turns that are to be kept at once.
+/// The facts of turns that a node has made in memory, and that wait to be kept at once.
 #[derive(Drop)]
-pub(crate) struct Staged<C> {
-    pub facts: Vec<Fact<C>>,
+pub struct Staged<C> {
+    pub(crate) facts: Vec<Fact<C>>,
     /// How many octets the facts take in a record.
-    pub size: usize,
+    pub(crate) size: usize,
 }
 
 impl<C> Staged<C> {

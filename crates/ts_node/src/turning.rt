@@ -212,7 +212,7 @@ impl<D: Disk, C: Command + Codec, M: Machine<C>> Node<D, C, M> {
         };
         let mut staged = Staged::empty(self.alloc);
         match self.begin(plan, size, reply, &mut staged) {
-            Ok(output) => match self.keep_staged(staged) {
+            Ok(output) => match self.append_staged(staged) {
                 Ok(()) => Ok(output),
                 Err(fault) => Err(fault),
             },
@@ -290,7 +290,7 @@ impl<D: Disk, C: Command + Codec, M: Machine<C>> Node<D, C, M> {
     }
 
     /// Keeps the facts of turns, by one append.
-    pub(crate) fn keep_staged(&mut self, staged: Staged<C>) -> Result<(), NodeFault>
+    pub(crate) fn append_staged(&mut self, staged: Staged<C>) -> Result<(), NodeFault>
         requires whole { self.old.kept.broken ≡ false }
         requires still { self.old.ahead ≡ false }
         requires staged { IsStaged D.state C.octets M.commands self.old staged.facts.items }

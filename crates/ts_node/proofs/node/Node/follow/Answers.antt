@@ -36,28 +36,28 @@ pub begin-requires-clause-staged : goal.begin-requires-clause-staged
 begin-requires-clause-staged g c =
     whole_staged g.D.Disk.state g.C.Codec.octets g.M.Machine.commands c.args.self.now c.empty-staged.result.facts.items c.empty-staged.ensures.facts (c.requires.sound (both_not _ _ c.requires.whole c.requires.still))
 
-pub returns-in-Ok-keep_staged-clause-come : goal.returns-in-Ok-keep_staged-clause-come
-returns-in-Ok-keep_staged-clause-come g c =
+pub returns-in-Ok-append_staged-clause-come : goal.returns-in-Ok-append_staged-clause-come
+returns-in-Ok-append_staged-clause-come g c =
     let old = c.args.self.now in
     let store = store_of g.row.M-Question.Denot g.M.Machine.client_id g.M.Machine.outcome in
     let b = c.in-Ok.ensures.begun in
     let none = c.empty-staged.ensures.facts in
-    let keeps = c.in-Ok-keep_staged.ensures.keeps in
+    let keeps = c.in-Ok-append_staged.ensures.keeps in
     record {
       looked = b.looked;
       made = b.made;
       more = b.more;
       then' = b.then';
       so = b.so;
-      comes = come_kept g.D.Disk.state g.C.Codec.octets g.M.Machine.commands store old c.begin.new.self c.keep_staged.new.self c.args.plan c.args.reply c.empty-staged.result.facts.items c.begin.new.staged.facts.items none c.begin.ensures.kept c.begin.ensures.config c.in-Ok.output b keeps.1 keeps.0;
+      comes = come_kept g.D.Disk.state g.C.Codec.octets g.M.Machine.commands store old c.begin.new.self c.append_staged.new.self c.args.plan c.args.reply c.empty-staged.result.facts.items c.begin.new.staged.facts.items none c.begin.ensures.kept c.begin.ensures.config c.in-Ok.output b keeps.1 keeps.0;
       few = b.few;
       alone = λ only. absurd (true≢false (sym c.requires.own ∙ only));
-      moments = moments_kept g.D.Disk.state g.C.Codec.octets g.M.Machine.commands store old c.begin.new.self c.keep_staged.new.self c.args.plan c.args.reply c.empty-staged.result.facts.items c.begin.new.staged.facts.items none c.begin.ensures.kept c.begin.ensures.config c.in-Ok.output b c.keep_staged.ensures.moments;
+      moments = moments_kept g.D.Disk.state g.C.Codec.octets g.M.Machine.commands store old c.begin.new.self c.append_staged.new.self c.args.plan c.args.reply c.empty-staged.result.facts.items c.begin.new.staged.facts.items none c.begin.ensures.kept c.begin.ensures.config c.in-Ok.output b c.append_staged.ensures.moments;
       ends = λ fs sent event stand makes. subst (λ xs. EndsBehind g.C.Codec.octets store xs (config old) fs sent b.looked b.made (turn store (config old) (node_with fs (volatile old)) sent (inputs_of (config old).me sent event b.looked b.made))) none (b.ends fs sent event stand makes);
     }
 
-pub returns-in-Err-keep_staged-clause-come : goal.returns-in-Err-keep_staged-clause-come
-returns-in-Err-keep_staged-clause-come g c =
+pub returns-in-Err-append_staged-clause-come : goal.returns-in-Err-append_staged-clause-come
+returns-in-Err-append_staged-clause-come g c =
     let old = c.args.self.now in
     let store = store_of g.row.M-Question.Denot g.M.Machine.client_id g.M.Machine.outcome in
     let b = c.in-Ok.ensures.begun in
@@ -68,10 +68,10 @@ returns-in-Err-keep_staged-clause-come g c =
       more = b.more;
       then' = b.then';
       so = b.so;
-      comes = come_failed g.D.Disk.state g.C.Codec.octets g.M.Machine.commands store old c.begin.new.self c.keep_staged.new.self c.args.plan c.args.reply c.empty-staged.result.facts.items c.begin.new.staged.facts.items none c.begin.ensures.kept c.begin.ensures.config (Unit {0}) c.in-Ok.output c.in-Err-keep_staged.fault (volatile c.begin.new.self) b c.in-Err-keep_staged.ensures.keeps;
+      comes = come_failed g.D.Disk.state g.C.Codec.octets g.M.Machine.commands store old c.begin.new.self c.append_staged.new.self c.args.plan c.args.reply c.empty-staged.result.facts.items c.begin.new.staged.facts.items none c.begin.ensures.kept c.begin.ensures.config (Unit {0}) c.in-Ok.output c.in-Err-append_staged.fault (volatile c.begin.new.self) b c.in-Err-append_staged.ensures.keeps;
       few = b.few;
       alone = λ only. absurd (true≢false (sym c.requires.own ∙ only));
-      moments = moments_kept g.D.Disk.state g.C.Codec.octets g.M.Machine.commands store old c.begin.new.self c.keep_staged.new.self c.args.plan c.args.reply c.empty-staged.result.facts.items c.begin.new.staged.facts.items none c.begin.ensures.kept c.begin.ensures.config c.in-Ok.output b c.keep_staged.ensures.moments;
+      moments = moments_kept g.D.Disk.state g.C.Codec.octets g.M.Machine.commands store old c.begin.new.self c.append_staged.new.self c.args.plan c.args.reply c.empty-staged.result.facts.items c.begin.new.staged.facts.items none c.begin.ensures.kept c.begin.ensures.config c.in-Ok.output b c.append_staged.ensures.moments;
       ends = tt;
     }
 

@@ -1,9 +1,8 @@
--- A batch: inputs that a node takes one after another, each as a turn, and whose facts are kept
--- together.
-use Rattle.std.proofs.Common.{◌≡◌, ◌≤◌, ◌++◌, ℕ, List, [], ◌∷◌, length, drop, Option, Some, None}
+-- Inputs that a node takes in memory, one after another, each as a turn, and whose facts are then
+-- kept together, by one append.
+use Rattle.std.proofs.Common.{◌≡◌, ◌≤◌, ◌⊎◌, ◌++◌, ℕ, List, [], ◌∷◌, Option, Some, None}
 use Rattle.std.proofs.Common.{Result, Ok, Err, IfOk, true, false}
 use Rattle.std.specs.Prelude.{OnOk, IsErrOf}
-use Rattle.std.specs.Global.{Vec}
 use Rattle.ts_disk.specs.Disk.{State}
 use Rattle.ts_synod.specs.declared.message.Fact.{Fact}
 use Rattle.ts_synod.specs.declared.message.Message.{Message}
@@ -19,13 +18,15 @@ use Rattle.ts_node.specs.declared.input.Input.TheVariants as kinds
 use Rattle.ts_node.specs.declared.input.Output.{Output}
 use Rattle.ts_node.specs.declared.input.Reply.{Reply}
 use Rattle.ts_node.specs.declared.plan.Plan.{Plan}
+use Rattle.ts_node.specs.declared.turn.Staged.{Staged}
 use Rattle.ts_node.specs.declared.input.NodeFault.{NodeFault}
 use Rattle.ts_node.specs.declared.input.NodeFault.TheVariants as faults
 use Rattle.ts_node.specs.Inputs.{IsInput}
-use Rattle.ts_node.specs.Node.{Moments, config, facts, is_broken, volatile}
+use Rattle.ts_node.specs.Node.{IsSame, Moments, config, facts, is_broken, volatile}
 use Rattle.ts_node.specs.Roles.{facts_in}
-use Rattle.ts_node.specs.Staged.{HasBegun, Keeps}
-use Rattle.ts_node.specs.Turn.{DoesTurn, EndsBehind, FitTogether, IsFirst, given_out, inputs_of}
+use Rattle.ts_node.specs.Staged.{AreReady, HasBegun, IsStaged, Keeps}
+use Rattle.ts_node.specs.Turn.{DoesTurn, EndsBehind, FitTogether, IsFirst, IsTurn, given_out}
+use Rattle.ts_node.specs.Turn.{inputs_of}
 
 -- nothing of the world's node is changed
 pub record Stays {D C M : Type 0} (old new : Node D C M) : Type 0 where
@@ -49,10 +50,26 @@ TakesTurn is_answer old (Err faults.GenerationsExhausted) made new t = ⊥
 abbrev pub holding : {D C M : Type 0} → Node D C M → List (Fact C) → Node D C M
 holding node more = record node { kept = record node.kept { facts = node.kept.facts ++ more } }
 
--- the first input is an event, and no compaction
-abbrev pub IsEvent : {C Q : Type 0} → List (Input C Q) → Type 0
-IsEvent [] = ⊥
-IsEvent (input ∷ inputs) = input ≡ kinds.Compact → ⊥
+-- The node's record, and roles that are ahead of it by the facts that wait to be kept; where the
+-- node is not broken.
+abbrev pub IsAhead : {D C M : Type 0} → (D → State) → (C → List ℕ) → (M → List C) → Node D C M
+    → Staged C → Type 0
+IsAhead state octets commands node staged = is_broken node ≡ false
+    → IsStaged state octets commands node staged.facts.items × AreReady octets staged
+
+-- The facts that wait are kept, by one append, and none waits then; or the node is broken. A crash
+-- at any moment within the call leaves none of these facts, or all.
+pub record IsKept {D C M : Type 0} (state : D → State) (octets : C → List ℕ) (old : Node D C M)
+    (waiting : List (Fact C)) (result : Result (Unit {0}) NodeFault) (after : List (Fact C))
+    (new : Node D C M) : Type 0 where
+  pub keeps : is_broken old ≡ false → Keeps state old waiting (volatile old) result new
+  pub moments : is_broken old ≡ false → Moments state octets old waiting new
+  pub left : OnOk result (after ≡ [])
+  -- Where no fact waits the record stays as it is.
+  pub none : OnOk result (waiting ≡ [] → new.kept ≡ old.kept)
+  pub same : new ≡ record old { kept = new.kept; ahead = new.ahead }
+  pub whole : OnOk result (is_broken new ≡ false)
+  pub broken : is_broken old ≡ true → IsErrOf result faults.Broken × (new ≡ old)
 
 -- What a plan comes to in memory, behind facts that were made before it: its turn is made; or a
 -- record can't keep its facts together with those, and nothing is changed.
@@ -77,8 +94,8 @@ module _ {D C M O Q A B : Type 0} (octets : C → List ℕ) (store : Store C O (
   turn_from node kept sent event looked made = turn store (config node)
       (node_with kept (volatile node)) sent (inputs_of (config node).me sent event looked made)
 
-  -- An input of a batch, at the node that the inputs before it left, and the node that it leaves.
-  -- `before` are the facts of the batch so far, and `after` those with its own.
+  -- An input at a node that holds the facts which wait, too, and the node that it leaves. `before`
+  -- are the facts that wait, and `after` those with its own.
   pub record IsTaken (before : List (Fact C)) (old : Node D C M) (input : Input C Q)
       (result : Result (Output C O A) NodeFault) (after : List (Fact C))
       (new : Node D C M) : Type 0 where
@@ -105,67 +122,83 @@ module _ {D C M O Q A B : Type 0} (octets : C → List ℕ) (store : Store C O (
     pub same_config : config new ≡ config old
     pub same_basis : basis new.machine ≡ basis old.machine
 
-  -- The first of the inputs, one for each result, are taken one after another.
-  abbrev pub AreTaken : List (Fact C) → Node D C M → List (Input C Q)
-      → List (Result (Output C O A) NodeFault) → List (Fact C) → Node D C M → Type 0
-  AreTaken before old [] [] after new = (after ≡ before) × (new ≡ old)
-  AreTaken before old [] (r ∷ rs) after new = ⊥
-  AreTaken before old (input ∷ inputs) [] after new = (after ≡ before) × (new ≡ old)
-  AreTaken before old (input ∷ inputs) (r ∷ rs) after new = (then' : List (Fact C))
-      × (mid : Node D C M) × IsTaken before old input r then' mid
-      × AreTaken then' mid inputs rs after new
-
-  -- A batch that made these facts ends before the first of these inputs: it is a compaction, or a
-  -- record can't keep what it keeps together with them.
-  abbrev pub IsStop : List (Fact C) → Node D C M → List (Input C Q) → Type 0
-  IsStop before node [] = Unit {0}
-  IsStop before node (input ∷ inputs) = (kept : List (Fact C)) (sent : List (Message C))
+  -- An input can't be taken behind these facts: it is a compaction, or a record can't keep what it
+  -- keeps together with them.
+  abbrev pub IsStop : List (Fact C) → Node D C M → Input C Q → Type 0
+  IsStop before node input = (kept : List (Fact C)) (sent : List (Message C))
       (event : world.Input C Q) → SameForce kept (facts node) → IsInput sent input event
       → FitTogether octets (before
       ++ (step store (config node) (node_with kept (volatile node)) sent event).effect.facts) → ⊥
 
-  -- What the next input of a batch comes to, at a node whose roles are ahead of its record by the
-  -- facts of those before it: it is taken or refused; or it is left, and nothing is changed; or
+  -- What an input comes to in memory, at a node whose roles are ahead of its record by the facts
+  -- that wait: it is taken or refused; or it can't be taken behind them, and nothing is changed; or
   -- memory was refused once the roles were changed.
   abbrev pub IsNext : List (Fact C) → Node D C M → Input C Q
       → Result (Option (Output C O A)) NodeFault → List (Fact C) → Node D C M → Type 0
   IsNext before old input (Ok (Some output)) after new = (new.ahead ≡ false)
       × IsTaken before (holding old before) input (Ok output) after (holding new after)
   IsNext before old input (Ok None) after new = (new.ahead ≡ false) × (after ≡ before)
-      × (volatile new ≡ volatile old) × IsStop before (holding old before) (input ∷ [])
+      × (volatile new ≡ volatile old) × IsStop before (holding old before) input
   IsNext before old input (Err faults.Broken) after new = new.ahead ≡ true
   IsNext before old input (Err fault) after new = (new.ahead ≡ false)
       × IsTaken before (holding old before) input (Err fault) after (holding new after)
 
-  -- Inputs are taken in memory, up to where a batch ends; and the volatile part is then that of the
-  -- node which the last of them left.
-  pub record HasStaged (old : Node D C M) (inputs : List (Input C Q))
-      (results : List (Result (Output C O A) NodeFault)) (after : List (Fact C))
-      (new : Node D C M) : Type 0 where
-    pub last : Node D C M
-    pub taken : AreTaken [] old inputs results after last
-    pub ends : IsStop after last (drop (length results) inputs)
-    pub volatile : volatile new ≡ volatile last
+  -- An input is taken or refused in memory; no device is called.
+  pub record IsBehind (before : List (Fact C)) (old : Node D C M) (input : Input C Q)
+      (result : Result (Output C O A) NodeFault) (after : List (Fact C)) (new : Node D C M)
+      : Type 0 where
+    pub taken : IsTaken before (holding old before) input result after (holding new after)
+    pub kept : new.kept ≡ old.kept
+    pub still : new.ahead ≡ false
 
-  -- Some turns, of which a crash at any moment leaves no fact, or all facts of all of them.
-  pub record IsBatch (state : D → State) (old : Node D C M) (inputs : List (Input C Q))
-      (result : Result (Vec (Result (Output C O A) NodeFault)) NodeFault)
+  -- The facts that wait are kept first, since the input can't be taken behind them; it is a turn
+  -- by itself then.
+  pub record IsApart (state : D → State) (before : List (Fact C)) (old : Node D C M)
+      (input : Input C Q) (result : Result (Output C O A) NodeFault) (after : List (Fact C))
       (new : Node D C M) : Type 0 where
-    -- what became of the inputs that were taken, their facts, and the node once it has them
-    pub results : List (Result (Output C O A) NodeFault)
-    pub more : List (Fact C)
-    pub last : Node D C M
-    pub taken : is_broken old ≡ false → AreTaken [] old inputs results more last
-    pub answered : IfOk result (λ answers. answers.items ≡ results)
-    -- Their facts are kept; or the node is broken.
-    pub keeps : is_broken old ≡ false → Keeps state old more (volatile last) result new
-    pub moments : is_broken old ≡ false → Moments state octets old more new
-    -- It ends only where it has to, and not before its first input, if that is an event.
-    pub ends : OnOk result (IsStop more last (drop (length results) inputs))
-    pub some : OnOk result (IsEvent inputs → 1 ≤ length results)
-    -- Where there are no facts the record stays as it is.
-    pub none : OnOk result (more ≡ [] → new.kept ≡ old.kept)
+    pub first : Node D C M
+    pub mid : Node D C M
+    pub stop : IsStop before (holding old before) input
+    pub unmoved : IsSame old first
+    pub keeps : IsKept state octets first before (Ok tt) after mid
+    pub turned : IsTurn state octets store basis is_answer mid input result new
+
+  -- The same, but that these facts could not be kept: the fault is that.
+  pub record IsUnkept (state : D → State) (before : List (Fact C)) (old : Node D C M)
+      (input : Input C Q) (result : Result (Output C O A) NodeFault) (after : List (Fact C))
+      (new : Node D C M) : Type 0 where
+    pub first : Node D C M
+    pub fault : NodeFault
+    pub stop : IsStop before (holding old before) input
+    pub unmoved : IsSame old first
+    pub keeps : IsKept state octets first before (Err fault) after new
+    pub is : result ≡ Err fault
+
+  -- Memory was refused once the roles were ahead of the facts, and the node is broken.
+  pub record IsLost (old : Node D C M) (result : Result (Output C O A) NodeFault)
+      (new : Node D C M) : Type 0 where
+    pub fault : IsErrOf result faults.Broken
+    pub ahead : new.ahead ≡ true
+    pub kept : new.kept ≡ old.kept
+
+  -- An input is handed to a node at which these facts wait to be kept.
+  pub record IsStage (state : D → State) (before : List (Fact C)) (old : Node D C M)
+      (input : Input C Q) (result : Result (Output C O A) NodeFault) (after : List (Fact C))
+      (new : Node D C M) : Type 0 where
+    pub comes : is_broken old ≡ false → IsBehind before old input result after new
+        ⊎ IsApart state before old input result after new
+        ⊎ IsUnkept state before old input result after new ⊎ IsLost old result new
+    pub broken : is_broken old ≡ true
+        → IsErrOf result faults.Broken × (new ≡ old) × (after ≡ before)
     pub same_config : config new ≡ config old
     pub same_basis : basis new.machine ≡ basis old.machine
-    pub whole : OnOk result (is_broken new ≡ false)
-    pub broken : is_broken old ≡ true → IsErrOf result faults.Broken × (new ≡ old)
+
+  -- Inputs are taken or refused in memory, one after another, each behind the facts of those before
+  -- it.
+  abbrev pub AreBehind : List (Fact C) → Node D C M → List (Input C Q)
+      → List (Result (Output C O A) NodeFault) → List (Fact C) → Node D C M → Type 0
+  AreBehind before old [] [] after new = (after ≡ before) × (new ≡ old)
+  AreBehind before old (input ∷ inputs) (r ∷ rs) after new = (then' : List (Fact C))
+      × (mid : Node D C M) × IsBehind before old input r then' mid
+      × AreBehind then' mid inputs rs after new
+  AreBehind before old inputs results after new = ⊥
