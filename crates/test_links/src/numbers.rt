@@ -40,6 +40,11 @@ impl Service for Numbers {
 
     ghost turn = { λ old request answers new. answers ≡ Prefix old.next ∷ [] };
 
+    // It keeps nothing.
+    ghost is_kept = { λ _. Unit {0} };
+
+    ghost keeps = { λ old new. new ≡ old };
+
     fn answer(&mut self, frame: Frame) -> Result<Vec<u8>, AnswerFault> {
         if !is_request(&frame) {
             return Err(AnswerFault::NoRequest);
@@ -52,9 +57,9 @@ impl Service for Numbers {
         }
     }
 
-    fn note(&self, _text: &[u8]) {}
-
-    fn has_failed(&self) -> bool {
-        false
+    fn keep(&mut self) -> bool {
+        true
     }
+
+    fn note(&self, _text: &[u8]) {}
 }

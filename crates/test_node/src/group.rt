@@ -270,8 +270,8 @@ impl Member {
         first: &Input<Number, ()>,
         second: &Input<Number, ()>,
     ) -> Result<(Member, usize), NodeFault>
-        requires { InputFits (λ (number : Number). number.value ∷ []) first.now }
-        requires { InputFits (λ (number : Number). number.value ∷ []) second.now }
+        requires first { InputFits (λ (number : Number). number.value ∷ []) first.now }
+        requires second { InputFits (λ (number : Number). number.value ∷ []) second.now }
     {
         let Member { mut node, learned } = self;
         let mut staged = Staged::empty(alloc);

@@ -2,6 +2,7 @@
 
 ghost use Rattle.std.specs.Prelude.{◌≤◌, ◌<◌, All, IfOk, IfSome, length};
 ghost use Rattle.ts_disk.specs.Memory.{state_of};
+ghost use Rattle.ts_node.specs.Ahead.{IsAhead};
 ghost use Rattle.ts_node.specs.Node.{IsSound};
 ghost use Rattle.ts_store.specs.Octets.{octets_of};
 
@@ -19,7 +20,7 @@ use ts_serve::{
     connect, is_request, listen, refusal, serve, set_up, write_octets,
 };
 use ts_store::Command;
-use ts_wire::{Frame, FrameFault};
+use ts_wire::{Feed, Frame, FrameFault};
 
 type Served = Server<MemDisk, Applies>;
 
@@ -106,9 +107,12 @@ fn server(alloc: Global, me: u8, nodes: u8, passing: u64) -> Result<Option<Serve
     requires from { 1 ≤ me }
     requires to { me ≤ nodes }
     requires few { nodes ≤ 9 }
-    ensures { IfOk result (λ found. IfSome found
+    ensures sound { IfOk result (λ found. IfSome found
         (λ server. IsSound state_of octets_of ⟦<Applies as Machine<Command>>⟧.commands
         server.node)) }
+    ensures ahead { IfOk result (λ found. IfSome found
+        (λ server. IsAhead state_of octets_of ⟦<Applies as Machine<Command>>⟧.commands
+        server.node server.staged)) }
 {
     let mut a = MemDisk::new(alloc, Vec::new(alloc))?;
     let mut b = MemDisk::new(alloc, Vec::new(alloc))?;
@@ -606,21 +610,48 @@ fn a_connection_that_is_not_made_is_write(rt: HostRuntime) -> Result<(), Fail> {
     Ok(())
 }
 
-/// A server that takes its own messages settles a command of one node in the turn that it comes in.
-const OWN_ROWS: &[(&[u8], &[u8])] = &[
-    (SUBMIT, STARTED),
-    (OUTCOME, SETTLED),
-    (TAKE, b"\x00\x00\x00\x06\x02\x20\x00\x00\x00\x00"),
-];
+/// What a server says to a frame of these octets that is staged.
+fn staged(alloc: Global, server: &mut Served, octets: &[u8]) -> Result<Vec<u8>, AllocError>
+    requires { IsAhead state_of octets_of ⟦<Applies as Machine<Command>>⟧.commands
+        server.old.node server.old.staged }
+    ensures { IsAhead state_of octets_of ⟦<Applies as Machine<Command>>⟧.commands
+        server.new.node server.new.staged }
+{
+    let mut feed = Feed::new(alloc);
+    feed.push(octets)?;
+    let Ok(Some(frame)) = feed.take() else {
+        return Err(AllocError);
+    };
+    server.stage_frame(frame).map_err(|_| AllocError)
+}
 
+/// A server of one node that stages a command knows its outcome in the next turn, before anything is
+/// kept, and has no message to give.
 #[test]
-fn a_turn_takes_its_own_messages(rt: HostRuntime) -> Result<(), Fail> {
+fn what_is_staged_is_known(rt: HostRuntime) -> Result<(), Fail> {
     let alloc = rt.alloc();
     let Some(mut server) = server(alloc, 1, 1, u64::MAX)? else {
         return Err(Fail::from(AllocError));
     };
-    server.take_own();
-    assert!(rt; rows_hold(alloc, &mut server, OWN_ROWS)?);
+    assert_eq!(rt; staged(alloc, &mut server, SUBMIT)?.as_slice(), STARTED);
+    assert_eq!(rt; staged(alloc, &mut server, OUTCOME)?.as_slice(), SETTLED);
+    let none = b"\x00\x00\x00\x06\x02\x20\x00\x00\x00\x00";
+    assert_eq!(rt; staged(alloc, &mut server, TAKE)?.as_slice(), none.as_slice());
+    assert!(rt; server.keep_staged());
+    Ok(())
+}
+
+/// Where the disk fails as what is staged is kept the server says so, and takes nothing more.
+#[test]
+fn what_is_staged_can_be_lost(rt: HostRuntime) -> Result<(), Fail> {
+    let alloc = rt.alloc();
+    let Some(mut server) = server(alloc, 1, 1, 2)? else {
+        return Err(Fail::from(AllocError));
+    };
+    assert_eq!(rt; staged(alloc, &mut server, SUBMIT)?.as_slice(), STARTED);
+    assert!(rt; !server.keep_staged() && server.has_failed());
+    let broken = b"\x00\x00\x00\x03\x02\x25\x03";
+    assert_eq!(rt; staged(alloc, &mut server, STATUS)?.as_slice(), broken.as_slice());
     Ok(())
 }
 

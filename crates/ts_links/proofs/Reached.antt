@@ -1,21 +1,19 @@
 -- Moves after moves, on all connections.
-use Rattle.std.proofs.Common.{◌≡◌, ◌⊎◌, ◌∙◌, ℕ, Bool, true, false, List, [], ◌∷◌, ◌++◌, map, Option, Some, None, Result, Ok, Err, slice_get, slice_set, refl, sym, ap, subst, inl, inr}
+use Rattle.std.proofs.Common.{◌≡◌, ◌⊎◌, ◌∙◌, ◌+◌, ℕ, zero, suc, Bool, true, false, List, [], ◌∷◌, ◌++◌, Option, Some, None, Result, Ok, Err, slice_get, slice_set, refl, sym, ap, subst, inl, inr}
 use Rattle.std.specs.List.{flat_map}
 use Rattle.std.specs.declared.alloc.AllocError.{AllocError}
 use Rattle.std.proofs.lemmas.Grind.{flat_map-append}
-use Rattle.std.proofs.lemmas.List.{append-nil, map-append}
+use Rattle.std.proofs.lemmas.List.{append-nil}
 use Rattle.ts_wire.specs.declared.frame.Frame.{Frame}
-use Rattle.ts_serve.specs.Stream.{Run}
-use Rattle.ts_serve.proofs.Runs.{run_join, run_one}
 use Rattle.ts_links.specs.declared.connections.ArriveFault.{ArriveFault}
 use Rattle.ts_links.specs.declared.connections.ArriveFault.TheVariants as faults
 use Rattle.ts_links.specs.declared.link.Link.{Link}
 use Rattle.ts_links.specs.declared.link.Taken.{Taken}
 use Rattle.ts_links.specs.declared.link.Taken.TheVariants as takes
-use Rattle.ts_links.specs.Events.{Answered, Change, Changes, Event, Quiet, answers_given, event, requests_taken, taken, taken_in}
+use Rattle.ts_links.specs.Events.{Answered, Change, Changes, Event, Quiet, event, taken, taken_in}
 use Rattle.ts_links.specs.Moves.{Closed, IsWaiting, Move}
 use Rattle.ts_links.specs.Table.{ArriveGives, LeaveGives, OpenGives}
-use Rattle.ts_links.specs.Turns.{Gives, Reached, Refused1, Took1, TurnGives}
+use Rattle.ts_links.specs.Turns.{Gives, KeepsSome, Reached, Refused1, RunsAndKeeps, Took1, TurnGives}
 use Rattle.ts_links.proofs.Slots.{same_link, set_same}
 
 changes_join : (events more : List Event) (links between others : List Link) → Changes links events between → Changes between more others → Changes links (events ++ more) others
@@ -60,48 +58,54 @@ quiet_close links others slot false did same = quiet_none links others (same ref
 
 -- ---- and moves that do
 
-module _ {S : Type 0} (turn : S → Frame → List Frame → S → Type 0) where
-  -- what was taken is answered by turns
-  abbrev Answers : S → List Answered → S → Type 0
-  Answers s pairs t = Run turn s (map (λ pair. pair.0) pairs) (flat_map (λ pair. pair.1) pairs) t
+module _ {S : Type 0} (turn : S → Frame → List Frame → S → Type 0) (keeps : S → S → Type 0) where
+  keeps_join : (m n : ℕ) (s t u : S) → KeepsSome turn keeps m s t → KeepsSome turn keeps n t u → KeepsSome turn keeps (m + n) s u
+  keeps_join zero n s t u p q = subst (λ x. KeepsSome turn keeps n x u) p q
+  keeps_join (suc m) n s t u p q = (p.0, p.1, keeps_join m n p.0 t u p.2 q)
 
-  answers_join : (s t u : S) (pairs more : List Answered) → Answers s pairs t → Answers t more u → Answers s (pairs ++ more) u
-  answers_join s t u pairs more p q =
-      let run = run_join turn s t u (map (λ (pair : Answered). pair.0) pairs) (map (λ (pair : Answered). pair.0) more) (flat_map (λ (pair : Answered). pair.1) pairs) (flat_map (λ (pair : Answered). pair.1) more) p q in
-      let other = subst (λ l. Run turn s l (flat_map (λ (pair : Answered). pair.1) pairs ++ flat_map (λ (pair : Answered). pair.1) more) u) (sym (map-append (λ (pair : Answered). pair.0) pairs more)) run in
-      subst (λ l. Run turn s (map (λ (pair : Answered). pair.0) (pairs ++ more)) l u) (sym (flat_map-append (λ (pair : Answered). pair.1) pairs more)) other
+  keeps_first : (n : ℕ) (s t u : S) (pairs : List Answered) → KeepsSome turn keeps n s t → RunsAndKeeps turn keeps t pairs u → RunsAndKeeps turn keeps s pairs u
+  keeps_first n s t u [] p q = (n + q.0, keeps_join n q.0 s t u p q.1)
+  keeps_first n s t u (pair ∷ pairs) p q = (n + q.0, q.1, q.2, keeps_join n q.0 s t q.1 p q.3, q.4, q.5)
 
-  pub reached_then : (s t u : S) (a b c : List Link) → Reached turn s a t b → Reached turn t b u c → Reached turn s a u c
+  runs_join : (s t u : S) (pairs more : List Answered) → RunsAndKeeps turn keeps s pairs t → RunsAndKeeps turn keeps t more u → RunsAndKeeps turn keeps s (pairs ++ more) u
+  runs_join s t u [] more p q = keeps_first p.0 s t u more p.1 q
+  runs_join s t u (pair ∷ pairs) more p q = (p.0, p.1, p.2, p.3, p.4, runs_join p.2 t u pairs more p.5 q)
+
+  pub reached_then : (s t u : S) (a b c : List Link) → Reached turn keeps s a t b → Reached turn keeps t b u c → Reached turn keeps s a u c
   reached_then s t u a b c p q = record {
     events = p.events ++ q.events;
     changes = changes_join p.events q.events a b c p.changes q.changes;
-    run = subst (λ (l : List Answered). Answers s l u) (sym (taken-append p.events q.events)) (answers_join s t u (taken p.events) (taken q.events) p.run q.run);
+    run = subst (λ (l : List Answered). RunsAndKeeps turn keeps s l u) (sym (taken-append p.events q.events)) (runs_join s t u (taken p.events) (taken q.events) p.run q.run);
   }
 
   -- nothing was taken
-  pub reached_quiet : (s : S) (a b : List Link) → Quiet a b → Reached turn s a s b
-  reached_quiet s a b q = record { events = q.events; changes = q.changes; run = subst (λ (l : List Answered). Answers s l s) (sym q.none) (refl, refl) }
+  pub reached_quiet : (s : S) (a b : List Link) → Quiet a b → Reached turn keeps s a s b
+  reached_quiet s a b q = record { events = q.events; changes = q.changes; run = subst (λ (l : List Answered). RunsAndKeeps turn keeps s l s) (sym q.none) (0, refl) }
 
-  pub reached_none : (s : S) (a : List Link) → Reached turn s a s a
+  pub reached_none : (s : S) (a : List Link) → Reached turn keeps s a s a
   reached_none s a = reached_quiet s a a (quiet_none a a refl)
 
-  pub then_quiet : (s t : S) (a b c : List Link) → Reached turn s a t b → Quiet b c → Reached turn s a t c
+  -- it tried to keep what was there
+  pub reached_kept : (s t : S) (a : List Link) → keeps s t → Reached turn keeps s a t a
+  reached_kept s t a kept = record { events = []; changes = refl; run = (1, t, kept, refl) }
+
+  pub then_quiet : (s t : S) (a b c : List Link) → Reached turn keeps s a t b → Quiet b c → Reached turn keeps s a t c
   then_quiet s t a b c p q = reached_then s t t a b c p (reached_quiet t b c q)
 
-  reached_took : (s t : S) (a b : List Link) (slot now : ℕ) → Took1 turn s a slot now t b → Reached turn s a t b
+  reached_took : (s t : S) (a b : List Link) (slot now : ℕ) → Took1 turn s a slot now t b → Reached turn keeps s a t b
   reached_took s t a b slot now took = record {
     events = event slot now _ ∷ [];
     changes = (b, took.change, refl);
-    run = subst (λ l. Run turn s (took.request ∷ []) l t) (sym (append-nil took.answers)) (run_one turn s t took.request took.answers took.turned);
+    run = (0, s, t, refl, took.turned, (0, refl));
   }
 
-  reached_refused : (s t : S) (a b : List Link) (slot now : ℕ) → Refused1 turn s a slot now t b → Reached turn s a t b
-  reached_refused s t a b slot now one = subst (λ (x : S). Reached turn s a x b) (sym one.same) (reached_quiet s a b (quiet_one a b (event slot now _) refl one.change))
+  reached_refused : (s t : S) (a b : List Link) (slot now : ℕ) → Refused1 turn s a slot now t b → Reached turn keeps s a t b
+  reached_refused s t a b slot now one = subst (λ (x : S). Reached turn keeps s a x b) (sym one.same) (reached_quiet s a b (quiet_one a b (event slot now _) refl one.change))
 
-  reached_same : (s t : S) (a b : List Link) → t ≡ s → b ≡ a → Reached turn s a t b
-  reached_same s t a b same alike = subst (λ (x : S). Reached turn s a x b) (sym same) (reached_quiet s a b (quiet_none a b alike))
+  reached_same : (s t : S) (a b : List Link) → t ≡ s → b ≡ a → Reached turn keeps s a t b
+  reached_same s t a b same alike = subst (λ (x : S). Reached turn keeps s a x b) (sym same) (reached_quiet s a b (quiet_none a b alike))
 
-  pub reached_gives : (s t : S) (a b : List Link) (slot now : ℕ) (r : Result Taken AllocError) → Gives turn s a slot now r t b → Reached turn s a t b
+  pub reached_gives : (s t : S) (a b : List Link) (slot now : ℕ) (r : Result Taken AllocError) → Gives turn s a slot now r t b → Reached turn keeps s a t b
   reached_gives s t a b slot now (Ok takes.Request) h = reached_took s t a b slot now h.0
   reached_gives s t a b slot now (Ok takes.Fault) h = reached_refused s t a b slot now h.0
   reached_gives s t a b slot now (Ok takes.Nothing) h = reached_same s t a b h.0 h.1
@@ -109,6 +113,7 @@ module _ {S : Type 0} (turn : S → Frame → List Frame → S → Type 0) where
   reached_gives s t a b slot now (Err e) (inr (inl h)) = reached_took s t a b slot now h
   reached_gives s t a b slot now (Err e) (inr (inr h)) = reached_refused s t a b slot now h
 
+module _ {S : Type 0} (turn : S → Frame → List Frame → S → Type 0) where
   -- what a turn of a slot comes to, from what it does at its connection
   pub gives_of : (links : List Link) (slot now : ℕ) (a b : Link) (s t : S) (r : Result Taken AllocError) → slice_get links slot ≡ Some a → TurnGives turn s a now r t b → Gives turn s links slot now r t (slice_set links slot b)
   gives_of links slot now a b s t (Ok takes.Request) was h =

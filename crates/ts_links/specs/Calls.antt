@@ -9,7 +9,8 @@ use Rattle.ts_links.specs.Turns.{Reached}
 abbrev pub IsQuiet : Connections → Connections → Type 0
 IsQuiet old new = Quiet old.links.items new.links.items
 
--- moves lead from one table to the other, and what they take is answered by turns
-abbrev pub HasReached : {S : Type 0} → (S → Frame → List Frame → S → Type 0) → S → Connections → S
-    → Connections → Type 0
-HasReached turn s old t new = Reached turn s old.links.items t new.links.items
+-- moves lead from one table to the other, and what they take is answered by turns, between which it
+-- may try to keep what was there
+abbrev pub HasReached : {S : Type 0} → (S → Frame → List Frame → S → Type 0)
+    → (S → S → Type 0) → S → Connections → S → Connections → Type 0
+HasReached turn keeps s old t new = Reached turn keeps s old.links.items t new.links.items

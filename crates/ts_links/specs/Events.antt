@@ -1,5 +1,5 @@
 -- Moves on all connections, one after another.
-use Rattle.std.specs.Prelude.{◌≡◌, ◌<◌, ℕ, List, [], ◌∷◌, ◌++◌, map, length, Some}
+use Rattle.std.specs.Prelude.{◌≡◌, ℕ, List, [], ◌∷◌, Some}
 use Rattle.std.specs.Prelude.{slice_get, slice_set}
 use Rattle.std.specs.List.{flat_map}
 use Rattle.ts_wire.specs.declared.frame.Frame.{Frame}
@@ -43,12 +43,6 @@ taken_in Closed = []
 -- the requests that were taken on all connections, in the order in which they were taken
 abbrev pub taken : List Event → List Answered
 taken events = flat_map (λ event. taken_in event.move) events
-
-abbrev pub requests_taken : List Event → List Frame
-requests_taken events = map (λ pair. pair.0) (taken events)
-
-abbrev pub answers_given : List Event → List Frame
-answers_given events = flat_map (λ pair. pair.1) (taken events)
 
 -- some moves, none of which takes a request, lead from these connections to those
 pub record Quiet (links others : List Link) : Type 0 where

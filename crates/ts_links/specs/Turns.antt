@@ -1,16 +1,16 @@
 -- Moves on all connections, and the turns of what takes their requests.
-use Rattle.std.specs.Prelude.{◌≡◌, ◌⊎◌, ◌++◌, ℕ, List, Result, Ok, Err, Some, drop, slice_get, All}
+use Rattle.std.specs.Prelude.{◌≡◌, ◌⊎◌, ◌++◌, ◌∷◌, [], ℕ, zero, suc, List, Result, Ok, Err, Some}
+use Rattle.std.specs.Prelude.{drop, slice_get, All}
 use Rattle.std.specs.declared.alloc.AllocError.{AllocError}
 use Rattle.ts_wire.specs.declared.fault.FrameFault.{FrameFault}
 use Rattle.ts_wire.specs.declared.frame.Frame.{Frame}
-use Rattle.ts_serve.specs.Stream.{Run}
 use Rattle.ts_links.specs.declared.link.Link.{Link}
 use Rattle.ts_links.specs.declared.link.Stage.TheVariants as stages
 use Rattle.ts_links.specs.declared.link.Taken.{Taken}
 use Rattle.ts_links.specs.declared.link.Taken.TheVariants as takes
 use Rattle.ts_links.specs.Times.{times_took}
 use Rattle.ts_links.specs.Moves.{Took, Refused, HasTaken, HasRefused, IsWaiting, IsUnused}
-use Rattle.ts_links.specs.Events.{Event, event, Change, Changes, requests_taken, answers_given}
+use Rattle.ts_links.specs.Events.{Answered, Event, event, Change, Changes, taken}
 
 -- a request of so many octets was let go, and octets were put
 abbrev pub KeepGives : Link → ℕ → List ℕ → ℕ → Result Taken AllocError → Link → Type 0
@@ -80,12 +80,26 @@ module _ {S : Type 0} (turn : S → Frame → List Frame → S → Type 0) where
   Gives s links slot now (Err refused) t others = ((t ≡ s) × (others ≡ links))
       ⊎ Took1 s links slot now t others ⊎ Refused1 s links slot now t others
 
+-- What takes requests, and how it tries to keep what came of them.
+module _ {S : Type 0} (turn : S → Frame → List Frame → S → Type 0) (keeps : S → S → Type 0) where
+  -- it tried to keep what was there so many times
+  abbrev pub KeepsSome : ℕ → S → S → Type 0
+  KeepsSome zero s t = t ≡ s
+  KeepsSome (suc n) s t = (mid : S) × keeps s mid × KeepsSome n mid t
+
+  -- Requests are answered by turns, one after another. Before each of them, and after the last, it
+  -- may have tried to keep what was there.
+  abbrev pub RunsAndKeeps : S → List Answered → S → Type 0
+  RunsAndKeeps s [] t = (n : ℕ) × KeepsSome n s t
+  RunsAndKeeps s (pair ∷ pairs) t = (n : ℕ) × (a b : S) × KeepsSome n s a
+      × turn a pair.0 pair.1 b × RunsAndKeeps b pairs t
+
   -- some moves lead from these connections to those, and the requests that they take are answered
   -- by turns, one after another
   pub record Reached (s : S) (links : List Link) (t : S) (others : List Link) : Type 0 where
     pub events : List Event
     pub changes : Changes links events others
-    pub run : Run turn s (requests_taken events) (answers_given events) t
+    pub run : RunsAndKeeps s (taken events) t
 
   -- the same from connections of which none was open
   pub record Served (s t : S) : Type 0 where

@@ -44,7 +44,7 @@ pub fn take_some<S: Service>(
     now: u64,
 ) -> (u32, bool)
     requires { S.is_ready service.old }
-    ensures reached { HasReached S.turn service.old table.old service.new table.new }
+    ensures reached { HasReached S.turn S.keeps service.old table.old service.new table.new }
     ensures ready { S.is_ready service.new }
 {
     for taken in 0..most {

@@ -16,7 +16,7 @@ fn ask_at<S: Service>(
     now: u64,
 ) -> Option<Vec<u8>>
     requires { S.is_ready service.old }
-    ensures reached { HasReached S.turn service.old table.old service.new table.new }
+    ensures reached { HasReached S.turn S.keeps service.old table.old service.new table.new }
     ensures ready { S.is_ready service.new }
 {
     let came = arrive(table, slot, request, now);
@@ -37,7 +37,7 @@ pub(crate) fn ask<S: Service>(
     now: u64,
 ) -> Option<Vec<u8>>
     requires { S.is_ready service.old }
-    ensures reached { HasReached S.turn service.old table.old service.new table.new }
+    ensures reached { HasReached S.turn S.keeps service.old table.old service.new table.new }
     ensures ready { S.is_ready service.new }
 {
     let slot = open(table, now)?;

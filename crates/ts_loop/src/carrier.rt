@@ -64,6 +64,8 @@ pub(crate) struct Carrier {
     alloc: Global,
     /// Whether messages are carried at all.
     carries: bool,
+    /// Whether the group has no other node.
+    alone: bool,
     /// Whether standard error is told what happens.
     tells: bool,
     lines: Vec<Line>,
@@ -91,11 +93,12 @@ pub(crate) struct Carrier {
 }
 
 impl Carrier {
-    /// A carrier without peers. `seed` is any number.
-    pub fn new(alloc: Global, carries: bool, tells: bool, seed: u64) -> Carrier {
+    /// A carrier without peers, of a node that is alone in its group or not. `seed` is any number.
+    pub fn new(alloc: Global, carries: bool, alone: bool, tells: bool, seed: u64) -> Carrier {
         Carrier {
             alloc,
             carries,
+            alone,
             tells,
             lines: Vec::new(alloc),
             gate: Gate::new(),
@@ -134,6 +137,12 @@ impl Carrier {
     /// The slot behind that of the client whose command was taken last.
     pub fn next_slot(&self) -> usize {
         self.last.wrapping_add(1)
+    }
+
+    /// Whether the frame that begins here has to wait for a command that is under way. A node that
+    /// is alone in its group chooses each command in its own turn, so that none waits for another.
+    pub fn holds_back(&self, held: &[u8], now: u64) -> bool {
+        !self.alone && self.gate.holds_back(held, now)
     }
 
     /// The frame that begins here is taken next of a slot: it may be a client's command, or say
@@ -230,7 +239,7 @@ fn deliver<S: Service>(
     now: u64,
 )
     requires { S.is_ready service.old }
-    ensures reached { HasReached S.turn service.old table.old service.new table.new }
+    ensures reached { HasReached S.turn S.keeps service.old table.old service.new table.new }
     ensures ready { S.is_ready service.new }
 {
     for frame in frames {
@@ -242,7 +251,7 @@ impl Carrier {
     /// Takes the node's messages once, and hands it those to itself. Whether there were some.
     fn take_once<S: Service>(&mut self, table: &mut Connections, service: &mut S, now: u64) -> bool
         requires { S.is_ready service.old }
-        ensures reached { HasReached S.turn service.old table.old service.new table.new }
+        ensures reached { HasReached S.turn S.keeps service.old table.old service.new table.new }
         ensures ready { S.is_ready service.new }
     {
         let Some(given) = ask(table, service, self.alloc, &TAKE, now) else {
@@ -256,7 +265,7 @@ impl Carrier {
     /// Takes the node's messages, and hands it those to itself, until it makes no more of them.
     fn take_all<S: Service>(&mut self, table: &mut Connections, service: &mut S, now: u64)
         requires { S.is_ready service.old }
-        ensures reached { HasReached S.turn service.old table.old service.new table.new }
+        ensures reached { HasReached S.turn S.keeps service.old table.old service.new table.new }
         ensures ready { S.is_ready service.new }
     {
         for _step in 0..STEPS {
@@ -270,7 +279,7 @@ impl Carrier {
     /// Asks the node how many commands it knows.
     fn look<S: Service>(&mut self, table: &mut Connections, service: &mut S, now: u64)
         requires { S.is_ready service.old }
-        ensures reached { HasReached S.turn service.old table.old service.new table.new }
+        ensures reached { HasReached S.turn S.keeps service.old table.old service.new table.new }
         ensures ready { S.is_ready service.new }
     {
         let Some(answer) = ask(table, service, self.alloc, &STATUS, now) else {
@@ -289,7 +298,7 @@ impl Carrier {
     /// Whether the command that is under way is known to be chosen, or can't be asked for.
     fn is_over<S: Service>(&self, table: &mut Connections, service: &mut S, now: u64) -> bool
         requires { S.is_ready service.old }
-        ensures reached { HasReached S.turn service.old table.old service.new table.new }
+        ensures reached { HasReached S.turn S.keeps service.old table.old service.new table.new }
         ensures ready { S.is_ready service.new }
     {
         let Some(wanted) = self.gate.wanted() else {
@@ -307,7 +316,7 @@ impl Carrier {
     /// Proposes the command that is under way again, if it is time.
     fn propose_again<S: Service>(&mut self, table: &mut Connections, service: &mut S, now: u64)
         requires { S.is_ready service.old }
-        ensures reached { HasReached S.turn service.old table.old service.new table.new }
+        ensures reached { HasReached S.turn S.keeps service.old table.old service.new table.new }
         ensures ready { S.is_ready service.new }
     {
         let Some(frame) = self.gate.due(now) else {
@@ -331,7 +340,7 @@ impl Carrier {
     /// Looks after the command that is under way: it may be chosen, or its round may be lost.
     fn follow<S: Service>(&mut self, table: &mut Connections, service: &mut S, now: u64)
         requires { S.is_ready service.old }
-        ensures reached { HasReached S.turn service.old table.old service.new table.new }
+        ensures reached { HasReached S.turn S.keeps service.old table.old service.new table.new }
         ensures ready { S.is_ready service.new }
     {
         if self.is_over(table, service, now) {
@@ -352,7 +361,7 @@ impl Carrier {
     /// Tells the node to catch up, if it is behind.
     fn catch_up<S: Service>(&mut self, table: &mut Connections, service: &mut S, now: u64)
         requires { S.is_ready service.old }
-        ensures reached { HasReached S.turn service.old table.old service.new table.new }
+        ensures reached { HasReached S.turn S.keeps service.old table.old service.new table.new }
         ensures ready { S.is_ready service.new }
     {
         if !self.is_behind(now) {
@@ -378,7 +387,7 @@ impl Carrier {
         now: u64,
     )
         requires { S.is_ready service.old }
-        ensures reached { HasReached S.turn service.old table.old service.new table.new }
+        ensures reached { HasReached S.turn S.keeps service.old table.old service.new table.new }
         ensures ready { S.is_ready service.new }
     {
         if !self.carries || !self.has_work(taken, now) {
@@ -407,7 +416,7 @@ impl Carrier {
         now: u64,
     )
         requires { S.is_ready service.old }
-        ensures reached { HasReached S.turn service.old table.old service.new table.new }
+        ensures reached { HasReached S.turn S.keeps service.old table.old service.new table.new }
         ensures ready { S.is_ready service.new }
     {
         let prefix = self.prefix;
@@ -430,21 +439,24 @@ impl Carrier {
     }
 
     /// One round of the lines to the peers. Standard error is told of those reached and lost.
-    pub fn tend<R: Net + Eprint + RandomSource>(
+    pub fn tend<S: Service, R: Net + Eprint + RandomSource>(
         &mut self,
         rt: &R,
+        service: &S,
         registry: &Registry,
         own: &Option<Key>,
         buffer: &mut [u8; PIECE],
         now: u64,
-    ) {
+    )
+        requires { S.is_kept service.now }
+    {
         for place in 0..self.lines.len() {
             let chance = self.chances.next_u64();
             let Some(line) = self.lines.get_mut(place) else {
                 return;
             };
             let token = Token(PEERS.saturating_add(place));
-            let change = line.tend(rt, registry, token, own, buffer, now, chance);
+            let change = line.tend(rt, service, registry, token, own, buffer, now, chance);
             if self.tells {
                 tell(rt, line.node, change);
             }

@@ -9,7 +9,7 @@ use std::io::{ErrorKind, Read, Write};
 use std::net::{Shutdown, SocketAddr};
 use ts_access::Key;
 use ts_links::reaching::{arrive, leave};
-use ts_links::{Connections, Stage};
+use ts_links::{Connections, Service, Stage};
 
 /// The most octets that one read takes.
 pub(crate) const PIECE: usize = 16_384;
@@ -31,6 +31,10 @@ pub(crate) struct Door {
     pub shut: bool,
     /// It is to be looked at in this round.
     pub hot: bool,
+    /// How many requests were taken of it in this round.
+    pub taken: u32,
+    /// It failed in this round.
+    pub failed: bool,
     /// What keys are wanted for.
     pub lock: Option<Lock>,
 }
@@ -46,6 +50,8 @@ impl Door {
             ended: false,
             shut: false,
             hot: true,
+            taken: 0,
+            failed: false,
             lock,
         }
     }
@@ -133,12 +139,16 @@ pub(crate) fn read_once(
     take_in(table, door, keys, slot, &buffer[..count], now)
 }
 
-/// Writes octets once. How many were taken, and `None` where the connection failed.
-pub(crate) fn write_some(
+/// Writes octets once. How many were taken, and `None` where the connection failed. All that a loop
+/// writes on a socket passes here, and so whoever writes has a service that has kept on disk what
+/// came of all requests that it answered.
+pub(crate) fn write_some<S: Service>(
+    _kept: &S,
     stream: &mut TcpStream,
     writable: &mut bool,
     octets: &[u8],
 ) -> Option<usize>
+    requires { S.is_kept _kept.now }
     ensures { IfSome result (λ count. count ≤ length octets.now) }
 {
     match stream.write(octets) {
@@ -153,27 +163,42 @@ pub(crate) fn write_some(
 }
 
 /// Writes once what waits on a slot. `false` where the connection failed.
-fn write_plain(table: &mut Connections, door: &mut Door, slot: usize, now: u64) -> bool
+fn write_plain<S: Service>(
+    table: &mut Connections,
+    service: &S,
+    door: &mut Door,
+    slot: usize,
+    now: u64,
+) -> bool
+    requires { S.is_kept service.now }
     ensures { IsQuiet table.old table.new }
 {
     if table.waiting(slot).is_empty() {
         return true;
     }
-    match write_some(&mut door.stream, &mut door.writable, table.waiting(slot)) {
+    let octets = table.waiting(slot);
+    match write_some(service, &mut door.stream, &mut door.writable, octets) {
         Some(count) => leave(table, slot, count, now),
         None => false,
     }
 }
 
 /// Writes once what is ready in the lock of a door.
-fn write_ready(door: &mut Door) -> bool {
+fn write_ready<S: Service>(service: &S, door: &mut Door) -> bool
+    requires { S.is_kept service.now }
+{
     let Some(lock) = &mut door.lock else {
         return true;
     };
     if !lock.waits() {
         return true;
     }
-    match write_some(&mut door.stream, &mut door.writable, lock.octets()) {
+    match write_some(
+        service,
+        &mut door.stream,
+        &mut door.writable,
+        lock.octets(),
+    ) {
         Some(count) => {
             lock.written(count);
             true
@@ -193,16 +218,23 @@ fn seal_some(table: &mut Connections, door: &mut Door, slot: usize, now: u64) ->
 }
 
 /// Writes once, if something waits. `false` where the connection failed.
-pub(crate) fn write_once(table: &mut Connections, door: &mut Door, slot: usize, now: u64) -> bool
+fn write_once<S: Service>(
+    table: &mut Connections,
+    service: &S,
+    door: &mut Door,
+    slot: usize,
+    now: u64,
+) -> bool
+    requires { S.is_kept service.now }
     ensures { IsQuiet table.old table.new }
 {
     if !door.writable {
         return true;
     }
     if door.lock.is_none() {
-        return write_plain(table, door, slot, now);
+        return write_plain(table, service, door, slot, now);
     }
-    seal_some(table, door, slot, now) && write_ready(door)
+    seal_some(table, door, slot, now) && write_ready(service, door)
 }
 
 /// Hands on what the lock of a door still lets through, now that there may be room.
@@ -223,28 +255,32 @@ fn hand_on_rest(
 
 /// Ends a round of a connection: what its lock still lets through is handed on, and what waits is
 /// written once. Whether octets were handed on, and `None` where the connection failed.
-pub(crate) fn finish(
+pub(crate) fn finish<S: Service>(
     table: &mut Connections,
+    service: &S,
     door: &mut Door,
     keys: &[Key],
     slot: usize,
     now: u64,
 ) -> Option<bool>
+    requires { S.is_kept service.now }
     ensures { IsQuiet table.old table.new }
 {
     let handed = hand_on_rest(table, door, keys, slot, now);
     if handed == Handed::Failed {
         return None;
     }
-    if !write_once(table, door, slot, now) {
+    if !write_once(table, service, door, slot, now) {
         return None;
     }
     Some(handed == Handed::Some)
 }
 
 /// Writes what a lock has ready, before a connection is closed that failed: why no key was taken.
-pub(crate) fn write_last(door: &mut Door) {
-    let _written = write_ready(door);
+pub(crate) fn write_last<S: Service>(service: &S, door: &mut Door)
+    requires { S.is_kept service.now }
+{
+    let _written = write_ready(service, door);
 }
 
 /// Ends what is written on a connection that was refused, once all has left. The system would else

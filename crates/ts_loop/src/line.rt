@@ -13,6 +13,7 @@ use std::net::{Net, SocketAddr};
 use std::random::RandomSource;
 use ts_access::Key;
 use ts_carrier::{Dial, Mailbox, Phase};
+use ts_links::Service;
 use ts_node::Identity;
 use ts_wire::{Feed, Frame};
 
@@ -362,18 +363,22 @@ impl Line {
     }
 
     /// Writes once. `false` where the connection is over.
-    fn write_once(&mut self) -> bool {
+    fn write_once<S: Service>(&mut self, service: &S) -> bool
+        requires { S.is_kept service.now }
+    {
         let Some(stream) = &mut self.stream else {
             return false;
         };
         if let Some(seal) = &mut self.seal {
-            let Some(count) = write_some(stream, &mut self.writable, seal.out.octets()) else {
+            let octets = seal.out.octets();
+            let Some(count) = write_some(service, stream, &mut self.writable, octets) else {
                 return false;
             };
             seal.out.skip(count);
             return true;
         }
-        let Some(count) = write_some(stream, &mut self.writable, self.mailbox.octets()) else {
+        let octets = self.mailbox.octets();
+        let Some(count) = write_some(service, stream, &mut self.writable, octets) else {
             return false;
         };
         self.mailbox.sent(count);
@@ -381,7 +386,9 @@ impl Line {
     }
 
     /// Writes what waits. `false` where the connection is over.
-    fn write_all(&mut self) -> bool {
+    fn write_all<S: Service>(&mut self, service: &S) -> bool
+        requires { S.is_kept service.now }
+    {
         for _write in 0..CALLS {
             if !self.make_ready() {
                 return false;
@@ -389,7 +396,7 @@ impl Line {
             if !self.writable || !self.waits() {
                 return true;
             }
-            if !self.write_once() {
+            if !self.write_once(service) {
                 return false;
             }
         }
@@ -397,13 +404,21 @@ impl Line {
     }
 
     /// Looks after a connection that is there.
-    fn exchange(&mut self, buffer: &mut [u8; PIECE], now: u64, chance: u64) -> Change {
+    fn exchange<S: Service>(
+        &mut self,
+        service: &S,
+        buffer: &mut [u8; PIECE],
+        now: u64,
+        chance: u64,
+    ) -> Change
+        requires { S.is_kept service.now }
+    {
         if self.is_met && now.saturating_sub(self.asked) >= BEAT && self.heard >= self.asked {
             self.ask_prefix(now);
         }
         let is_silent = now.saturating_sub(self.heard) >= SILENCE;
         let was_known = self.is_known;
-        if is_silent || !self.read_all(buffer, now) || !self.write_all() {
+        if is_silent || !self.read_all(buffer, now) || !self.write_all(service) {
             return self.lose(now, chance);
         }
         if self.is_known && !was_known {
@@ -414,23 +429,26 @@ impl Line {
     }
 
     /// One round of the line: it is dialed, looked after, read and written. `chance` is any number.
-    pub fn tend<N: Net + RandomSource>(
+    pub fn tend<S: Service, N: Net + RandomSource>(
         &mut self,
         net: &N,
+        service: &S,
         registry: &Registry,
         token: Token,
         own: &Option<Key>,
         buffer: &mut [u8; PIECE],
         now: u64,
         chance: u64,
-    ) -> Change {
+    ) -> Change
+        requires { S.is_kept service.now }
+    {
         match self.dial.phase {
             Phase::Down { .. } if self.dial.is_due(now) => {
                 self.dial(net, registry, token, now, chance)
             }
             Phase::Down { .. } => Change::None,
             Phase::Dialing { since } => self.finish(net, own, since, now, chance),
-            Phase::Up { .. } => self.exchange(buffer, now, chance),
+            Phase::Up { .. } => self.exchange(service, buffer, now, chance),
         }
     }
 }

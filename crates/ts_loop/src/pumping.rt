@@ -1,6 +1,7 @@
-//! What one round does at one slot.
+//! What one round does at one slot: first it reads and takes requests, and once what came of them is
+//! kept on disk it writes.
 
-ghost use Rattle.ts_links.specs.Calls.{HasReached};
+ghost use Rattle.ts_links.specs.Calls.{HasReached, IsQuiet};
 
 use crate::carrier::Carrier;
 use crate::door::{Door, PIECE, finish, read_once, shut_if_done, write_last};
@@ -81,7 +82,7 @@ fn take_next<S: Service, R: Clock>(
     watch: &mut Watch,
 ) -> (u32, bool)
     requires { S.is_ready service.old }
-    ensures reached { HasReached S.turn service.old table.old service.new table.new }
+    ensures reached { HasReached S.turn S.keeps service.old table.old service.new table.new }
     ensures ready { S.is_ready service.new }
 {
     let asked = kind_at(table.held(slot), 0);
@@ -107,10 +108,10 @@ fn take_one<S: Service, R: Clock>(
     watch: &mut Watch,
 ) -> (u32, bool)
     requires { S.is_ready service.old }
-    ensures reached { HasReached S.turn service.old table.old service.new table.new }
+    ensures reached { HasReached S.turn S.keeps service.old table.old service.new table.new }
     ensures ready { S.is_ready service.new }
 {
-    if carrier.gate.holds_back(table.held(slot), round.now) {
+    if carrier.holds_back(table.held(slot), round.now) {
         return (0, true);
     }
     carrier.see(table.held(slot), slot, from, round.now);
@@ -129,7 +130,7 @@ fn take_turns<S: Service, R: Clock>(
     watch: &mut Watch,
 ) -> (u32, bool)
     requires { S.is_ready service.old }
-    ensures reached { HasReached S.turn service.old table.old service.new table.new }
+    ensures reached { HasReached S.turn S.keeps service.old table.old service.new table.new }
     ensures ready { S.is_ready service.new }
 {
     for turns in 0..TURNS {
@@ -141,8 +142,8 @@ fn take_turns<S: Service, R: Clock>(
     (TURNS, true)
 }
 
-/// One read, some turns and one write of a connection. How many requests were taken.
-pub(crate) fn pump<S: Service, R: Clock>(
+/// One read and some turns of a connection. What it is answered waits.
+pub(crate) fn begin<S: Service, R: Clock>(
     round: &Round<'_, R>,
     table: &mut Connections,
     service: &mut S,
@@ -151,29 +152,47 @@ pub(crate) fn pump<S: Service, R: Clock>(
     slot: usize,
     buffer: &mut [u8; PIECE],
     watch: &mut Watch,
-) -> (u32, Pumped)
+)
     requires { S.is_ready service.old }
-    ensures reached { HasReached S.turn service.old table.old service.new table.new }
+    ensures reached { HasReached S.turn S.keeps service.old table.old service.new table.new }
     ensures ready { S.is_ready service.new }
 {
-    let (keys, now) = (round.keys, round.now);
-    if !read_once(table, door, keys, slot, buffer, now) {
-        write_last(door);
-        return (0, Pumped::Failed);
+    door.taken = 0;
+    door.failed = !read_once(table, door, round.keys, slot, buffer, round.now);
+    if door.failed {
+        return;
     }
-    let (taken, good) = take_turns(round, table, service, carrier, slot, door.from, watch);
-    if !good {
-        return (taken, Pumped::Failed);
+    let from = door.from;
+    let (taken, good) = take_turns(round, table, service, carrier, slot, from, watch);
+    door.taken = taken;
+    door.failed = !good;
+}
+
+/// One write of a connection, and what is left to do on it.
+pub(crate) fn end<S: Service, R>(
+    round: &Round<'_, R>,
+    table: &mut Connections,
+    service: &S,
+    carrier: &Carrier,
+    door: &mut Door,
+    slot: usize,
+) -> Pumped
+    requires { S.is_kept service.now }
+    ensures { IsQuiet table.old table.new }
+{
+    if door.failed {
+        write_last(service, door);
+        return Pumped::Failed;
     }
-    let Some(more) = finish(table, door, keys, slot, now) else {
-        return (taken, Pumped::Failed);
+    let Some(more) = finish(table, service, door, round.keys, slot, round.now) else {
+        return Pumped::Failed;
     };
     shut_if_done(table, door, slot);
-    if carrier.gate.holds_back(table.held(slot), now) {
-        return (taken, Pumped::Held);
+    if carrier.holds_back(table.held(slot), round.now) {
+        return Pumped::Held;
     }
     if more {
-        return (taken, Pumped::More);
+        return Pumped::More;
     }
-    (taken, what_is_left(table, door, slot, taken))
+    what_is_left(table, door, slot, door.taken)
 }

@@ -1,11 +1,12 @@
-//! What one round does at all slots.
+//! What one round does at all slots: all are read and their requests are taken, and once what came of
+//! them is kept on disk, by one append, all are written.
 
 ghost use Rattle.ts_links.specs.Calls.{HasReached, IsQuiet};
 
 use crate::carrier::Carrier;
 use crate::counts::{Counts, Why};
-use crate::door::{Door, PIECE, write_once};
-use crate::pumping::{Pumped, Round, pump};
+use crate::door::{Door, PIECE};
+use crate::pumping::{Pumped, Round, begin, end};
 use crate::watch::Watch;
 use crate::web::{WEB, Web};
 use mio::{Events, Token};
@@ -98,8 +99,8 @@ fn settle(
     false
 }
 
-/// One round of a slot. Whether it could do more.
-fn pump_slot<S: Service, R: Clock>(
+/// A round of a slot begins, if it is to be looked at: it is read, and its requests are taken.
+fn begin_slot<S: Service, R: Clock>(
     round: &Round<'_, R>,
     table: &mut Connections,
     service: &mut S,
@@ -109,25 +110,24 @@ fn pump_slot<S: Service, R: Clock>(
     buffer: &mut [u8; PIECE],
     counts: &mut Counts,
     watch: &mut Watch,
-) -> bool
+)
     requires { S.is_ready service.old }
-    ensures reached { HasReached S.turn service.old table.old service.new table.new }
+    ensures reached { HasReached S.turn S.keeps service.old table.old service.new table.new }
     ensures ready { S.is_ready service.new }
 {
     let Some(door) = place else {
-        return false;
+        return;
     };
     if !door.hot {
-        return false;
+        return;
     }
-    let (taken, pumped) = pump(round, table, service, carrier, door, slot, buffer, watch);
-    counts.taken = counts.taken.saturating_add(u64::from(taken));
-    settle(table, place, slot, pumped, counts)
+    begin(round, table, service, carrier, door, slot, buffer, watch);
+    counts.taken = counts.taken.saturating_add(u64::from(door.taken));
 }
 
-/// One round of all doors that are to be looked at, from the one on that is behind the slot whose
-/// command was taken last, so that each client's command has its turn. Whether one could do more.
-pub(crate) fn pump_all<S: Service, R: Clock>(
+/// A round of all doors that are to be looked at begins, from the one on that is behind the slot
+/// whose command was taken last, so that each client's command has its turn.
+pub(crate) fn begin_all<S: Service, R: Clock>(
     round: &Round<'_, R>,
     table: &mut Connections,
     service: &mut S,
@@ -136,20 +136,61 @@ pub(crate) fn pump_all<S: Service, R: Clock>(
     buffer: &mut [u8; PIECE],
     counts: &mut Counts,
     watch: &mut Watch,
-) -> bool
+)
     requires { S.is_ready service.old }
-    ensures reached { HasReached S.turn service.old table.old service.new table.new }
+    ensures reached { HasReached S.turn S.keeps service.old table.old service.new table.new }
     ensures ready { S.is_ready service.new }
 {
     let slots = doors.len();
     let first = carrier.next_slot();
-    let mut more = false;
     for step in 0..slots {
         let slot = first.wrapping_add(step) % slots;
         let place = &mut doors[slot];
-        if pump_slot(
+        begin_slot(
             round, table, service, carrier, place, slot, buffer, counts, watch,
-        ) {
+        );
+    }
+}
+
+/// A round of a slot ends, if it is to be looked at: it is written. Whether it could do more.
+fn end_slot<S: Service, R>(
+    round: &Round<'_, R>,
+    table: &mut Connections,
+    service: &S,
+    carrier: &Carrier,
+    place: &mut Option<Door>,
+    slot: usize,
+    counts: &mut Counts,
+) -> bool
+    requires { S.is_kept service.now }
+    ensures { IsQuiet table.old table.new }
+{
+    let Some(door) = place else {
+        return false;
+    };
+    if !door.hot {
+        return false;
+    }
+    let pumped = end(round, table, service, carrier, door, slot);
+    settle(table, place, slot, pumped, counts)
+}
+
+/// A round of all doors that are to be looked at ends. Whether one could do more.
+pub(crate) fn end_all<S: Service, R>(
+    round: &Round<'_, R>,
+    table: &mut Connections,
+    service: &S,
+    carrier: &Carrier,
+    doors: &mut [Option<Door>],
+    counts: &mut Counts,
+) -> bool
+    requires { S.is_kept service.now }
+    ensures { IsQuiet table.old table.new }
+{
+    let mut more = false;
+    for slot in 0..doors.len() {
+        let place = &mut doors[slot];
+        if end_slot(round, table, service, carrier, place, slot, counts) {
             more = true;
         }
     }
@@ -183,7 +224,7 @@ fn sweep_slot(
     ensures { IsQuiet table.old table.new }
 {
     let is_late = table.is_late(slot, deadlines, now)
-        && !carrier.gate.holds_back(table.held(slot), now);
+        && !carrier.holds_back(table.held(slot), now);
     if !is_late && !is_over(place, deadlines, now) {
         return;
     }
@@ -218,42 +259,4 @@ pub(crate) fn sweep(
         );
     }
     now
-}
-
-/// Writes once what waits on a slot. Whether more waits that may be taken later.
-fn write_slot(
-    table: &mut Connections,
-    place: &mut Option<Door>,
-    slot: usize,
-    now: u64,
-    counts: &mut Counts,
-) -> bool
-    ensures { IsQuiet table.old table.new }
-{
-    let Some(door) = place else {
-        return false;
-    };
-    if write_once(table, door, slot, now) {
-        return door.waits(table, slot);
-    }
-    close_slot(table, place, slot, Why::Failed, counts);
-    false
-}
-
-/// Writes once what waits on each slot. Whether more waits that may be taken later.
-pub(crate) fn write_all(
-    table: &mut Connections,
-    doors: &mut [Option<Door>],
-    now: u64,
-    counts: &mut Counts,
-) -> bool
-    ensures { IsQuiet table.old table.new }
-{
-    let mut more = false;
-    for slot in 0..doors.len() {
-        if write_slot(table, &mut doors[slot], slot, now, counts) {
-            more = true;
-        }
-    }
-    more
 }

@@ -3,9 +3,9 @@
 ghost use Rattle.std.specs.Prelude.{◌≡◌};
 ghost use Rattle.ts_question.specs.Question.{Asked};
 ghost use Rattle.ts_node.specs.Machine.{store_of};
-ghost use Rattle.ts_node.specs.Node.{IsSound};
+ghost use Rattle.ts_node.specs.Ahead.{IsAhead};
 ghost use Rattle.ts_store.specs.Octets.{octets_of};
-ghost use Rattle.ts_serve.specs.Turn.{Turn};
+ghost use Rattle.ts_serve.specs.Turn.{HasKept, StagedTurn};
 ghost use Rattle.ts_links.specs.Calls.{HasReached, IsQuiet};
 ghost use Rattle.ts_links.specs.Turns.{Served};
 
@@ -19,7 +19,7 @@ use crate::group::Group;
 use crate::limits::Limits;
 use crate::pumping::Round;
 use crate::reporting::{FRESH, report_of};
-use crate::rounds::{LISTENER, mark, pump_all, sweep, write_all};
+use crate::rounds::{LISTENER, begin_all, end_all, mark, sweep};
 use crate::showing::{Shown, show_all};
 use crate::watch::Watch;
 use crate::web::Web;
@@ -114,7 +114,7 @@ fn carrier_of<R: Net + Clock>(
     let Some(seed) = seed_of(rt) else {
         return Err(LoopFault::Clock);
     };
-    let mut carrier = Carrier::new(alloc, group.carries, group.tells, seed);
+    let mut carrier = Carrier::new(alloc, group.carries, own.nodes == 1, group.tells, seed);
     for peer in &group.peers {
         let Ok(mut found) = peer.address.as_str().to_socket_addrs(rt) else {
             return Err(LoopFault::Peer(peer.node));
@@ -244,26 +244,6 @@ impl Edge {
         );
     }
 
-    /// Looks after what is carried: what the node has made, and the lines to its peers.
-    fn carry<S: Service, R: Net + Eprint + RandomSource>(
-        &mut self,
-        rt: &R,
-        table: &mut Connections,
-        service: &mut S,
-        own: &Option<Key>,
-        buffer: &mut [u8; PIECE],
-        now: u64,
-    )
-        requires { S.is_ready service.old }
-        ensures reached { HasReached S.turn service.old table.old service.new table.new }
-        ensures ready { S.is_ready service.new }
-    {
-        self.carrier.carry(table, service, self.counts.taken, now);
-        self.carrier.tell(rt, table, service, now);
-        self.carrier
-            .tend(rt, self.poll.registry(), own, buffer, now);
-    }
-
     /// Takes down for the connections of HTTP what time it is, and what is counted.
     fn show<R: Files + Clock>(&mut self, rt: &R, access: &Access<'_>, now: u64) {
         let Some(web) = &mut self.web else {
@@ -315,21 +295,21 @@ impl Edge {
         }
     }
 
-    /// One round of the connections of HTTP.
-    fn serve_web<S: Service, R: Clock>(
+    /// The requests of HTTP are taken.
+    fn take_web<S: Service, R: Files + Clock>(
         &mut self,
         rt: &R,
         table: &mut Connections,
         service: &mut S,
-        limits: &Limits,
         access: &Access<'_>,
         buffer: &mut [u8; PIECE],
         now: u64,
     )
         requires { S.is_ready service.old }
-        ensures reached { HasReached S.turn service.old table.old service.new table.new }
+        ensures reached { HasReached S.turn S.keeps service.old table.old service.new table.new }
         ensures ready { S.is_ready service.new }
     {
+        self.show(rt, access, now);
         let Some(web) = &mut self.web else {
             return;
         };
@@ -339,16 +319,72 @@ impl Edge {
             now,
         };
         let registry = self.poll.registry();
-        web.round(
+        let (carrier, watch) = (&mut self.carrier, &mut self.watch);
+        web.begin(&round, registry, table, service, carrier, watch, buffer);
+    }
+
+    /// All that is there is taken: the requests on all connections, what the node sends itself, and
+    /// the requests of HTTP. What is answered waits.
+    fn take<S: Service, R: Files + Clock>(
+        &mut self,
+        rt: &R,
+        table: &mut Connections,
+        service: &mut S,
+        access: &Access<'_>,
+        buffer: &mut [u8; PIECE],
+        now: u64,
+    )
+        requires { S.is_ready service.old }
+        ensures reached { HasReached S.turn S.keeps service.old table.old service.new table.new }
+        ensures ready { S.is_ready service.new }
+    {
+        let round = Round {
+            rt,
+            keys: access.keys(),
+            now,
+        };
+        begin_all(
             &round,
-            registry,
             table,
             service,
             &mut self.carrier,
-            &mut self.watch,
-            limits,
+            &mut self.doors,
             buffer,
+            &mut self.counts,
+            &mut self.watch,
         );
+        self.carrier.carry(table, service, self.counts.taken, now);
+        self.take_web(rt, table, service, access, buffer, now);
+    }
+
+    /// All that waits is written, since what came of it is kept: on the connections, on the lines to
+    /// the peers, and on the connections of HTTP.
+    fn write<S: Service, R: Net + Eprint + RandomSource>(
+        &mut self,
+        rt: &R,
+        table: &mut Connections,
+        service: &S,
+        limits: &Limits,
+        access: &Access<'_>,
+        buffer: &mut [u8; PIECE],
+        now: u64,
+    )
+        requires { S.is_kept service.now }
+        ensures { IsQuiet table.old table.new }
+    {
+        let round = Round {
+            rt,
+            keys: access.keys(),
+            now,
+        };
+        let (doors, counts) = (&mut self.doors, &mut self.counts);
+        self.more = end_all(&round, table, service, &self.carrier, doors, counts);
+        if let Some(web) = &mut self.web {
+            web.end(service, limits, now);
+        }
+        let registry = self.poll.registry();
+        self.carrier
+            .tend(rt, service, registry, &access.own, buffer, now);
     }
 
     /// Whether something is to be done at once.
@@ -369,7 +405,12 @@ impl Edge {
         self.counts.over().saturating_add(web)
     }
 
-    /// One round. The milliseconds since the start.
+    /// One round: what is there is taken, what came of it is kept, by one append, and then what waits
+    /// is written.
+    ///
+    /// # Errors
+    ///
+    /// `NodeFailed` where it can't be kept: nothing that was answered in the round leaves.
     fn round<S: Service, R: Net + Files + Clock + Eprint + RandomSource>(
         &mut self,
         rt: &R,
@@ -378,33 +419,29 @@ impl Edge {
         buffer: &mut [u8; PIECE],
         limits: &Limits,
         access: &mut Access<'_>,
-    ) -> Result<u64, LoopFault>
+    ) -> Result<(), LoopFault>
         requires { S.is_ready service.old }
-        ensures reached { HasReached S.turn service.old table.old service.new table.new }
+        ensures reached { HasReached S.turn S.keeps service.old table.old service.new table.new }
         ensures ready { S.is_ready service.new }
     {
         let (event, now) = self.wait(rt, if self.goes_on() { 0 } else { ROUND })?;
         access.refresh(rt, self.alloc, now);
         self.accept(rt, table, access, event, now);
         self.note(service, access, now);
-        let round = Round {
-            rt,
-            keys: access.keys(),
-            now,
-        };
-        self.more = pump_all(
-            &round,
-            table,
-            service,
-            &mut self.carrier,
-            &mut self.doors,
-            buffer,
-            &mut self.counts,
-            &mut self.watch,
-        );
-        self.carry(rt, table, service, &access.own, buffer, now);
-        self.show(rt, access, now);
-        self.serve_web(rt, table, service, limits, access, buffer, now);
+        self.take(rt, table, service, access, buffer, now);
+        if !service.keep() {
+            return Err(LoopFault::NodeFailed);
+        }
+        self.write(rt, table, service, limits, access, buffer, now);
+        self.carrier.tell(rt, table, service, now);
+        self.sweep(table, limits, now);
+        Ok(())
+    }
+
+    /// Closes the connections that are late.
+    fn sweep(&mut self, table: &mut Connections, limits: &Limits, now: u64)
+        ensures { IsQuiet table.old table.new }
+    {
         self.swept = sweep(
             table,
             &self.carrier,
@@ -414,73 +451,9 @@ impl Edge {
             now,
             &mut self.counts,
         );
-        Ok(now)
     }
 
-    /// Writes what waits, until it has left or a moment has come.
-    fn write_rest<R: Clock>(
-        &mut self,
-        rt: &R,
-        table: &mut Connections,
-        until: u64,
-    ) -> Result<(), LoopFault>
-        ensures { IsQuiet table.old table.new }
-    {
-        let mut more = true;
-        for _round in 0..u64::MAX {
-            if !more {
-                return Ok(());
-            }
-            let (_, now) = self.wait(rt, ROUND)?;
-            let left = write_all(table, &mut self.doors, now, &mut self.counts);
-            more = left && now < until;
-        }
-        Ok(())
-    }
-
-    /// How the loop ends after a round, if it does: once a device has failed, after what waits was
-    /// written; and once so many connections are over.
-    fn end_after<R: Clock>(
-        &mut self,
-        rt: &R,
-        table: &mut Connections,
-        failed: bool,
-        now: u64,
-        limits: &Limits,
-    ) -> Option<Result<(), LoopFault>>
-        ensures { IsQuiet table.old table.new }
-    {
-        if failed {
-            let _written = self.write_rest(rt, table, now.saturating_add(limits.request_ms));
-            return Some(Err(LoopFault::NodeFailed));
-        }
-        if self.over() >= limits.connections {
-            return Some(Ok(()));
-        }
-        None
-    }
-
-    /// One round, and how the loop ends after it, if it does.
-    fn step<S: Service, R: Net + Files + Clock + Eprint + RandomSource>(
-        &mut self,
-        rt: &R,
-        table: &mut Connections,
-        service: &mut S,
-        buffer: &mut [u8; PIECE],
-        limits: &Limits,
-        access: &mut Access<'_>,
-    ) -> Option<Result<(), LoopFault>>
-        requires { S.is_ready service.old }
-        ensures reached { HasReached S.turn service.old table.old service.new table.new }
-        ensures ready { S.is_ready service.new }
-    {
-        match self.round(rt, table, service, buffer, limits, access) {
-            Ok(now) => self.end_after(rt, table, service.has_failed(), now, limits),
-            Err(fault) => Some(Err(fault)),
-        }
-    }
-
-    /// Rounds, until so many connections are over or the service has failed.
+    /// Rounds, until so many connections are over, or one fails.
     fn serve<S: Service, R: Net + Files + Clock + Eprint + RandomSource>(
         &mut self,
         rt: &R,
@@ -490,24 +463,24 @@ impl Edge {
         access: &mut Access<'_>,
     ) -> Result<(), LoopFault>
         requires { S.is_ready service.old }
-        ensures reached { HasReached S.turn service.old table.old service.new table.new }
+        ensures reached { HasReached S.turn S.keeps service.old table.old service.new table.new }
         ensures ready { S.is_ready service.new }
     {
         let mut buffer = [0u8; PIECE];
-        let mut end: Option<Result<(), LoopFault>> = None;
         for _round in 0..u64::MAX {
-            if let Some(result) = end {
-                return result;
+            self.round(rt, table, service, &mut buffer, limits, access)?;
+            if self.over() >= limits.connections {
+                return Ok(());
             }
-            end = self.step(rt, table, service, &mut buffer, limits, access);
         }
         Ok(())
     }
 }
 
 /// Serves an address to many connections at once, by one thread: each request is taken in its turn,
-/// and a connection that is slow, silent or reads nothing keeps no other from being answered. A
-/// connection's own fault ends it alone. Where the group says so messages are carried: the node's
+/// and a connection that is slow, silent or reads nothing keeps no other from being answered. What
+/// came of all requests that were there at once is kept on disk by one append, and then they are
+/// answered. A connection's own fault ends it alone. Where the group says so messages are carried: the node's
 /// to itself at once, those to peers on a connection to each, which is made again where it breaks.
 /// While a command is under way no other is taken from a client. Where keys are wanted, what comes
 /// is handed on as `ts_access` lets it through.
@@ -516,7 +489,8 @@ impl Edge {
 ///
 /// `Listen`, `Peer`, `Poll`, `Clock` and `Memory` where the system gives no listener, no address of
 /// a peer, no events, time or memory; `Unprotected` where there are no keys and other machines
-/// reach the address; `NodeFailed` once a device of the node has failed, after what was answered.
+/// reach the address; `NodeFailed` once a device of the node has failed: all connections end then,
+/// without the answers that were not kept.
 pub fn serve_all<R, D, M>(
     rt: &R,
     alloc: Global,
@@ -530,12 +504,13 @@ where
     R: Net + Files + Clock + Eprint + RandomSource,
     D: Disk,
     M: Machine<Command, Outcome = Outcome, Question = Question, Answer = Answer>,
-    requires { IsSound D.state octets_of M.commands server.old.node }
+    requires { IsAhead D.state octets_of M.commands server.old.node server.old.staged }
     // Whatever comes, in whatever pieces and whatever order: only moves on the connections were
     // made, and the server has answered the requests that these take, one after another.
-    ensures served { Served (Turn D.state
-        (store_of Asked M.client_id M.outcome) M.basis M.is_answer) server.old server.new }
-    ensures sound { IsSound D.state octets_of M.commands server.new.node }
+    ensures served { Served (StagedTurn D.state
+        (store_of Asked M.client_id M.outcome) M.basis M.is_answer) (HasKept D.state) server.old
+        server.new }
+    ensures ahead { IsAhead D.state octets_of M.commands server.new.node server.new.staged }
 {
     let slots = limits.connections_at_once;
     // One slot more is for what the loop asks of its own node.

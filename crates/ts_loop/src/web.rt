@@ -12,7 +12,7 @@ use crate::fault::LoopFault;
 use crate::limits::Limits;
 use crate::pumping::Round;
 use crate::watch::Watch;
-use crate::web_door::{Left, WebDoor, pump_web};
+use crate::web_door::{Left, WebDoor, begin_web, end_web};
 use mio::event::Event;
 use mio::net::{TcpListener, TcpStream};
 use mio::{Interest, Registry, Token};
@@ -256,8 +256,8 @@ impl Web {
         }
     }
 
-    /// One round of a slot. Whether it could do more.
-    fn pump_slot<S: Service, R: Clock>(
+    /// A round of a slot begins, if it is to be looked at: it is read, and its requests are taken.
+    fn begin_slot<S: Service, R: Clock>(
         &mut self,
         round: &Round<'_, R>,
         table: &mut Connections,
@@ -266,16 +266,16 @@ impl Web {
         watch: &mut Watch,
         slot: usize,
         buffer: &mut [u8; PIECE],
-    ) -> bool
+    )
         requires { S.is_ready service.old }
-        ensures reached { HasReached S.turn service.old table.old service.new table.new }
+        ensures reached { HasReached S.turn S.keeps service.old table.old service.new table.new }
         ensures ready { S.is_ready service.new }
     {
         let Some(Some(door)) = self.doors.get_mut(slot) else {
-            return false;
+            return;
         };
         if !door.hot {
-            return false;
+            return;
         }
         let scene = Scene {
             now: self.board.now,
@@ -284,33 +284,57 @@ impl Web {
             keys: round.keys,
         };
         let board = &mut self.board;
-        let left = pump_web(
+        begin_web(
             round, &scene, table, service, carrier, watch, self.alloc, door, board, buffer,
         );
-        self.settle(slot, left)
     }
 
-    /// One round of all slots. Whether one could do more.
-    fn pump_all<S: Service, R: Clock>(
+    /// A round begins: connections are accepted, read, and their requests are taken.
+    pub fn begin<S: Service, R: Clock>(
         &mut self,
         round: &Round<'_, R>,
+        registry: &Registry,
         table: &mut Connections,
         service: &mut S,
         carrier: &mut Carrier,
         watch: &mut Watch,
         buffer: &mut [u8; PIECE],
-    ) -> bool
+    )
         requires { S.is_ready service.old }
-        ensures reached { HasReached S.turn service.old table.old service.new table.new }
+        ensures reached { HasReached S.turn S.keeps service.old table.old service.new table.new }
         ensures ready { S.is_ready service.new }
     {
-        let mut more = false;
+        self.accept(registry, round.now);
         for slot in 0..self.doors.len() {
-            if self.pump_slot(round, table, service, carrier, watch, slot, buffer) {
-                more = true;
+            self.begin_slot(round, table, service, carrier, watch, slot, buffer);
+        }
+    }
+
+    /// A round of a slot ends, if it is to be looked at: it is written. Whether it could do more.
+    fn end_slot<S: Service>(&mut self, service: &S, slot: usize, now: u64) -> bool
+        requires { S.is_kept service.now }
+    {
+        let Some(Some(door)) = self.doors.get_mut(slot) else {
+            return false;
+        };
+        if !door.hot {
+            return false;
+        }
+        let left = end_web(service, door, now);
+        self.settle(slot, left)
+    }
+
+    /// A round ends: connections are written, and closed where they are late.
+    pub fn end<S: Service>(&mut self, service: &S, limits: &Limits, now: u64)
+        requires { S.is_kept service.now }
+    {
+        self.more = false;
+        for slot in 0..self.doors.len() {
+            if self.end_slot(service, slot, now) {
+                self.more = true;
             }
         }
-        more
+        self.sweep(limits, now);
     }
 
     /// Closes the connections that are late, if a tenth of a second has gone since that was done.
@@ -327,26 +351,5 @@ impl Web {
                 self.close(slot, Why::Late);
             }
         }
-    }
-
-    /// One round: connections are accepted, asked for, answered, and closed where they are late.
-    pub fn round<S: Service, R: Clock>(
-        &mut self,
-        round: &Round<'_, R>,
-        registry: &Registry,
-        table: &mut Connections,
-        service: &mut S,
-        carrier: &mut Carrier,
-        watch: &mut Watch,
-        limits: &Limits,
-        buffer: &mut [u8; PIECE],
-    )
-        requires { S.is_ready service.old }
-        ensures reached { HasReached S.turn service.old table.old service.new table.new }
-        ensures ready { S.is_ready service.new }
-    {
-        self.accept(registry, round.now);
-        self.more = self.pump_all(round, table, service, carrier, watch, buffer);
-        self.sweep(limits, round.now);
     }
 }

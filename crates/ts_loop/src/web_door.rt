@@ -36,6 +36,10 @@ pub(crate) struct WebDoor {
     shut: bool,
     /// It is to be looked at in this round.
     pub hot: bool,
+    /// How often the node was asked for it in this round.
+    turns: u32,
+    /// It failed in this round.
+    failed: bool,
 }
 
 /// What became of a connection in a round.
@@ -64,6 +68,8 @@ impl WebDoor {
             ended: false,
             shut: false,
             hot: true,
+            turns: 0,
+            failed: false,
         }
     }
 
@@ -109,11 +115,14 @@ impl WebDoor {
     }
 
     /// Writes once, if something waits. `false` where the connection failed.
-    fn write(&mut self, now: u64) -> bool {
+    fn write<S: Service>(&mut self, service: &S, now: u64) -> bool
+        requires { S.is_kept service.now }
+    {
         if !self.writable || self.face.octets().is_empty() {
             return true;
         }
-        match write_some(&mut self.stream, &mut self.writable, self.face.octets()) {
+        let octets = self.face.octets();
+        match write_some(service, &mut self.stream, &mut self.writable, octets) {
             Some(count) => {
                 self.face.leave(count, now);
                 true
@@ -132,11 +141,11 @@ impl WebDoor {
         let _shut = self.stream.shutdown(Shutdown::Write);
     }
 
-    /// What is left to do after so many turns.
-    fn left(&self, turns: u32) -> Left {
+    /// What is left to do after the turns of this round.
+    fn left(&self) -> Left {
         let waits = !self.face.octets().is_empty();
         let reads = self.readable && !self.ended && self.face.reads();
-        if self.face.goes_on() || turns == TURNS || reads || (waits && self.writable) {
+        if self.face.goes_on() || self.turns == TURNS || reads || (waits && self.writable) {
             return Left::More;
         }
         if self.face.asks().is_some() {
@@ -170,7 +179,7 @@ fn ask_node<S: Service, R: Clock>(
     request: &[u8],
 ) -> Option<Frame>
     requires { S.is_ready service.old }
-    ensures reached { HasReached S.turn service.old table.old service.new table.new }
+    ensures reached { HasReached S.turn S.keeps service.old table.old service.new table.new }
     ensures ready { S.is_ready service.new }
 {
     let begun = moment(round.rt);
@@ -191,13 +200,13 @@ fn turn<S: Service, R: Clock>(
     board: &mut Board,
 ) -> Turned
     requires { S.is_ready service.old }
-    ensures reached { HasReached S.turn service.old table.old service.new table.new }
+    ensures reached { HasReached S.turn S.keeps service.old table.old service.new table.new }
     ensures ready { S.is_ready service.new }
 {
     let Some(request) = face.asks() else {
         return Turned::Nothing;
     };
-    if carrier.gate.holds_back(request, round.now) {
+    if carrier.holds_back(request, round.now) {
         return Turned::Nothing;
     }
     carrier.see_http(request, round.now);
@@ -224,7 +233,7 @@ fn take_turns<S: Service, R: Clock>(
     board: &mut Board,
 ) -> Option<u32>
     requires { S.is_ready service.old }
-    ensures reached { HasReached S.turn service.old table.old service.new table.new }
+    ensures reached { HasReached S.turn S.keeps service.old table.old service.new table.new }
     ensures ready { S.is_ready service.new }
 {
     for turns in 0..TURNS {
@@ -240,8 +249,8 @@ fn take_turns<S: Service, R: Clock>(
     Some(TURNS)
 }
 
-/// One read, some turns and one write of a connection.
-pub(crate) fn pump_web<S: Service, R: Clock>(
+/// One read and some turns of a connection. What it is answered waits.
+pub(crate) fn begin_web<S: Service, R: Clock>(
     round: &Round<'_, R>,
     scene: &Scene<'_>,
     table: &mut Connections,
@@ -252,24 +261,33 @@ pub(crate) fn pump_web<S: Service, R: Clock>(
     door: &mut WebDoor,
     board: &mut Board,
     buffer: &mut [u8; PIECE],
-) -> Left
+)
     requires { S.is_ready service.old }
-    ensures reached { HasReached S.turn service.old table.old service.new table.new }
+    ensures reached { HasReached S.turn S.keeps service.old table.old service.new table.new }
     ensures ready { S.is_ready service.new }
 {
-    if !door.read(buffer, round.now) {
-        return Left::Failed;
+    door.turns = 0;
+    door.failed = !door.read(buffer, round.now);
+    if door.failed {
+        return;
     }
     let face = &mut door.face;
     let turns = take_turns(
         round, scene, table, service, carrier, watch, alloc, face, board,
     );
-    let Some(turns) = turns else {
-        return Left::Failed;
-    };
-    if !door.write(round.now) {
+    match turns {
+        Some(turns) => door.turns = turns,
+        None => door.failed = true,
+    }
+}
+
+/// One write of a connection, and what is left to do on it.
+pub(crate) fn end_web<S: Service>(service: &S, door: &mut WebDoor, now: u64) -> Left
+    requires { S.is_kept service.now }
+{
+    if door.failed || !door.write(service, now) {
         return Left::Failed;
     }
     door.shut_if_done();
-    door.left(turns)
+    door.left()
 }

@@ -1,5 +1,5 @@
 -- Each reply that a call of a node gives has a frame.
-use Rattle.std.proofs.Common.{◌≡◌, refl, sym, subst, ℕ, ◌<◌, ◌≤◌, Bool, true, false, List, [], ◌∷◌, Option, Some, None, Result, Ok, Err, IfOk, length, arith, if◌then◌else◌}
+use Rattle.std.proofs.Common.{◌≡◌, ◌⊎◌, inl, inr, refl, sym, subst, ℕ, ◌<◌, ◌≤◌, Bool, true, false, List, [], ◌∷◌, Option, Some, None, Result, Ok, Err, IfOk, length, arith, if◌then◌else◌}
 use Rattle.std.proofs.lemmas.Bool.{leb-false, leb-true}
 use Rattle.std.specs.Prelude.{nat_le}
 use Rattle.ts_disk.specs.Disk.{State}
@@ -23,10 +23,15 @@ use Rattle.ts_node.specs.declared.input.Output.{Output}
 use Rattle.ts_node.specs.declared.input.NodeFault.{NodeFault}
 use Rattle.ts_node.specs.declared.input.Reply.{Reply}
 use Rattle.ts_node.specs.declared.input.Reply.TheVariants as replies
+use Rattle.ts_node.specs.declared.turn.Staged.{Staged}
+use Rattle.ts_node.specs.Ahead.{IsApart, IsBehind, IsLost, IsStage, IsUnkept, holding}
+use Rattle.ts_node.specs.Call.{IsCall}
+use Rattle.ts_node.specs.Turn.{IsTurn}
 use Rattle.ts_node.specs.Inputs.{IsInput, IsReply}
 use Rattle.ts_node.specs.Node.{Rewrites, config, facts, is_broken, volatile}
+use Rattle.ts_store.specs.Octets.{octets_of}
 use Rattle.ts_serve.specs.Replies.{HasFrame, IsWithin}
-use Rattle.ts_serve.specs.Turn.{Calls}
+use Rattle.ts_serve.specs.Turn.{Hands}
 
 -- of the world's replies: a prefix that is not yet k is below it
 abbrev InRange : world.Reply Outcome Asked (List Command) → Type 0
@@ -117,14 +122,30 @@ module _ {D M B : Type 0} (state : D → State) (store : Store Command Outcome (
   rewritten old new output rewrites = subst HasFrame (sym rewrites.reply) tt
 
   -- a broken node answers no reply
-  has_frame : (takes_own : Bool) (old new : Node D Command M) (input : Input Command Asked) (output : Output Command Outcome Answered) → Calls state store basis is_answer takes_own old input (Ok output) new → IsWithin input → HasFrame output.reply
-  has_frame false old new input output call within =
+  called_frame : (old new : Node D Command M) (input : Input Command Asked) (output : Output Command Outcome Answered) → IsCall state octets_of store basis is_answer old input (Ok output) new → IsWithin input → HasFrame output.reply
+  called_frame old new input output call within =
       bool_cases (is_broken old) (λ broken. (let h = call.broken broken in absurd (cc (h.0))))
       (λ whole. reply_framed old input output.reply (λ sent event is. (call.step whole (facts old) sent event (itself (facts old)) is).reply) (λ is. rewritten old new output (call.compacts whole is).0) within)
-  has_frame true old new input output call within =
+
+  turned_frame : (old new : Node D Command M) (input : Input Command Asked) (output : Output Command Outcome Answered) → IsTurn state octets_of store basis is_answer old input (Ok output) new → IsWithin input → HasFrame output.reply
+  turned_frame old new input output call within =
       bool_cases (is_broken old) (λ broken. (let h = call.broken broken in absurd (cc (h.0))))
       (λ whole. reply_framed old input output.reply (λ sent event is. (call.turned whole (facts old) sent event (itself (facts old)) is).handles.reply) (λ is. rewritten old new output (call.compacts whole is).0) within)
 
-  pub all_framed : (takes_own : Bool) (old new : Node D Command M) (input : Input Command Asked) (result : Result (Output Command Outcome Answered) NodeFault) → Calls state store basis is_answer takes_own old input result new → IsWithin input → IfOk result (λ output. HasFrame output.reply)
-  all_framed takes_own old new input (Ok output) call within = has_frame takes_own old new input output call within
-  all_framed takes_own old new input (Err fault) call within = tt
+  -- the same of a node that takes the input in memory
+  staged_frame : (old new : Node D Command M) (waiting after : List (Fact Command)) (input : Input Command Asked) (output : Output Command Outcome Answered) → IsStage octets_of store basis is_answer state waiting old input (Ok output) after new → IsWithin input → HasFrame output.reply
+  staged_frame old new waiting after input output call within = bool_cases (is_broken old) (λ broken. (let h = call.broken broken in absurd (cc (h.0)))) (λ whole. go (call.comes whole))
+    where
+      go : IsBehind octets_of store basis is_answer waiting old input (Ok output) after new ⊎ IsApart octets_of store basis is_answer state waiting old input (Ok output) after new ⊎ IsUnkept octets_of store basis is_answer state waiting old input (Ok output) after new ⊎ IsLost octets_of store basis is_answer old (Ok output) new → HasFrame output.reply
+      go (inl behind) =
+          let held = holding old waiting in
+          reply_framed held input output.reply (λ sent event is. (behind.taken.turned (facts held) sent event (itself (facts held)) is).0.reply) (λ is. absurd (behind.taken.real is)) within
+      go (inr (inl apart)) = turned_frame apart.mid new input output apart.turned within
+      go (inr (inr (inl unkept))) = (let h = unkept.is in absurd (cc (h)))
+      go (inr (inr (inr lost))) = absurd (cc (lost.fault))
+
+  pub all_framed : (staged : Bool) (old new : Node D Command M) (waiting after : Staged Command) (input : Input Command Asked) (result : Result (Output Command Outcome Answered) NodeFault) → Hands state store basis is_answer staged old waiting input result new after → IsWithin input → IfOk result (λ output. HasFrame output.reply)
+  all_framed false old new waiting after input (Ok output) call within = called_frame old new input output call.0 within
+  all_framed false old new waiting after input (Err fault) call within = tt
+  all_framed true old new waiting after input (Ok output) call within = staged_frame old new waiting.facts.items after.facts.items input output call within
+  all_framed true old new waiting after input (Err fault) call within = tt

@@ -52,7 +52,7 @@ messages_of (Ok output) = output.messages.items
 messages_of (Err fault) = []
 
 -- a device failed in a call, or in an earlier one
-abbrev pub is_failure : Result (Output Command Outcome Answered) NodeFault → Bool
+abbrev pub is_failure : {T : Type 0} → Result T NodeFault → Bool
 is_failure (Err node_faults.DiskFailed) = true
 is_failure (Err node_faults.Broken) = true
 is_failure other = false

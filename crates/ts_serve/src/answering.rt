@@ -3,12 +3,13 @@
 ghost use Rattle.std.specs.Prelude.{◌≡◌, Some, IfOk};
 ghost use Rattle.ts_question.specs.Question.{Asked};
 ghost use Rattle.ts_node.specs.Machine.{store_of};
+ghost use Rattle.ts_node.specs.Ahead.{IsAhead};
 ghost use Rattle.ts_node.specs.Node.{IsSound};
 ghost use Rattle.ts_store.specs.Octets.{octets_of as command_octets};
 ghost use Rattle.ts_wire.specs.Frames.{Fits};
 ghost use Rattle.ts_serve.specs.Requests.{is_request};
 ghost use Rattle.ts_serve.specs.Text.{fault_frames, text};
-ghost use Rattle.ts_serve.specs.Turn.{Turn};
+ghost use Rattle.ts_serve.specs.Turn.{IsReady, StagedTurn, Turn, TurnBy};
 ghost use Rattle.ts_serve.specs.Answering.{AnswersFrame};
 
 use crate::sending::octets_of;
@@ -67,6 +68,25 @@ impl<D: Disk, M: Machine<Command, Outcome = Outcome, Question = Question, Answer
     D,
     M,
 > {
+    /// The text of the answers to one frame.
+    fn text_of(&mut self, staged: bool, frame: Frame) -> Result<Vec<u8>, AnswerFault>
+        requires ready { IsReady D.state M.commands staged self.old.node self.old.staged }
+        requires fits { Fits frame }
+        ensures answers { AnswersFrame (TurnBy D.state
+            (store_of Asked M.client_id M.outcome) M.basis M.is_answer staged) self.old frame
+            result self.new }
+        ensures ready { IsReady D.state M.commands staged self.new.node self.new.staged }
+    {
+        if !is_request(&frame) {
+            return Err(AnswerFault::NoRequest);
+        }
+        let mut octets = Vec::new(self.allocator());
+        match self.answer(staged, frame, &mut octets) {
+            Ok(()) => Ok(octets),
+            Err(_) => Err(AnswerFault::Memory),
+        }
+    }
+
     /// Answers one frame, as `serve` does, and gives the text of the answers.
     ///
     /// # Errors
@@ -80,13 +100,23 @@ impl<D: Disk, M: Machine<Command, Outcome = Outcome, Question = Question, Answer
             result self.new }
         ensures sound { IsSound D.state command_octets M.commands self.new.node }
     {
-        if !is_request(&frame) {
-            return Err(AnswerFault::NoRequest);
-        }
-        let mut octets = Vec::new(self.allocator());
-        match self.answer(frame, &mut octets) {
-            Ok(()) => Ok(octets),
-            Err(_) => Err(AnswerFault::Memory),
-        }
+        self.text_of(false, frame)
+    }
+
+    /// Answers one frame, but that the node takes it in memory. **The text must not leave before
+    /// [`Server::keep_staged`] has kept what waits.**
+    ///
+    /// # Errors
+    ///
+    /// As those of `answer_frame`.
+    pub fn stage_frame(&mut self, frame: Frame) -> Result<Vec<u8>, AnswerFault>
+        requires ahead { IsAhead D.state command_octets M.commands self.old.node self.old.staged }
+        requires fits { Fits frame }
+        ensures answers { AnswersFrame (StagedTurn D.state
+            (store_of Asked M.client_id M.outcome) M.basis M.is_answer) self.old frame
+            result self.new }
+        ensures ahead { IsAhead D.state command_octets M.commands self.new.node self.new.staged }
+    {
+        self.text_of(true, frame)
     }
 }

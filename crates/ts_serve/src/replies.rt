@@ -60,10 +60,7 @@ fn frame_of(reply: Reply<Outcome, Answer>) -> Frame
 }
 
 /// Whether a device has failed, in this call or in an earlier one.
-pub(crate) fn failed_then(
-    failed: bool,
-    called: &Result<Output<Command, Outcome, Answer>, NodeFault>,
-) -> bool
+pub(crate) fn failed_then<T>(failed: bool, called: &Result<T, NodeFault>) -> bool
     ensures { result ≡ (failed || is_failure called.now) }
 {
     match called {

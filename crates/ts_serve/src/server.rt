@@ -1,17 +1,19 @@
 //! A node that is served.
 
 ghost use Rattle.std.specs.Prelude.{◌≡◌, ◌∷◌, ◌++◌, [], false, true, map, OnOk, OnErr};
-ghost use Rattle.std.specs.Prelude.{MatchResult};
+ghost use Rattle.std.specs.Prelude.{IfOk, MatchResult};
 ghost use Rattle.std.specs.Io.KnownBytes.{Appends};
 ghost use Rattle.ts_question.specs.Question.{Asked};
 ghost use Rattle.ts_node.specs.Machine.{store_of};
 ghost use Rattle.ts_node.specs.Inputs.{InputFits};
+ghost use Rattle.ts_node.specs.Ahead.{IsAhead};
 ghost use Rattle.ts_node.specs.Node.{IsSound};
 ghost use Rattle.ts_store.specs.Octets.{octets_of};
 ghost use Rattle.ts_wire.specs.Frames.{Fits};
 ghost use Rattle.ts_wire.specs.declared.frame.Frame.TheVariants.{Take};
 ghost use Rattle.ts_serve.specs.Replies.{IsWithin};
-ghost use Rattle.ts_serve.specs.Turn.{Calls, Given, Handled, HasReported, Identified, IsReport, Turn};
+ghost use Rattle.ts_serve.specs.Turn.{Given, Handled, Hands, HasKept, HasReported, Identified};
+ghost use Rattle.ts_serve.specs.Turn.{IsReady, IsReport, IsSettled, TurnBy};
 ghost use Rattle.ts_serve.specs.Steps.{Answers, Refuses, Says};
 
 use crate::fault::ServeFault;
@@ -23,7 +25,7 @@ use std::alloc::{AllocError, Global};
 use std::cell::RefCell;
 use std::io::Write;
 use ts_disk::Disk;
-use ts_node::{Identity, Input, Machine, Node, NodeFault, Output};
+use ts_node::{Identity, Input, Machine, Node, NodeFault, Output, Staged};
 use ts_octets::Octets;
 use ts_question::{Answer, Question};
 use ts_store::{Command, Outcome};
@@ -34,11 +36,11 @@ use ts_wire::{Feed, Frame, FrameFault, NodeFault as WireFault};
 pub struct Server<D: Disk, M> {
     alloc: Global,
     node: Node<D, Command, M>,
+    /// What the node has taken in memory, and is not kept yet.
+    staged: Staged<Command>,
     outbox: Outbox,
     /// Whether the node broke.
     failed: bool,
-    /// Whether the node takes its messages to itself, each behind the input that made it.
-    takes_own: bool,
     /// How the server does, as whoever runs it has said. Contracts see nothing of it.
     notes: RefCell<Notes>,
 }
@@ -53,23 +55,25 @@ fn ask(question: Question) -> Input<Command, Question>
     Input::Ask { k, question }
 }
 
-/// Hands an input to a node, which takes its own messages too where it is to.
+/// Hands an input to a node. Where it is staged the node takes it in memory, with the messages to
+/// itself that follow from it, and what it keeps waits.
 fn call<D, M>(
     node: &mut Node<D, Command, M>,
-    takes_own: bool,
+    waiting: &mut Staged<Command>,
+    staged: bool,
     input: &Input<Command, Question>,
 ) -> Result<Output<Command, Outcome, Answer>, NodeFault>
 where
     D: Disk,
     M: Machine<Command, Outcome = Outcome, Question = Question, Answer = Answer>,
-    requires sound { IsSound D.state octets_of M.commands node.old }
+    requires ready { IsReady D.state M.commands staged node.old waiting.old }
     requires fits { InputFits octets_of input.now }
-    ensures calls { Calls D.state (store_of Asked M.client_id M.outcome) M.basis M.is_answer
-        takes_own node.old input.now result node.new }
-    ensures sound { IsSound D.state octets_of M.commands node.new }
+    ensures hands { Hands D.state (store_of Asked M.client_id M.outcome) M.basis M.is_answer
+        staged node.old waiting.old input.now result node.new waiting.new }
+    ensures ready { IsReady D.state M.commands staged node.new waiting.new }
 {
-    if takes_own {
-        return node.turn(input);
+    if staged {
+        return node.stage(input, waiting);
     }
     node.handle(input)
 }
@@ -87,44 +91,38 @@ impl<D: Disk, M: Machine<Command, Outcome = Outcome, Question = Question, Answer
         alloc: Global,
         node: Node<D, Command, M>,
     ) -> Result<Server<D, M>, Node<D, Command, M>>
-        ensures { MatchResult result (λ server. (server.node ≡ node) × (server.outbox ≡ [])
-            × (server.failed ≡ false) × (server.takes_own ≡ false))
+        ensures new { MatchResult result (λ server. (server.node ≡ node) × (server.outbox ≡ [])
+            × (server.failed ≡ false) × (server.staged.facts.items ≡ []))
             (λ refused. refused ≡ node) }
+        ensures ahead { IfOk result (λ server. IsSound D.state octets_of M.commands node
+            → IsAhead D.state octets_of M.commands server.node server.staged) }
     {
         match Outbox::new(alloc) {
             Ok(outbox) => Ok(Server {
                 alloc,
                 node,
+                staged: Staged::empty(alloc),
                 outbox,
                 failed: false,
-                takes_own: false,
                 notes: RefCell::new(Notes { text: None }),
             }),
             Err(_) => Err(node),
         }
     }
 
-    /// Gives the node back. The messages that wait are lost.
+    /// Gives the node back. The messages that wait are lost, and so is what was not kept yet.
     pub fn close(self) -> Node<D, Command, M>
         ensures { result ≡ self.node }
     {
         let Server {
             alloc: _alloc,
             node,
+            staged: _staged,
             outbox: _outbox,
             failed: _failed,
-            takes_own: _takes_own,
             notes: _notes,
         } = self;
         node
-    }
-
-    /// From now on the node takes its messages to itself, each behind the input that made it, and
-    /// keeps the facts of all of them at once. They no longer wait to be taken.
-    pub fn take_own(&mut self)
-        ensures { self.new ≡ record self.old { takes_own = true } }
-    {
-        self.takes_own = true;
     }
 
     /// Whether the node broke in a turn, since a device failed or memory was refused when its roles
@@ -133,6 +131,19 @@ impl<D: Disk, M: Machine<Command, Outcome = Outcome, Question = Question, Answer
         ensures { result ≡ self.now.failed }
     {
         self.failed
+    }
+
+    /// Keeps, by one append, what the node has taken in memory: what was answered since the last time
+    /// may leave then. `false` where the node broke, and nothing of that may leave.
+    pub fn keep_staged(&mut self) -> bool
+        requires ahead { IsAhead D.state octets_of M.commands self.old.node self.old.staged }
+        ensures kept { HasKept D.state self.old self.new }
+        ensures settled { result ≡ true → IsSettled self.new }
+        ensures ahead { IsAhead D.state octets_of M.commands self.new.node self.new.staged }
+    {
+        let kept = self.node.keep_staged(&mut self.staged);
+        self.failed = failed_then(self.failed, &kept);
+        kept.is_ok()
     }
 
     /// Which node of which group the server's is.
@@ -198,17 +209,17 @@ impl<D: Disk, M: Machine<Command, Outcome = Outcome, Question = Question, Answer
     }
 
     /// Hands an input to the node, and puts its messages into the outbox.
-    fn handle(&mut self, input: &Input<Command, Question>) -> Frame
-        requires sound { IsSound D.state octets_of M.commands self.old.node }
+    fn handle(&mut self, staged: bool, input: &Input<Command, Question>) -> Frame
+        requires ready { IsReady D.state M.commands staged self.old.node self.old.staged }
         requires fits { InputFits octets_of input.now }
         requires within { IsWithin input.now }
         ensures handled { Handled D.state
-            (store_of Asked M.client_id M.outcome) M.basis M.is_answer self.old input.now
+            (store_of Asked M.client_id M.outcome) M.basis M.is_answer staged self.old input.now
             (result ∷ []) self.new }
-        ensures sound { IsSound D.state octets_of M.commands self.new.node }
+        ensures ready { IsReady D.state M.commands staged self.new.node self.new.staged }
         ensures alloc { self.new.alloc ≡ self.old.alloc }
     {
-        let called = call(&mut self.node, self.takes_own, input);
+        let called = call(&mut self.node, &mut self.staged, staged, input);
         self.failed = failed_then(self.failed, &called);
         let (frame, messages) = answer_of(self.alloc, called);
         self.outbox.put(messages);
@@ -218,27 +229,28 @@ impl<D: Disk, M: Machine<Command, Outcome = Outcome, Question = Question, Answer
     /// Hands an input to the node, and writes its reply.
     fn respond<W: Write>(
         &mut self,
+        staged: bool,
         input: Input<Command, Question>,
         writer: &mut W,
     ) -> Result<(), ServeFault>
-        requires sound { IsSound D.state octets_of M.commands self.old.node }
+        requires ready { IsReady D.state M.commands staged self.old.node self.old.staged }
         requires fits { InputFits octets_of input }
         requires within { IsWithin input }
         ensures said { Says (Handled D.state
-            (store_of Asked M.client_id M.outcome) M.basis M.is_answer self.old input)
+            (store_of Asked M.client_id M.outcome) M.basis M.is_answer staged self.old input)
             (W.contents writer.old) result self.new (W.contents writer.new) }
-        ensures sound { IsSound D.state octets_of M.commands self.new.node }
+        ensures ready { IsReady D.state M.commands staged self.new.node self.new.staged }
     {
-        let frame = self.handle(&input);
+        let frame = self.handle(staged, &input);
         send(self.alloc, writer, frame)
     }
 
     /// Writes the messages that wait, and their count. None waits then.
     fn give<W: Write>(&mut self, writer: &mut W) -> Result<(), ServeFault>
-        ensures said { Says (Given D.state
-            (store_of Asked M.client_id M.outcome) M.basis M.is_answer self.old)
-            (W.contents writer.old) result self.new (W.contents writer.new) }
-        ensures same { self.new.node ≡ self.old.node }
+        ensures said { Says (Given self.old) (W.contents writer.old) result self.new
+            (W.contents writer.new) }
+        ensures node { self.new.node ≡ self.old.node }
+        ensures staged { self.new.staged ≡ self.old.staged }
     {
         let frames = self.outbox.frames();
         let count = frames.len() as u32;
@@ -250,9 +262,8 @@ impl<D: Disk, M: Machine<Command, Outcome = Outcome, Question = Question, Answer
 
     /// Writes which node of which group it is.
     fn identify<W: Write>(&self, writer: &mut W) -> Result<(), ServeFault>
-        ensures said { Says (Identified D.state
-            (store_of Asked M.client_id M.outcome) M.basis M.is_answer self.now)
-            (W.contents writer.old) result self.now (W.contents writer.new) }
+        ensures said { Says (Identified self.now) (W.contents writer.old) result self.now
+            (W.contents writer.new) }
     {
         let identity = self.identity();
         let frame = Frame::Identity {
@@ -265,36 +276,36 @@ impl<D: Disk, M: Machine<Command, Outcome = Outcome, Question = Question, Answer
 
     /// Writes the text about the server that it was given last, or that memory was refused.
     fn report<W: Write>(&self, writer: &mut W) -> Result<(), ServeFault>
-        ensures said { Says (HasReported D.state
-            (store_of Asked M.client_id M.outcome) M.basis M.is_answer self.now)
-            (W.contents writer.old) result self.now (W.contents writer.new) }
+        ensures said { Says (HasReported self.now) (W.contents writer.old) result self.now
+            (W.contents writer.new) }
     {
         let frame = self.report_frame();
         send(self.alloc, writer, frame)
     }
 
-    /// Answers a frame.
+    /// Answers a frame. Where it is staged, what the node keeps waits, and the answer with it.
     pub(crate) fn answer<W: Write>(
         &mut self,
+        staged: bool,
         frame: Frame,
         writer: &mut W,
     ) -> Result<(), ServeFault>
-        requires sound { IsSound D.state octets_of M.commands self.old.node }
+        requires ready { IsReady D.state M.commands staged self.old.node self.old.staged }
         requires fits { Fits frame }
-        ensures answers { Answers (Turn D.state
-            (store_of Asked M.client_id M.outcome) M.basis M.is_answer) self.old frame
+        ensures answers { Answers (TurnBy D.state
+            (store_of Asked M.client_id M.outcome) M.basis M.is_answer staged) self.old frame
             (W.contents writer.old) result self.new (W.contents writer.new) }
-        ensures sound { IsSound D.state octets_of M.commands self.new.node }
+        ensures ready { IsReady D.state M.commands staged self.new.node self.new.staged }
     {
         match frame {
-            Frame::Peer(message) => self.respond(Input::Deliver(message), writer),
-            Frame::Submit { command } => self.respond(Input::Submit(command), writer),
-            Frame::Question { question } => self.respond(ask(question), writer),
+            Frame::Peer(message) => self.respond(staged, Input::Deliver(message), writer),
+            Frame::Submit { command } => self.respond(staged, Input::Submit(command), writer),
+            Frame::Question { question } => self.respond(staged, ask(question), writer),
             Frame::Take => self.give(writer),
-            Frame::Outcome { id } => self.respond(Input::Outcome(id), writer),
-            Frame::CatchUp => self.respond(Input::CatchUp, writer),
-            Frame::Status => self.respond(Input::Status, writer),
-            Frame::Compact => self.respond(Input::Compact, writer),
+            Frame::Outcome { id } => self.respond(staged, Input::Outcome(id), writer),
+            Frame::CatchUp => self.respond(staged, Input::CatchUp, writer),
+            Frame::Status => self.respond(staged, Input::Status, writer),
+            Frame::Compact => self.respond(staged, Input::Compact, writer),
             Frame::Identify => self.identify(writer),
             Frame::Report => self.report(writer),
             _ => Err(self.refuse(FrameFault::Kind, writer)),

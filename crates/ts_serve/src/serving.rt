@@ -46,7 +46,7 @@ where
 {
     loop {
         match feed.take() {
-            Ok(Some(frame)) => server.answer(frame, writer)?,
+            Ok(Some(frame)) => server.answer(false, frame, writer)?,
             Ok(None) => return flush(writer),
             Err(FeedError::Frame(fault)) => return Err(server.refuse(fault, writer)),
             Err(FeedError::Memory) => return Err(ServeFault::Memory),

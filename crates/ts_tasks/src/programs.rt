@@ -165,9 +165,6 @@ fn serve_node<
     let Ok(mut server) = Server::new(alloc, node) else {
         return Err(Fault::Memory);
     };
-    if group.carries {
-        server.take_own();
-    }
     match serve_all(
         rt,
         alloc,

@@ -4,6 +4,6 @@ use Rattle.ts_loop.proofs.carrier.deliver.Goals as goal
 
 pub loop-frame-preserved : goal.loop-frame-preserved
 loop-frame-preserved g c = record {
-  reached = reached_then g.S.Service.turn _ _ _ _ _ _ c.loop-frame.invariant.reached c.ask-answer.ensures.reached;
+  reached = reached_then g.S.Service.turn g.S.Service.keeps _ _ _ _ _ _ c.loop-frame.invariant.reached c.ask-answer.ensures.reached;
   ready = c.ask-answer.ensures.ready;
 }

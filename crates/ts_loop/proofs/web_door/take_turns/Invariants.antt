@@ -4,6 +4,6 @@ use Rattle.ts_loop.proofs.web_door.take_turns.Given as goal
 
 abbrev pub invariant-loop-turns : goal.invariant-loop-turns
 invariant-loop-turns g l = record {
-  reached : HasReached g.S.Service.turn l.initial.service l.initial.table l.service l.table;
+  reached : HasReached g.S.Service.turn g.S.Service.keeps l.initial.service l.initial.table l.service l.table;
   ready : g.S.Service.is_ready l.service;
 }

@@ -14,5 +14,5 @@ returns-clause-run g c =
 
 pub returns-clause-exact : goal.returns-clause-exact
 returns-clause-exact g c =
-    exact_if _ (only_requests _ _ _ _) (g.R.Read.remaining c.args.reader.now) c.args.server.now c.serve_within.new.server (g.W.Write.contents c.args.writer.now) (g.W.Write.contents c.serve_within.new.writer) c.serve_within.result
+    exact_if _ (only_requests _ _ _ _ false) (g.R.Read.remaining c.args.reader.now) c.args.server.now c.serve_within.new.server (g.W.Write.contents c.args.writer.now) (g.W.Write.contents c.serve_within.new.writer) c.serve_within.result
     (if_told _ (g.R.Read.remaining c.args.reader.now) (g.R.Read.remaining c.serve_within.new.reader) c.args.server.now c.serve_within.new.server (g.W.Write.contents c.args.writer.now) (g.W.Write.contents c.serve_within.new.writer) c.serve_within.result c.serve_within.ensures.serves)

@@ -4,6 +4,6 @@ use Rattle.ts_loop.proofs.serving.Edge.serve.Goals as goal
 
 pub loop-round-preserved : goal.loop-round-preserved
 loop-round-preserved g c = record {
-  reached = reached_then g.S.Service.turn _ _ _ _ _ _ c.loop-round.invariant.reached c.step-end.ensures.reached;
-  ready = c.step-end.ensures.ready;
+  reached = reached_then g.S.Service.turn g.S.Service.keeps _ _ _ _ _ _ c.loop-round.invariant.reached c.round.ensures.reached;
+  ready = c.round.ensures.ready;
 }
