@@ -636,7 +636,10 @@ fn what_is_staged_is_known(rt: HostRuntime) -> Result<(), Fail> {
     assert_eq!(rt; staged(alloc, &mut server, SUBMIT)?.as_slice(), STARTED);
     assert_eq!(rt; staged(alloc, &mut server, OUTCOME)?.as_slice(), SETTLED);
     let none = b"\x00\x00\x00\x06\x02\x20\x00\x00\x00\x00";
-    assert_eq!(rt; staged(alloc, &mut server, TAKE)?.as_slice(), none.as_slice());
+    assert_eq!(rt;
+        staged(alloc, &mut server, TAKE)?.as_slice(),
+        none.as_slice()
+    );
     assert!(rt; server.keep_staged());
     Ok(())
 }
@@ -651,7 +654,10 @@ fn what_is_staged_can_be_lost(rt: HostRuntime) -> Result<(), Fail> {
     assert_eq!(rt; staged(alloc, &mut server, SUBMIT)?.as_slice(), STARTED);
     assert!(rt; !server.keep_staged() && server.has_failed());
     let broken = b"\x00\x00\x00\x03\x02\x25\x03";
-    assert_eq!(rt; staged(alloc, &mut server, STATUS)?.as_slice(), broken.as_slice());
+    assert_eq!(rt;
+        staged(alloc, &mut server, STATUS)?.as_slice(),
+        broken.as_slice()
+    );
     Ok(())
 }
 

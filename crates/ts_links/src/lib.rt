@@ -6,7 +6,8 @@
 //! let slot = table.open(now);                          // a closed one, or None
 //! table.arrive(slot, piece, now)?;                     // octets came
 //! table.take(slot, &mut server, now)?;                 // the first frame is taken and answered
-//! let octets = table.waiting(slot);                    // what waits to be written
+//! server.keep();                                       // what came of it is kept on disk
+//! let octets = table.waiting(slot);                    // what waits, and may be written now
 //! table.leave(slot, count, now);                       // so much of it was
 //! table.close(slot);
 //! ```
@@ -30,7 +31,10 @@
 //!   octets wait. `leave` lets as many octets leave as it is told. Only refused memory is not told.
 //! - [`Connections::take`]: the service makes the request's turn, and no other call makes one. In
 //!   [`reaching`] the same calls have the clauses that a loop keeps (`specs/Calls`): moves lead
-//!   here, and the service is after a `Run` of turns in the order in which requests were taken.
+//!   here, and the service is after turns in the order in which requests were taken, between which
+//!   it may have tried to keep what was there (`RunsAndKeeps`).
+//! - [`Service`]: what takes requests. A server of `ts_serve` stages them: `keep` keeps what came of
+//!   all of them by one append, and `is_kept` says that the answers may leave.
 //! - [`Connections::is_late`]: exactly by the times of `specs/Times`: an answer waits longer than
 //!   `request_ms`, and again so long after each 65,536 octets that leave; a frame takes longer to
 //!   come whole, with a second more for each mebibyte that it announces, whatever comes of it in

@@ -193,12 +193,7 @@ fn write_ready<S: Service>(service: &S, door: &mut Door) -> bool
     if !lock.waits() {
         return true;
     }
-    match write_some(
-        service,
-        &mut door.stream,
-        &mut door.writable,
-        lock.octets(),
-    ) {
+    match write_some(service, &mut door.stream, &mut door.writable, lock.octets()) {
         Some(count) => {
             lock.written(count);
             true

@@ -223,8 +223,7 @@ fn sweep_slot(
 )
     ensures { IsQuiet table.old table.new }
 {
-    let is_late = table.is_late(slot, deadlines, now)
-        && !carrier.holds_back(table.held(slot), now);
+    let is_late = table.is_late(slot, deadlines, now) && !carrier.holds_back(table.held(slot), now);
     if !is_late && !is_over(place, deadlines, now) {
         return;
     }

@@ -14,7 +14,7 @@ loop-frame-preserved g c =
       served = served_on _ c.args.feed.now c.loop-frame.feed c.take.new.self c.args.server.now c.loop-frame.server c.answer.new.self (g.W.Write.contents c.args.writer.now) (g.W.Write.contents c.loop-frame.writer) (g.W.Write.contents c.answer.new.writer)
           c.loop-frame.invariant.served
           (frame_served _ c.loop-frame.feed c.take.new.self c.loop-frame.server c.answer.new.self c.in-Ok-Some.frame (g.W.Write.contents c.loop-frame.writer) (g.W.Write.contents c.answer.new.writer) taken.0 taken.1 c.in_ok-answer-in-Ok-Some.ensures.answers);
-      sound = c.answer.ensures.sound;
+      sound = c.answer.ensures.ready;
     }
 
 pub returns-in_err-answer-in-Ok-Some-clause-drains : goal.returns-in_err-answer-in-Ok-Some-clause-drains

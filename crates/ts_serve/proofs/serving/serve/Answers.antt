@@ -1,5 +1,6 @@
 -- Where the reader tells its octets, the whole stream is known.
 use Rattle.ts_serve.proofs.Exact.{exact_if}
+use Rattle.std.proofs.Common.{false}
 use Rattle.ts_serve.proofs.Turns.{only_requests}
 use Rattle.ts_serve.proofs.Whole.{has_run, if_told}
 use Rattle.ts_serve.proofs.serving.serve.Goals as goal

@@ -1,5 +1,5 @@
 -- A call of the node was answered.
-use Rattle.std.proofs.Common.{◌∙◌, ap, refl, ◌∷◌, [], ◌++◌, take, List}
+use Rattle.std.proofs.Common.{◌∙◌, ap, ◌∷◌, [], ◌++◌, take, List}
 use Rattle.ts_synod.specs.declared.message.Message.{Message}
 use Rattle.ts_store.specs.declared.command.Command.{Command}
 use Rattle.ts_question.specs.Question.{Asked}
