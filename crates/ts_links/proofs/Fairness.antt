@@ -1,5 +1,5 @@
 -- What holds of all connections after each move.
-use Rattle.std.proofs.Common.{◌≡◌, ◌⊎◌, ◌∙◌, ℕ, Bool, true, false, List, [], ◌∷◌, ◌++◌, get_or, Option, Some, None, slice_get, slice_set, nat_eq, if◌then◌else◌, refl, sym, ap, subst, inl, inr, append_assoc}
+use Rattle.std.proofs.Common.{◌≡◌, ◌∙◌, ℕ, Bool, true, false, List, [], ◌∷◌, ◌++◌, get_or, Option, Some, None, slice_get, slice_set, nat_eq, if◌then◌else◌, refl, sym, ap, subst, inl, inr, append_assoc}
 use Rattle.std.specs.List.{flat_map, All, AllByRecursion}
 use Rattle.std.proofs.lemmas.Bool.{eqb-true}
 use Rattle.std.proofs.lemmas.Grind.{flat_map-append}
@@ -14,7 +14,7 @@ use Rattle.ts_serve.specs.Text.{fault_frames, text}
 use Rattle.ts_serve.proofs.Writing.{text-append, text-nil}
 use Rattle.ts_links.specs.Account.{Account, IsFair, account_after, noted, nothing}
 use Rattle.ts_links.specs.Events.{Change, Changes, Event}
-use Rattle.ts_links.specs.Moves.{Came, Closed, HasCome, HasLeft, HasRefused, HasTaken, IsUnused, Left, Makes, Move, Opened, Puts, Refused, Took, is_open}
+use Rattle.ts_links.specs.Moves.{Came, Closed, HasRefused, HasTaken, IsUnused, Left, Makes, Move, Opened, Puts, Refused, Took, is_open}
 use Rattle.ts_links.specs.declared.link.Link.{Link}
 use Rattle.ts_links.specs.declared.link.Stage.{Stage}
 use Rattle.ts_links.specs.declared.link.Stage.TheVariants as stages

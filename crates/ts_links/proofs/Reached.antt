@@ -1,6 +1,5 @@
 -- Moves after moves, on all connections.
-use Rattle.std.proofs.Common.{◌≡◌, ◌⊎◌, ◌∙◌, ◌+◌, ℕ, zero, suc, Bool, true, false, List, [], ◌∷◌, ◌++◌, Option, Some, None, Result, Ok, Err, slice_get, slice_set, refl, sym, ap, subst, inl, inr}
-use Rattle.std.specs.List.{flat_map}
+use Rattle.std.proofs.Common.{◌≡◌, ◌∙◌, ℕ, Bool, true, false, List, [], ◌∷◌, ◌++◌, Option, Some, None, Result, Ok, Err, slice_get, slice_set, refl, sym, ap, subst, inl, inr}
 use Rattle.std.specs.declared.alloc.AllocError.{AllocError}
 use Rattle.std.proofs.lemmas.Grind.{flat_map-append}
 use Rattle.std.proofs.lemmas.List.{append-nil}
@@ -11,7 +10,7 @@ use Rattle.ts_links.specs.declared.link.Link.{Link}
 use Rattle.ts_links.specs.declared.link.Taken.{Taken}
 use Rattle.ts_links.specs.declared.link.Taken.TheVariants as takes
 use Rattle.ts_links.specs.Events.{Answered, Change, Changes, Event, Quiet, event, taken, taken_in}
-use Rattle.ts_links.specs.Moves.{Closed, IsWaiting, Move}
+use Rattle.ts_links.specs.Moves.{Closed, IsWaiting}
 use Rattle.ts_links.specs.Table.{ArriveGives, LeaveGives, OpenGives}
 use Rattle.ts_links.specs.Turns.{Gives, KeepsSome, Reached, Refused1, RunsAndKeeps, Took1, TurnGives}
 use Rattle.ts_links.proofs.Slots.{same_link, set_same}
@@ -59,13 +58,13 @@ quiet_close links others slot false did same = quiet_none links others (same ref
 -- ---- and moves that do
 
 module _ {S : Type 0} (turn : S → Frame → List Frame → S → Type 0) (keeps : S → S → Type 0) where
-  keeps_join : (m n : ℕ) (s t u : S) → KeepsSome turn keeps m s t → KeepsSome turn keeps n t u → KeepsSome turn keeps (m + n) s u
-  keeps_join zero n s t u p q = subst (λ x. KeepsSome turn keeps n x u) p q
-  keeps_join (suc m) n s t u p q = (p.0, p.1, keeps_join m n p.0 t u p.2 q)
+  keeps_join : (mids more : List S) (s t u : S) → KeepsSome turn keeps mids s t → KeepsSome turn keeps more t u → KeepsSome turn keeps (mids ++ more) s u
+  keeps_join [] more s t u p q = subst (λ x. KeepsSome turn keeps more x u) p q
+  keeps_join (mid ∷ mids) more s t u p q = (p.0, keeps_join mids more mid t u p.1 q)
 
-  keeps_first : (n : ℕ) (s t u : S) (pairs : List Answered) → KeepsSome turn keeps n s t → RunsAndKeeps turn keeps t pairs u → RunsAndKeeps turn keeps s pairs u
-  keeps_first n s t u [] p q = (n + q.0, keeps_join n q.0 s t u p q.1)
-  keeps_first n s t u (pair ∷ pairs) p q = (n + q.0, q.1, q.2, keeps_join n q.0 s t q.1 p q.3, q.4, q.5)
+  keeps_first : (mids : List S) (s t u : S) (pairs : List Answered) → KeepsSome turn keeps mids s t → RunsAndKeeps turn keeps t pairs u → RunsAndKeeps turn keeps s pairs u
+  keeps_first mids s t u [] p q = (mids ++ q.0, keeps_join mids q.0 s t u p q.1)
+  keeps_first mids s t u (pair ∷ pairs) p q = (mids ++ q.0, q.1, q.2, keeps_join mids q.0 s t q.1 p q.3, q.4, q.5)
 
   runs_join : (s t u : S) (pairs more : List Answered) → RunsAndKeeps turn keeps s pairs t → RunsAndKeeps turn keeps t more u → RunsAndKeeps turn keeps s (pairs ++ more) u
   runs_join s t u [] more p q = keeps_first p.0 s t u more p.1 q
@@ -80,14 +79,14 @@ module _ {S : Type 0} (turn : S → Frame → List Frame → S → Type 0) (keep
 
   -- nothing was taken
   pub reached_quiet : (s : S) (a b : List Link) → Quiet a b → Reached turn keeps s a s b
-  reached_quiet s a b q = record { events = q.events; changes = q.changes; run = subst (λ (l : List Answered). RunsAndKeeps turn keeps s l s) (sym q.none) (0, refl) }
+  reached_quiet s a b q = record { events = q.events; changes = q.changes; run = subst (λ (l : List Answered). RunsAndKeeps turn keeps s l s) (sym q.none) ([], refl) }
 
   pub reached_none : (s : S) (a : List Link) → Reached turn keeps s a s a
   reached_none s a = reached_quiet s a a (quiet_none a a refl)
 
   -- it tried to keep what was there
   pub reached_kept : (s t : S) (a : List Link) → keeps s t → Reached turn keeps s a t a
-  reached_kept s t a kept = record { events = []; changes = refl; run = (1, t, kept, refl) }
+  reached_kept s t a kept = record { events = []; changes = refl; run = (t ∷ [], (kept, refl)) }
 
   pub then_quiet : (s t : S) (a b c : List Link) → Reached turn keeps s a t b → Quiet b c → Reached turn keeps s a t c
   then_quiet s t a b c p q = reached_then s t t a b c p (reached_quiet t b c q)
@@ -96,7 +95,7 @@ module _ {S : Type 0} (turn : S → Frame → List Frame → S → Type 0) (keep
   reached_took s t a b slot now took = record {
     events = event slot now _ ∷ [];
     changes = (b, took.change, refl);
-    run = (0, s, t, refl, took.turned, (0, refl));
+    run = ([], s, t, refl, took.turned, ([], refl));
   }
 
   reached_refused : (s t : S) (a b : List Link) (slot now : ℕ) → Refused1 turn s a slot now t b → Reached turn keeps s a t b

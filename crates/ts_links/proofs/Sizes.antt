@@ -1,12 +1,11 @@
 -- The frame at the front of octets that are as many as their length says.
-use Rattle.std.proofs.Common.{◌≡◌, ◌∙◌, refl, sym, ap, subst, ℕ, suc, ◌+◌, ◌<◌, ◌≤◌, ◌^◌, ◌⊎◌, List, [], ◌∷◌, ◌++◌, length, take, drop, inl, inr, arith, length-append, take-append-drop}
+use Rattle.std.proofs.Common.{◌≡◌, ◌∙◌, refl, sym, ap, subst, ℕ, suc, ◌+◌, ◌<◌, ◌^◌, ◌⊎◌, List, [], ◌∷◌, ◌++◌, length, take, drop, inl, inr, arith, length-append, take-append-drop}
 use Rattle.std.proofs.lemmas.List.{append-nil, length-take-le}
 use Rattle.std.proofs.lemmas.Nat.{from_be_bytes-to_be_bytes_4}
 use Rattle.std.specs.Int.{to_be_bytes, from_be_bytes, w32}
 use Rattle.ts_wire.specs.Frames.{encoding, fields, kind_of, Fits}
 use Rattle.ts_wire.specs.Stream.{IsPartial, IsFault}
 use Rattle.ts_wire.specs.Taking.{Sized, IsWrong}
-use Rattle.ts_wire.specs.declared.fault.FrameFault.{FrameFault}
 use Rattle.ts_wire.specs.declared.fault.FrameFault.TheVariants.{Length}
 use Rattle.ts_wire.specs.declared.frame.Frame.{Frame}
 use Rattle.ts_wire.specs.declared.wire_error.FeedError.{FeedError}

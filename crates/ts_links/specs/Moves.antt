@@ -1,6 +1,6 @@
 -- What happens on one connection, and what it has then.
 use Rattle.std.specs.Prelude.{◌≡◌, ◌⊎◌, ◌<◌, ◌≤◌, ℕ, Bool, true, false, List, [], ◌++◌, length}
-use Rattle.std.specs.Prelude.{Option, Some, None}
+use Rattle.std.specs.Prelude.{Some}
 use Rattle.ts_wire.specs.Frames.{encoding, Fits}
 use Rattle.ts_wire.specs.Stream.{IsPartial}
 use Rattle.ts_wire.specs.declared.fault.FrameFault.{FrameFault}

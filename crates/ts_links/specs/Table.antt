@@ -1,5 +1,5 @@
 -- What calls on all connections give.
-use Rattle.std.specs.Prelude.{◌≡◌, ◌≤◌, ◌<◌, ℕ, Bool, true, false, List, [], length, All}
+use Rattle.std.specs.Prelude.{◌≡◌, ◌≤◌, ◌<◌, ℕ, Bool, true, false, List, [], length}
 use Rattle.std.specs.Prelude.{Option, Some, None, Result, Ok, Err, slice_get}
 use Rattle.ts_links.specs.declared.connections.ArriveFault.{ArriveFault}
 use Rattle.ts_links.specs.declared.connections.ArriveFault.TheVariants as faults

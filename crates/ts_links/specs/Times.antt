@@ -1,5 +1,5 @@
 -- When a connection is late. Moments are milliseconds on one clock.
-use Rattle.std.specs.Prelude.{◌+◌, ◌*◌, ◌-◌, ◌/◌, ◌&&◌, ◌||◌, ℕ, Bool, true, false, List, [], ◌∷◌}
+use Rattle.std.specs.Prelude.{◌+◌, ◌*◌, ◌-◌, ◌/◌, ◌&&◌, ◌||◌, ℕ, Bool, false, List, ◌∷◌}
 use Rattle.std.specs.Prelude.{length, nat_le, nat_lt, nat_eq, if◌then◌else◌}
 use Rattle.ts_links.specs.declared.times.Times.{Times}
 use Rattle.ts_links.specs.declared.times.Deadlines.{Deadlines}

@@ -1,5 +1,5 @@
 -- Moves on all connections, and the turns of what takes their requests.
-use Rattle.std.specs.Prelude.{◌≡◌, ◌⊎◌, ◌++◌, ◌∷◌, [], ℕ, zero, suc, List, Result, Ok, Err, Some}
+use Rattle.std.specs.Prelude.{◌≡◌, ◌⊎◌, ◌++◌, ◌∷◌, [], ℕ, List, Result, Ok, Err, Some}
 use Rattle.std.specs.Prelude.{drop, slice_get, All}
 use Rattle.std.specs.declared.alloc.AllocError.{AllocError}
 use Rattle.ts_wire.specs.declared.fault.FrameFault.{FrameFault}
@@ -82,16 +82,16 @@ module _ {S : Type 0} (turn : S → Frame → List Frame → S → Type 0) where
 
 -- What takes requests, and how it tries to keep what came of them.
 module _ {S : Type 0} (turn : S → Frame → List Frame → S → Type 0) (keeps : S → S → Type 0) where
-  -- it tried to keep what was there so many times
-  abbrev pub KeepsSome : ℕ → S → S → Type 0
-  KeepsSome zero s t = t ≡ s
-  KeepsSome (suc n) s t = (mid : S) × keeps s mid × KeepsSome n mid t
+  -- it tried to keep what was there, on the way to each of these states
+  abbrev pub KeepsSome : List S → S → S → Type 0
+  KeepsSome [] s t = t ≡ s
+  KeepsSome (mid ∷ mids) s t = keeps s mid × KeepsSome mids mid t
 
   -- Requests are answered by turns, one after another. Before each of them, and after the last, it
   -- may have tried to keep what was there.
   abbrev pub RunsAndKeeps : S → List Answered → S → Type 0
-  RunsAndKeeps s [] t = (n : ℕ) × KeepsSome n s t
-  RunsAndKeeps s (pair ∷ pairs) t = (n : ℕ) × (a b : S) × KeepsSome n s a
+  RunsAndKeeps s [] t = (mids : List S) × KeepsSome mids s t
+  RunsAndKeeps s (pair ∷ pairs) t = (mids : List S) × (a b : S) × KeepsSome mids s a
       × turn a pair.0 pair.1 b × RunsAndKeeps b pairs t
 
   -- some moves lead from these connections to those, and the requests that they take are answered
