@@ -1,9 +1,10 @@
-//! Accepted messages of the classic run, votes that do not count, nine nodes, and a log that grows.
+//! Accepted messages of the classic run, votes that do not count, nine nodes, a log that grows, and
+//! the blocks that it gives.
 
 use std::alloc::{AllocError, Global};
 use std::test::Fail;
 use ts_log::Log;
-use ts_synod::{Command, Fact};
+use ts_synod::{Body, Command, Fact};
 
 #[derive(Drop)]
 struct Number {
@@ -72,5 +73,29 @@ fn grows_by_one(rt: HostRuntime) -> Result<(), Fail> {
         log.keep(step);
     }
     assert_eq!(rt; (log.prefix(), log.next_position()), (300, Ok(301)));
+    Ok(())
+}
+
+/// Asked positions, and how many commands are given of those learned at 31 to 65.
+const ASKED: [(u32, usize); 5] = [(31, 1), (32, 32), (33, 1), (64, 2), (66, 0)];
+
+#[test]
+fn gives_blocks(rt: HostRuntime) -> Result<(), Fail> {
+    let mut log = Log::new(rt.alloc(), 1, 3);
+    for position in 31..66 {
+        let step = log.on_give(2, position, &Number { value: position })?;
+        log.keep(step);
+    }
+    for (asked, given) in &ASKED {
+        let messages = log.on_ask(2, *asked)?.messages;
+        assert_eq!(rt; messages.len(), *given);
+        for (place, message) in messages.iter().enumerate() {
+            let Body::Give { position, command } = &message.body else {
+                continue;
+            };
+            let (position, value) = (*position as usize, command.value as usize);
+            assert_eq!(rt; (position, value), (*asked as usize + place, position));
+        }
+    }
     Ok(())
 }

@@ -19,7 +19,8 @@
 //!   exactly its `None`.
 //! - `on_accepted`, `on_give`: `step`: the rule for Accepted or Give; `latest`: the step can be
 //!   kept; `same`: nothing is changed.
-//! - `on_ask`, `catch_up`: `step`: the messages are the rule's, and nothing is kept or changed.
+//! - `on_ask`, `catch_up`: `step`: the messages are the rule's, and nothing is kept or changed. An
+//!   Ask for a multiple of 32 is given up to 32 commands, and any other one command at most.
 //! - `prefix_after`, `command_after`: the prefix, and the command at a position, once a step is
 //!   kept.
 //! - `keep`: `learned`, `received`: what the step says; `state`: the log stands for the step's

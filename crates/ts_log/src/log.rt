@@ -5,13 +5,15 @@ ghost use Rattle.std.specs.Prelude.{true, is_some, length};
 ghost use Rattle.std.specs.Option.{option_copied};
 ghost use Rattle.std.specs.Ordering.{nat_cmp};
 ghost use Rattle.std.specs.BTreeMap.{get};
+ghost use Rattle.ts_synod.specs.declared.message.Body.TheVariants.{Give};
 ghost use Rattle.ts_synod.specs.declared.message.Fact.{Fact};
 ghost use Rattle.ts_synod.specs.declared.message.Fact.TheVariants.{Chosen};
 ghost use Rattle.ts_synod.specs.Lists.{put};
 ghost use Rattle.ts_synod.specs.Majority.{is_majority};
-ghost use Rattle.ts_synod.specs.Log.{ask_back, catch_up, count_votes, is_vote_in, keep_received};
-ghost use Rattle.ts_synod.specs.Log.{learn, next_position, on_accepted, on_ask, on_give, prefix};
-ghost use Rattle.ts_synod.specs.Log.{with_vote};
+ghost use Rattle.ts_synod.specs.Messages.{send};
+ghost use Rattle.ts_synod.specs.Log.{ask_back, block, catch_up, count_votes, is_vote_in};
+ghost use Rattle.ts_synod.specs.Log.{keep_received, learn, next_position, on_accepted, on_ask};
+ghost use Rattle.ts_synod.specs.Log.{on_give, prefix, with_vote};
 ghost use Rattle.ts_log.specs.Maps.{HasPlaceIn};
 ghost use Rattle.ts_log.specs.Log.{config_of, learned_of, position_of, received_of, StandsFor};
 ghost use Rattle.ts_log.specs.Log.{Unchanged};
@@ -377,6 +379,37 @@ impl<C: Command> Log<C> {
         Ok(step)
     }
 
+    /// A Give of a command that is learned at a position.
+    fn give(&self, from: u8, position: u32, command: &C) -> Result<Message<C>, AllocError>
+        ensures { IfOk result (λ message. message
+            ≡ send self.now.me from (Give position command.now)) }
+    {
+        Ok(Message {
+            from: self.me,
+            to: from,
+            body: Body::Give {
+                position,
+                command: command.try_copy(self.alloc)?,
+            },
+        })
+    }
+
+    /// A Give of each command that an Ask for a position asks for, up to the first that is not
+    /// learned.
+    fn gives(&self, from: u8, position: u32) -> Result<Vec<Message<C>>, AllocError>
+        ensures { IfOk result (λ messages. messages.items
+            ≡ on_ask (config_of self.now) (learned_of self.now) from position) }
+    {
+        let mut messages = Vec::new(self.alloc);
+        for given in 0..block(position) {
+            match self.learned.command(position + given) {
+                Some(command) => messages.push(self.give(from, position + given, command)?)?,
+                None => return Ok(messages),
+            }
+        }
+        Ok(messages)
+    }
+
     /// The step that answers an Ask.
     pub fn on_ask(&self, from: u8, position: u32) -> Result<Step<C>, AllocError>
         ensures step { IfOk result (λ step. Makes self.now step
@@ -384,17 +417,7 @@ impl<C: Command> Log<C> {
             (learned_of self.now) from position))) }
         ensures latest { IfOk result (λ step. IsLatest self.now step) }
     {
-        let mut messages = Vec::new(self.alloc);
-        if let Some(command) = self.learned.command(position) {
-            messages.push(Message {
-                from: self.me,
-                to: from,
-                body: Body::Give {
-                    position,
-                    command: command.try_copy(self.alloc)?,
-                },
-            })?;
-        }
+        let messages = self.gives(from, position)?;
         Ok(self.only_messages(messages))
     }
 
@@ -470,5 +493,16 @@ impl<C: Command> Log<C> {
                 self.received.forget(position);
             }
         }
+    }
+}
+
+/// How many positions an Ask for this one asks for.
+fn block(position: u32) -> u32
+    ensures { result ≡ block position }
+{
+    if position % 32 == 0 {
+        (LAST_POSITION + 1).saturating_sub(position).min(32)
+    } else {
+        1
     }
 }

@@ -1,5 +1,5 @@
 -- The log's steps are good.
-use Rattle.std.proofs.Common.{ℕ, List, [], Option, Some, None, Bool, true, false, is_some, inl, inr, refl, subst, ⊎_elim, ◌≡◌, ◌+◌, ◌*◌, ◌<◌, ◌++◌}
+use Rattle.std.proofs.Common.{ℕ, zero, suc, List, [], Option, Some, None, Bool, true, false, is_some, inl, inr, refl, subst, ⊎_elim, ◌≡◌, ◌+◌, ◌*◌, ◌<◌, ◌++◌, ◌∷◌}
 use Rattle.std.proofs.lemmas.Bool.Decides.{Decides-eqb}
 use Rattle.ts_synod.specs.declared.message.Body.TheVariants.{Accepted, Ask, Give}
 use Rattle.ts_synod.specs.declared.message.Body.{Body}
@@ -10,11 +10,12 @@ use Rattle.ts_synod.specs.declared.message.Vote.{Vote}
 use Rattle.ts_synod.specs.Lists.{Has, put}
 use Rattle.ts_synod.specs.Majority.{is_majority}
 use Rattle.ts_synod.specs.Config.{Config}
+use Rattle.ts_synod.specs.Messages.{send}
 use Rattle.ts_synod.specs.Force.{greater_vote, learned_command, log_of, used_round}
 use Rattle.ts_synod.specs.Store.{Store}
 use Rattle.ts_synod.specs.Acceptor.{only_messages}
 use Rattle.ts_synod.specs.Proposer.{ProposerStep, begin_phase_2, on_growth}
-use Rattle.ts_synod.specs.Log.{LogStep, ask_back, ask_next, ask_others, catch_up, count_votes, give, has_grown, is_vote_in, keep_received, learn, next_position, on_accepted, on_ask, on_give}
+use Rattle.ts_synod.specs.Log.{LogStep, ask_back, ask_next, ask_others, block, catch_up, count_votes, gives, has_grown, is_vote_in, keep_received, learn, leading, next_position, on_accepted, on_ask, on_give}
 use Rattle.ts_synod.specs.Node.{Node, Volatile, log_effect, log_then_proposer, position_for_wanted}
 use Rattle.ts_synod.specs.Laws.{IsChosen}
 use Rattle.ts_synod.proofs.Sets.{has_left, has_right, has_cases, by_test, put_all, majority_from_test}
@@ -86,12 +87,19 @@ module _ {C : Type 0} (config : Config) (P : C → Type 0) (nodes : ℕ → Node
   abbrev New : Body C → Type 0
   New body = NewBody config.nodes P nodes sent config.me [] body × (IsAccept body → ⊥)
 
-  pub ask_plain : Safe config.nodes P nodes sent → (from p : ℕ) → Plain config.nodes P nodes sent config.me (only_messages (on_ask config known from p))
-  ask_plain h from p = answers_plain config.nodes P nodes sent config.me (on_ask config known from p) (go (learned_command p (nodes config.me).facts) refl)
+  gives_plain : Safe config.nodes P nodes sent → (from k p : ℕ) → AllFrom config.me New (gives config from p (leading k p known))
+  gives_plain h from zero p = from_none config.me New
+  gives_plain h from (suc k) p = go (gives_plain h from k (suc p)) (learned_command p (nodes config.me).facts) refl
     where
-      go : (o : Option C) → learned_command p (nodes config.me).facts ≡ o → AllFrom config.me New (give config from p o)
-      go None e = from_none config.me New
-      go (Some c) e = from_one config.me New from (Give p c) (h.chosen config.me p c (learned_is (nodes config.me).facts p c e), λ k. k)
+      later : List (Message C)
+      later = gives config from (suc p) (leading k (suc p) known)
+
+      go : AllFrom config.me New later → (o : Option C) → learned_command p (nodes config.me).facts ≡ o → AllFrom config.me New (gives {C = C} config from p (elim o [ None ↦ [] | Some c ↦ c ∷ leading k (suc p) known ]))
+      go rest None e = from_none config.me New
+      go rest (Some c) e = from_both config.me New (send config.me from (Give p c) ∷ []) later (from_one config.me New from (Give p c) (h.chosen config.me p c (learned_is (nodes config.me).facts p c e), λ k. k)) rest
+
+  pub ask_plain : Safe config.nodes P nodes sent → (from p : ℕ) → Plain config.nodes P nodes sent config.me (only_messages (on_ask config known from p))
+  ask_plain h from p = answers_plain config.nodes P nodes sent config.me (on_ask config known from p) (gives_plain h from (block p) p)
 
   pub catch_up_plain : Plain config.nodes P nodes sent config.me (only_messages (catch_up config known))
   catch_up_plain = answers_plain config.nodes P nodes sent config.me (catch_up config known) (go (next_position known))

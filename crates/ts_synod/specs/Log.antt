@@ -2,7 +2,7 @@
 -- `learned` is the command learned at a position, and `received` the Accepted messages received
 -- there.
 use Rattle.std.proofs.Common.{ℕ, zero, suc, List, [], Option, Some, None, Bool, false, nat_lt}
-use Rattle.std.proofs.Common.{nat_le, is_some, length, ◌∷◌, ◌==◌, if◌then◌else◌}
+use Rattle.std.proofs.Common.{nat_le, is_some, length, min, ◌∷◌, ◌-◌, ◌%◌, ◌==◌, if◌then◌else◌}
 use Rattle.ts_synod.specs.declared.message.Body.TheVariants.{Ask, Give}
 use Rattle.ts_synod.specs.declared.message.Fact.TheVariants.{Chosen}
 use Rattle.ts_synod.specs.declared.message.Fact.{Fact}
@@ -105,14 +105,19 @@ on_give config learned received from p c =
     then keep_received learned received
     else learn learned received p c (ask_back config learned (put learned p (Some c)) from)
 
--- the answer to an Ask: the learned command, if there is one
-abbrev pub give : {C : Type 0} → Config → ℕ → ℕ → Option C → List (Message C)
-give config from p None = []
-give config from p (Some c) = send config.me from (Give p c) ∷ []
+-- how many positions an Ask for p asks for, from p on: where p is a multiple of 32 a block of 32,
+-- up to the last position, and elsewhere p alone
+abbrev pub block : ℕ → ℕ
+block p = if p % 32 == 0 then min 32 (suc last_position - p) else 1
 
--- Ask for position p
+-- a Give of each of the commands, which are learned at p, p + 1 and so on
+abbrev pub gives : {C : Type 0} → Config → ℕ → ℕ → List C → List (Message C)
+gives config from p [] = []
+gives config from p (c ∷ cs) = send config.me from (Give p c) ∷ gives config from (suc p) cs
+
+-- Ask for position p: the commands of its block are given, up to the first that is not learned
 abbrev pub on_ask : {C : Type 0} → Config → (ℕ → Option C) → ℕ → ℕ → List (Message C)
-on_ask config learned from p = give config from p (learned p)
+on_ask config learned from p = gives config from p (leading (block p) p learned)
 
 -- Ask all other nodes for a position, where there is one
 abbrev pub ask_others : {C : Type 0} → Config → Option ℕ → List (Message C)
