@@ -91,7 +91,7 @@ fn gives_blocks(rt: HostRuntime) -> Result<(), Fail> {
         assert_eq!(rt; messages.len(), *given);
         for (place, message) in messages.iter().enumerate() {
             let Body::Give { position, command } = &message.body else {
-                continue;
+                return Err(Fail::from(AllocError));
             };
             let (position, value) = (*position as usize, command.value as usize);
             assert_eq!(rt; (position, value), (*asked as usize + place, position));
