@@ -33,6 +33,8 @@ pub(crate) struct Door {
     pub hot: bool,
     /// How many requests were taken of it in this round.
     pub taken: u32,
+    /// The next one had to wait in this round, for a command that was under way.
+    pub held: bool,
     /// It failed in this round.
     pub failed: bool,
     /// What keys are wanted for.
@@ -51,6 +53,7 @@ impl Door {
             shut: false,
             hot: true,
             taken: 0,
+            held: false,
             failed: false,
             lock,
         }

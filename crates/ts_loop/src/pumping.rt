@@ -158,6 +158,7 @@ pub(crate) fn begin<S: Service, R: Clock>(
     ensures ready { S.is_ready service.new }
 {
     door.taken = 0;
+    door.held = false;
     door.failed = !read_once(table, door, round.keys, slot, buffer, round.now);
     if door.failed {
         return;
@@ -166,6 +167,8 @@ pub(crate) fn begin<S: Service, R: Clock>(
     let (taken, good) = take_turns(round, table, service, carrier, slot, from, watch);
     door.taken = taken;
     door.failed = !good;
+    // The gate may open before the round ends, and then the connection has to be looked at again.
+    door.held = carrier.holds_back(table.held(slot), round.now);
 }
 
 /// One write of a connection, and what is left to do on it.
@@ -173,7 +176,6 @@ pub(crate) fn end<S: Service, R>(
     round: &Round<'_, R>,
     table: &mut Connections,
     service: &S,
-    carrier: &Carrier,
     door: &mut Door,
     slot: usize,
 ) -> Pumped
@@ -188,7 +190,7 @@ pub(crate) fn end<S: Service, R>(
         return Pumped::Failed;
     };
     shut_if_done(table, door, slot);
-    if carrier.holds_back(table.held(slot), round.now) {
+    if door.held {
         return Pumped::Held;
     }
     if more {

@@ -157,7 +157,6 @@ fn end_slot<S: Service, R>(
     round: &Round<'_, R>,
     table: &mut Connections,
     service: &S,
-    carrier: &Carrier,
     place: &mut Option<Door>,
     slot: usize,
     counts: &mut Counts,
@@ -171,7 +170,7 @@ fn end_slot<S: Service, R>(
     if !door.hot {
         return false;
     }
-    let pumped = end(round, table, service, carrier, door, slot);
+    let pumped = end(round, table, service, door, slot);
     settle(table, place, slot, pumped, counts)
 }
 
@@ -180,7 +179,6 @@ pub(crate) fn end_all<S: Service, R>(
     round: &Round<'_, R>,
     table: &mut Connections,
     service: &S,
-    carrier: &Carrier,
     doors: &mut [Option<Door>],
     counts: &mut Counts,
 ) -> bool
@@ -190,7 +188,7 @@ pub(crate) fn end_all<S: Service, R>(
     let mut more = false;
     for slot in 0..doors.len() {
         let place = &mut doors[slot];
-        if end_slot(round, table, service, carrier, place, slot, counts) {
+        if end_slot(round, table, service, place, slot, counts) {
             more = true;
         }
     }

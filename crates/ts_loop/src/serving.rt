@@ -378,7 +378,7 @@ impl Edge {
             now,
         };
         let (doors, counts) = (&mut self.doors, &mut self.counts);
-        self.more = end_all(&round, table, service, &self.carrier, doors, counts);
+        self.more = end_all(&round, table, service, doors, counts);
         if let Some(web) = &mut self.web {
             web.end(service, limits, now);
         }
